@@ -1,0 +1,112 @@
+-- The pairs of a key, by what the map ensures.
+use Rattle.std.proofs.Common.{◌≡◌, ◌<◌, ◌+◌, ◌≤◌, ℕ, suc, Bool, true, false, cond, List, [], ◌∷◌, ◌++◌, length, drop, Option, Some, None, refl, ap, ◌∙◌, sym, arith, append_assoc, length-append}
+use Rattle.std.specs.Prelude.{slice_get}
+use Rattle.std.proofs.Math.Seq.{drop-cons}
+use Rattle.std.proofs.lemmas.Option.{slice_get_within, get_or_from_slice_get}
+use Rattle.std.specs.Prelude.{String, string_bytes}
+use Rattle.std.specs.String.{string_eq}
+use Rattle.std.specs.Option.{option_map}
+use Rattle.std.specs.declared.alloc.Global.{Global}
+use Rattle.std.specs.Str.{bytes_eq}
+use Rattle.indexmap.specs.IndexMap.{IndexMap, insert_entry, get_by}
+use Rattle.std.specs.Map.{lookup}
+use Rattle.fd_key.specs.Pairs.{Pair, with_pair, text_of, pair_text, rest_text, key_text}
+use Rattle.fd_key.specs.Seen.{seen_pairs}
+
+abbrev Text : Type 0
+Text = String Global
+
+kept : (b : Bool) (e : Text × Text) (v : Text) (es fs : List (Text × Text)) (rest : List Pair) → seen_pairs fs ≡ rest → seen_pairs (cond b ((e.0, v) ∷ es) (e ∷ fs)) ≡ cond b ((string_bytes e.0, string_bytes v) ∷ seen_pairs es) ((string_bytes e.0, string_bytes e.1) ∷ rest)
+kept true e v es fs rest h = refl
+kept false e v es fs rest h = ap (λ (ps : List Pair). (string_bytes e.0, string_bytes e.1) ∷ ps) h
+
+pub seen-insert : (es : List (Text × Text)) (k v : Text) → seen_pairs (insert_entry string_eq es k v) ≡ with_pair (seen_pairs es) (string_bytes k) (string_bytes v)
+seen-insert [] k v = refl
+seen-insert (e ∷ es) k v = kept (string_eq k e.0) e v es (insert_entry string_eq es k v) _ (seen-insert es k v)
+
+looked : (b : Bool) (v : Text) (o : Option Text) (rest : Option (List ℕ)) → option_map string_bytes o ≡ rest → option_map string_bytes (cond b (Some v) o) ≡ cond b (Some (string_bytes v)) rest
+looked true v o rest h = refl
+looked false v o rest h = h
+
+looked_up : (es : List (Text × Text)) (name : List ℕ) → option_map string_bytes (lookup (λ (k : Text). bytes_eq name (string_bytes k)) es) ≡ text_of (seen_pairs es) name
+looked_up [] name = refl
+looked_up (e ∷ es) name = looked (bytes_eq name (string_bytes e.0)) e.1 (lookup (λ (k : Text). bytes_eq name (string_bytes k)) es) _ (looked_up es name)
+
+pub text_is : {S : Type 0} (m : IndexMap Text Text S) (name : List ℕ) → option_map string_bytes (get_by (λ (k : Text). bytes_eq name (string_bytes k)) m) ≡ text_of (seen_pairs m.entries) name
+text_is m name = looked_up m.entries name
+
+-- the pair at a place is the first of what is left from there
+pub drop_from_slice_get : {X : Type 0} (xs : List X) (i : ℕ) (x : X) → slice_get xs i ≡ Some x → drop i xs ≡ x ∷ drop (i + 1) xs
+drop_from_slice_get xs i x h =
+    let within : i < length xs = slice_get_within xs i x h in
+    let next : suc i ≡ i + 1 = omega arith in
+    drop-cons xs i x within ∙ ap (λ y. y ∷ drop (suc i) xs) (get_or_from_slice_get xs i x x h) ∙ ap (λ n. x ∷ drop n xs) next
+
+-- one more pair of the text
+pub text_step : (ps : List Pair) (i : ℕ) (p : Pair) (out key : List ℕ) → slice_get ps i ≡ Some p → out ++ rest_text (drop i ps) ≡ key
+    → ((out ++ 44 ∷ []) ++ pair_text p) ++ rest_text (drop (i + 1) ps) ≡ key
+text_step ps i p out key at so_far =
+    let opened : out ++ rest_text (p ∷ drop (i + 1) ps) ≡ key = ap (λ r. out ++ rest_text r) (sym (drop_from_slice_get ps i p at)) ∙ so_far in
+    append_assoc (out ++ 44 ∷ []) (pair_text p) (rest_text (drop (i + 1) ps)) ∙ append_assoc out (44 ∷ []) (pair_text p ++ rest_text (drop (i + 1) ps)) ∙ opened
+
+-- the length of a pair's text
+pub length-pair_text : (p : Pair) → length (pair_text p) ≡ length p.0 + length p.1 + 1
+length-pair_text p = let e : length (p.0 ++ 61 ∷ p.1) ≡ length p.0 + length (61 ∷ p.1) = length-append p.0 (61 ∷ p.1) in omega (arith, e)
+
+pub length-rest_text : (p : Pair) (ps : List Pair) → length (rest_text (p ∷ ps)) ≡ length p.0 + length p.1 + 2 + length (rest_text ps)
+length-rest_text p ps =
+    let e : length ((44 ∷ pair_text p) ++ rest_text ps) ≡ length (44 ∷ pair_text p) + length (rest_text ps) = length-append (44 ∷ pair_text p) (rest_text ps) in
+    omega (arith, e, length-pair_text p)
+
+pub length-key_text : (p : Pair) (ps : List Pair) → length (key_text (p ∷ ps)) ≡ length p.0 + length p.1 + 1 + length (rest_text ps)
+length-key_text p ps = omega (arith, length-append (pair_text p) (rest_text ps), length-pair_text p)
+
+rest_grows : (ps : List Pair) (name text : List ℕ) → length (rest_text (with_pair ps name text)) ≤ length (rest_text ps) + length name + length text + 2
+rest_grows [] name text = omega (arith, length-rest_text (name, text) [])
+rest_grows (p ∷ ps) name text = go (bytes_eq name p.0) (rest_grows ps name text)
+  where
+    go : (b : Bool) → length (rest_text (with_pair ps name text)) ≤ length (rest_text ps) + length name + length text + 2
+        → length (rest_text (cond b ((p.0, text) ∷ ps) (p ∷ with_pair ps name text))) ≤ length (rest_text (p ∷ ps)) + length name + length text + 2
+    go true h = omega (arith, length-rest_text (p.0, text) ps, length-rest_text p ps)
+    go false h = omega (arith, h, length-rest_text p (with_pair ps name text), length-rest_text p ps)
+
+-- a pair adds no more than its name, its text, `=` and a comma
+pub key_text_grows : (ps : List Pair) (name text : List ℕ) → length (key_text (with_pair ps name text)) ≤ length (key_text ps) + length name + length text + 2
+key_text_grows [] name text = omega (arith, length-key_text (name, text) [])
+key_text_grows (p ∷ ps) name text = go (bytes_eq name p.0)
+  where
+    go : (b : Bool) → length (key_text (cond b ((p.0, text) ∷ ps) (p ∷ with_pair ps name text))) ≤ length (key_text (p ∷ ps)) + length name + length text + 2
+    go true = omega (arith, length-key_text (p.0, text) ps, length-key_text p ps)
+    go false = omega (arith, rest_grows ps name text, length-key_text p (with_pair ps name text), length-key_text p ps)
+
+-- a name that the pairs don't have is put at their end
+pub with_new_pair : (ps : List Pair) (name text : List ℕ) → text_of ps name ≡ None → with_pair ps name text ≡ ps ++ (name, text) ∷ []
+with_new_pair [] name text none = refl
+with_new_pair (p ∷ ps) name text none = go (bytes_eq name p.0) none (with_new_pair ps name text)
+  where
+    go : (b : Bool) → cond b (Some p.1) (text_of ps name) ≡ None → (text_of ps name ≡ None → with_pair ps name text ≡ ps ++ (name, text) ∷ [])
+        → cond b ((p.0, text) ∷ ps) (p ∷ with_pair ps name text) ≡ p ∷ (ps ++ (name, text) ∷ [])
+    go true h e = absurd (cc)
+    go false h e = ap (λ qs. p ∷ qs) (e h)
+
+-- there are no more pairs than bytes in their text
+pub count_within_text : (ps : List Pair) → length ps ≤ length (key_text ps)
+count_within_text [] = omega arith
+count_within_text (p ∷ ps) = omega (arith, count_within_rest ps, length-key_text p ps)
+  where
+    count_within_rest : (qs : List Pair) → length qs ≤ length (rest_text qs)
+    count_within_rest [] = omega arith
+    count_within_rest (q ∷ qs) = omega (arith, count_within_rest qs, length-rest_text q qs)
+
+rest_joined : (ps qs : List Pair) → length (rest_text (ps ++ qs)) ≡ length (rest_text ps) + length (rest_text qs)
+rest_joined [] qs = omega arith
+rest_joined (p ∷ ps) qs = omega (arith, rest_joined ps qs, length-rest_text p (ps ++ qs), length-rest_text p ps)
+
+rest_short : (ps : List Pair) → length (rest_text ps) ≤ length (key_text ps) + 1
+rest_short [] = omega arith
+rest_short (p ∷ ps) = omega (arith, length-rest_text p ps, length-key_text p ps)
+
+-- pairs behind pairs add their text and a comma
+pub key_text_joined : (ps qs : List Pair) → length (key_text (ps ++ qs)) ≤ length (key_text ps) + length (key_text qs) + 1
+key_text_joined [] qs = omega arith
+key_text_joined (p ∷ ps) qs = omega (arith, rest_joined ps qs, rest_short qs, length-key_text p (ps ++ qs), length-key_text p ps)

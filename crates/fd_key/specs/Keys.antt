@@ -1,0 +1,58 @@
+-- The key of a message: what its sections say, and then the pairs that the writer gives.
+use Rattle.std.specs.Prelude.{◌≡◌, ℕ, unsigned_abs, List, [], ◌∷◌, ◌++◌, length, codes, Result, Ok, Err, nat_lt, ◌==◌, not, if◌then◌else◌}
+use Rattle.std.specs.Int.{is_negative}
+use Rattle.std.specs.Fmt.{decimal}
+use Rattle.fd_bytes.specs.Numbers.{octets, signed}
+use Rattle.fd_sections.specs.Message.{Sections}
+use Rattle.fd_key.specs.declared.fault.KeyFault.{KeyFault}
+use Rattle.fd_key.specs.declared.fault.KeyFault.TheVariants.{Product, ProductLength, BadDate, KeyTooLong, NoMemory}
+use Rattle.fd_key.specs.Pairs.{Pair, key_text}
+use Rattle.fd_key.specs.Steps.{step_text}
+use Rattle.fd_key.specs.Canonical.{param_text}
+
+-- the forecast time: the unit is octet 18 of section 4, the number octets 19 to 22
+abbrev pub step_of : List ℕ → List ℕ
+step_of product =
+    let number = signed 32 (octets 19 22 product) in
+    step_text (is_negative number) (unsigned_abs number) (octets 18 18 product)
+
+-- the pairs of sections 0, 1 and 4
+abbrev pub pairs_in : List ℕ → List ℕ → List ℕ → List Pair
+pairs_in indicator identification product =
+    (codes "centre", decimal (octets 6 7 identification))
+    ∷ (codes "type", decimal (octets 21 21 identification))
+    ∷ (codes "param", param_text (octets 7 7 indicator) (octets 10 10 product) (octets 11 11 product))
+    ∷ (codes "step", step_of product)
+    ∷ []
+
+-- the pairs that a message has of its own
+abbrev pub pairs_of : Sections → List Pair
+pairs_of m = pairs_in m.indicator m.identification m.product
+
+-- those pairs, or why there are none
+unfoldable pub message_pairs : Sections → Result (List Pair) KeyFault
+message_pairs m =
+    if not (octets 8 9 m.product == 0) then Err (Product (octets 8 9 m.product))
+    else if nat_lt (length m.product) 34 then Err (ProductLength (length m.product))
+    else Ok (pairs_of m)
+
+-- all pairs, unless their text is over 255 bytes
+unfoldable pub within_limit : List Pair → Result (List Pair) KeyFault
+within_limit pairs = if nat_lt 255 (length (key_text pairs)) then Err (KeyTooLong (length (key_text pairs))) else Ok pairs
+
+abbrev pub with_given : Result (List Pair) KeyFault → List Pair → Result (List Pair) KeyFault
+with_given (Ok own) given = within_limit (own ++ given)
+with_given (Err fault) given = Err fault
+
+-- the key of a message with the given pairs, or why it has none
+unfoldable pub key_of : Sections → List Pair → Result (List Pair) KeyFault
+key_of m given = with_given (message_pairs m) given
+
+-- What a call answered is this key, or why there is none. It may also have run out of memory.
+abbrev pub GivesKey : Result (List Pair) KeyFault → Result (List Pair) KeyFault → Type 0
+GivesKey (Ok pairs) read = read ≡ Ok pairs
+GivesKey (Err NoMemory) read = Unit {0}
+GivesKey (Err (Product number)) read = read ≡ Err (Product number)
+GivesKey (Err (ProductLength said)) read = read ≡ Err (ProductLength said)
+GivesKey (Err BadDate) read = read ≡ Err BadDate
+GivesKey (Err (KeyTooLong len)) read = read ≡ Err (KeyTooLong len)

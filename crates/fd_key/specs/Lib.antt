@@ -1,0 +1,9 @@
+pub mod Names
+pub mod Pairs
+pub mod Numerals
+pub mod Steps
+pub mod Canonical
+pub mod Seen
+pub mod Given
+pub mod Reading
+pub mod Keys

@@ -1,0 +1,65 @@
+ghost use Rattle.std.specs.Prelude.{◌≡◌};
+ghost use Rattle.fd_key.specs.declared.fault.KeyFault.TheVariants as key_faults;
+ghost use Rattle.fd_key.specs.declared.fault.ValueFault.TheVariants as value_faults;
+ghost use Rattle.fd_key.specs.declared.fault.GivenFault.TheVariants as given_faults;
+
+/// Why a message has no key.
+#[derive(Clone, Copy, Debug, PartialEq, Eq)]
+pub enum KeyFault {
+    /// The number of its product definition template, which isn't 0.
+    Product(u16),
+    /// Section 4 has so many octets, which are too few for its template.
+    ProductLength { said: u64 },
+    /// Its reference time is no day of the years 0000 to 9999, or no time of a day.
+    BadDate,
+    /// The key's text has so many bytes, which are more than 255.
+    KeyTooLong { len: u32 },
+    /// An allocation was refused.
+    NoMemory,
+}
+
+/// Why there is no value.
+#[derive(Clone, Copy, Debug, PartialEq, Eq)]
+pub enum ValueFault {
+    /// The text is no value of the name.
+    BadValue,
+    /// An allocation was refused.
+    NoMemory,
+}
+
+/// Why pairs could not be read: the first cause from left to right.
+#[derive(Debug, Drop)]
+pub enum GivenFault {
+    /// What begins at this byte is no `name=value`.
+    Pair { at: u32 },
+    /// A name that messages have of their own.
+    Clash(String),
+    /// A name that came before.
+    Twice(String),
+    /// An allocation was refused.
+    NoMemory,
+}
+
+impl From<fd_bytes::NoMemory> for KeyFault {
+    ghost from_gives = { λ _ e. e ≡ key_faults.NoMemory };
+
+    fn from(_: fd_bytes::NoMemory) -> KeyFault {
+        KeyFault::NoMemory
+    }
+}
+
+impl From<fd_bytes::NoMemory> for ValueFault {
+    ghost from_gives = { λ _ e. e ≡ value_faults.NoMemory };
+
+    fn from(_: fd_bytes::NoMemory) -> ValueFault {
+        ValueFault::NoMemory
+    }
+}
+
+impl From<fd_bytes::NoMemory> for GivenFault {
+    ghost from_gives = { λ _ e. e ≡ given_faults.NoMemory };
+
+    fn from(_: fd_bytes::NoMemory) -> GivenFault {
+        GivenFault::NoMemory
+    }
+}

@@ -1,0 +1,19 @@
+//! Keys: the names and texts by which fields are asked for, in the manner of MARS. A key is made of a message's
+//! sections and of pairs that the writer gives, and each value has one spelling.
+#![tactic(auto)]
+
+mod fault;
+mod given;
+mod key;
+mod meaning;
+mod names;
+mod numerals;
+mod of_message;
+mod steps;
+mod values;
+
+pub use fault::{GivenFault, KeyFault, ValueFault};
+pub use given::Given;
+pub use key::Key;
+pub use of_message::key_of;
+pub use values::{canonical, read_pair};

@@ -1,0 +1,34 @@
+ghost use Rattle.std.specs.Prelude.{◌≡◌};
+ghost use Rattle.fd_key.specs.Names.{meaning_of};
+
+/// What a name stands for.
+#[derive(Clone, Copy, Debug, PartialEq, Eq)]
+pub enum Meaning {
+    /// The originating centre.
+    Centre,
+    /// The type of processed data.
+    ProcessedType,
+    /// The parameter.
+    Param,
+    /// The forecast time.
+    Step,
+    /// A name that only writers give.
+    Other,
+}
+
+/// What a name in lower case stands for.
+pub(crate) fn meaning_of(name: &str) -> Meaning
+    ensures { result ≡ meaning_of name.now }
+{
+    if name == "centre" {
+        Meaning::Centre
+    } else if name == "type" {
+        Meaning::ProcessedType
+    } else if name == "param" {
+        Meaning::Param
+    } else if name == "step" {
+        Meaning::Step
+    } else {
+        Meaning::Other
+    }
+}

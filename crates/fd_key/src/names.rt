@@ -1,0 +1,62 @@
+ghost use Rattle.std.specs.Prelude.{◌≡◌, IfOk, string_bytes};
+ghost use Rattle.std.specs.List.{list_all};
+ghost use Rattle.fd_key.specs.Names.{lower, is_letter, is_name, is_name_byte, is_value, is_value_byte};
+
+use fd_bytes::NoMemory;
+use std::alloc::Global;
+
+/// The text in lower case.
+pub(crate) fn lower(alloc: Global, text: &str) -> Result<String, NoMemory>
+    ensures { IfOk result (λ s. string_bytes s ≡ lower text.now) }
+{
+    let mut lowered = String::from_str(alloc, text)?;
+    lowered.make_ascii_lowercase();
+    Ok(lowered)
+}
+
+fn is_letter(b: u8) -> bool
+    ensures { result ≡ is_letter b }
+{
+    b'a' <= b && b <= b'z'
+}
+
+fn is_name_byte(b: u8) -> bool
+    ensures { result ≡ is_name_byte b }
+{
+    is_letter(b) || (b'0' <= b && b <= b'9') || b == b'_'
+}
+
+fn is_value_byte(b: u8) -> bool
+    ensures { result ≡ is_value_byte b }
+{
+    is_letter(b) || (b'0' <= b && b <= b'9') || b == b'.' || b == b'_' || b == b'-' || b == b'+'
+}
+
+fn are_name_bytes(bytes: &[u8]) -> bool
+    ensures { result ≡ list_all is_name_byte bytes.now }
+{
+    bytes.iter().all(|b| is_name_byte(*b))
+}
+
+fn are_value_bytes(bytes: &[u8]) -> bool
+    ensures { result ≡ list_all is_value_byte bytes.now }
+{
+    bytes.iter().all(|b| is_value_byte(*b))
+}
+
+/// Tells that a text in lower case is a name: a letter, and up to 15 letters, digits and `_`.
+pub(crate) fn is_name(text: &[u8]) -> bool
+    ensures { result ≡ is_name text.now }
+{
+    let Some((first, others)) = text.split_first() else {
+        return false;
+    };
+    is_letter(*first) && others.len() <= 15 && are_name_bytes(others)
+}
+
+/// Tells that a text in lower case is a value: 1 to 255 letters, digits, `.`, `_`, `-` and `+`.
+pub(crate) fn is_value(text: &[u8]) -> bool
+    ensures { result ≡ is_value text.now }
+{
+    0 < text.len() && text.len() <= 255 && are_value_bytes(text)
+}
