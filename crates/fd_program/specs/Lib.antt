@@ -1,0 +1,9 @@
+pub mod Texts
+pub mod Words
+pub mod Limits
+pub mod Picking
+pub mod Outcome
+pub mod Ends
+pub mod Told
+pub mod Found
+pub mod Run

@@ -1,0 +1,22 @@
+-- A search over an input that tells its octets.
+use Rattle.std.specs.Prelude.{◌≡◌, ◌++◌, length, ℕ, List, Option, Some, None, Bool}
+use Rattle.fd_sections.specs.Message.{Sections}
+use Rattle.fd_sections.specs.Progress.{Progress}
+use Rattle.fd_sections.specs.Stream.{stream}
+use Rattle.fd_key.specs.Pairs.{Pair}
+use Rattle.fd_program.specs.declared.pick.Last.{Last}
+use Rattle.fd_program.specs.Picking.{found_after}
+use Rattle.fd_program.specs.Found.{IsLast}
+
+-- of an input of these octets so many were read, and P holds of those
+abbrev pub Reads : Option (List ℕ) → Option (List ℕ) → (List ℕ → Type 0) → Type 0
+Reads None left P = Unit {0}
+Reads (Some octets) None P = ⊥
+Reads (Some octets) (Some left) P = (seen : List ℕ) × (octets ≡ seen ++ left) × P seen
+
+-- the search went over the octets seen: whatever comes, what is found is what is found in what is held and comes
+pub record Searched (wanted : List Pair) (p : Progress) (last : Last) (seen : List ℕ) : Type 0 where
+  pub fed : p.fed ≡ length seen
+  pub now : Option Sections
+  pub is_last : IsLast last now
+  pub same : (past : Bool) (more : List ℕ) → found_after wanted past 0 None (stream (seen ++ more)) ≡ found_after wanted past p.given now (stream (p.rest ++ more))

@@ -1,0 +1,212 @@
+// From a stream to its last message that has the pairs.
+ghost use Rattle.std.specs.Prelude.{◌≡◌, ◌≤◌, ◌<◌, ◌+◌, [], ℕ, Bool, Option, length, vec_len, take, IfOk, IfSome, IfErr, OnOk, OnErr, Some, true, false};
+ghost use Rattle.fd_bytes.specs.Causes.{Rose};
+ghost use Rattle.fd_io.specs.Streams.{Gives, IsAtEnd};
+ghost use Rattle.fd_key.specs.Pairs.{has_all};
+ghost use Rattle.fd_sections.specs.Message.{Sections};
+ghost use Rattle.fd_sections.specs.Stream.{Bad_end};
+ghost use Rattle.fd_program.specs.Picking.{found, refused, unless};
+ghost use Rattle.fd_program.specs.Found.{StoppedAs, IsNoMemory, Answers, IsKeyIfAny, is_fault, Took, TookAll, Stopped};
+ghost use Rattle.fd_key.specs.Keys.{key_of};
+ghost use Rattle.fd_sections.specs.Parts.{sections_of};
+
+use crate::refusal::Refusal;
+use crate::wanted::Wanted;
+use fd_bytes::NoMemory;
+use fd_io::Source;
+use fd_key::{Given, Key, KeyFault, key_of};
+use fd_sections::{Bad, BadAt, Message, Splitter, Truncated};
+use std::alloc::Global;
+
+/// Why nothing was found.
+#[derive(Drop)]
+pub enum Stop<X> {
+    Fault(X),
+    Refused(Refusal),
+    NoMemory,
+}
+
+impl<X> From<NoMemory> for Stop<X> {
+    ghost from_gives = { λ _ e. IsNoMemory e };
+
+    fn from(_: NoMemory) -> Stop<X> {
+        Stop::NoMemory
+    }
+}
+
+/// How many octets an input may have.
+const INPUT_LIMIT: u64 = 68_719_476_736;
+
+/// How many octets are read at a time.
+const PIECE: usize = 65_536;
+
+/// The octets of the message that was found last, if one was.
+#[derive(Drop)]
+pub struct Last {
+    pub found: bool,
+    pub octets: Vec<u8>,
+}
+
+impl Last {
+    ghost use Rattle.fd_program.specs.Found.{IsConsidered};
+
+    /// Keeps these octets in place of those that it had, where their key has all the pairs.
+    fn consider(&mut self, wanted: &Wanted, key: &Key, octets: &[u8]) -> Result<(), NoMemory>
+        ensures { OnOk result (IsConsidered (has_all key.now wanted.now) octets.now self.old self.new) }
+    {
+        if wanted.all_in(key) {
+            self.octets.clear();
+            self.octets.extend_from_slice(octets)?;
+            self.found = true;
+        }
+        Ok(())
+    }
+}
+
+/// Why a refused message ends the search.
+fn refusal_of(at: BadAt) -> Refusal
+    ensures { (past : Bool) (given : ℕ) → at.number ≡ given + 1 → refused past given (Bad_end at.bad) ≡ Some result }
+{
+    match at.bad {
+        Bad::TooLong { len } => Refusal::TooLong { len },
+        _ => Refusal::Message { number: at.number },
+    }
+}
+
+/// The key of a message, or none where it has none.
+fn key_if_any(alloc: Global, message: &Message<'_>, given: &Given) -> Result<Option<Key>, NoMemory>
+    ensures { IfOk result (IsKeyIfAny (key_of (sections_of message.now) given.now)) }
+{
+    match key_of(alloc, message, given) {
+        Ok(key) => Ok(Some(key)),
+        Err(KeyFault::NoMemory) => Err(NoMemory),
+        Err(KeyFault::Product(_)) => Ok(None),
+        Err(KeyFault::ProductLength { .. }) => Ok(None),
+        Err(KeyFault::BadDate) => Ok(None),
+        Err(KeyFault::KeyTooLong { .. }) => Ok(None),
+    }
+}
+
+/// Goes over one message, if one is whole, and tells whether one was.
+fn take_message<X>(
+    alloc: Global,
+    wanted: &Wanted,
+    given: &Given,
+    splitter: &mut Splitter,
+    last: &mut Last,
+) -> Result<bool, Stop<X>>
+    requires { given.now ≡ [] }
+    ensures took { IfOk result (λ some. Took wanted.now some splitter.old splitter.new last.old last.new) }
+    ensures err { IfErr result (λ e. Stopped wanted.now e splitter.old last.old) }
+    ensures no_fault { IfErr result (λ e. is_fault e ≡ false) }
+{
+    let number = splitter.given() + 1;
+    match splitter.next() {
+        Ok(None) => Ok(false),
+        Ok(Some(message)) => match key_if_any(alloc, &message, given)? {
+            Some(key) => {
+                last.consider(wanted, &key, message.bytes())?;
+                Ok(true)
+            }
+            None => Err(Stop::Refused(Refusal::Key { number })),
+        },
+        Err(at) => Err(Stop::Refused(refusal_of(at))),
+    }
+}
+
+/// Goes over the messages that are whole.
+fn take_messages<X>(
+    alloc: Global,
+    wanted: &Wanted,
+    given: &Given,
+    splitter: &mut Splitter,
+    last: &mut Last,
+) -> Result<(), Stop<X>>
+    requires { given.now ≡ [] }
+    ensures ok { OnOk result (TookAll wanted.now splitter.old splitter.new last.old last.new) }
+    ensures err { IfErr result (λ e. Stopped wanted.now e splitter.old last.old) }
+    ensures no_fault { IfErr result (λ e. is_fault e ≡ false) }
+{
+    while take_message(alloc, wanted, given, splitter, last)? {}
+    Ok(())
+}
+
+/// Reads the next piece into the front of the buffer, and no more than the limit leaves, but at least one octet, by
+/// which an input beyond the limit is found.
+fn read_piece<X, I: Source<X>>(input: &mut I, buffer: &mut [u8], total: u64) -> Result<usize, X>
+    requires room { length buffer.old ≡ 65536 }
+    requires limit { total ≤ 68719476736 }
+    ensures room { length buffer.new ≡ 65536 }
+    ensures bound { IfOk result (λ n. n ≤ 65536) }
+    ensures within { IfOk result (λ n. total < 68719476736 → total + n ≤ 68719476736) }
+    ensures given { IfOk result (λ n. Gives (I.left input.old) (I.left input.new) (take n buffer.new)) }
+    ensures end { IfOk result (λ n. n ≡ 0 → IsAtEnd (I.left input.old)) }
+    ensures count { I.faults input.old ≤ I.faults input.new }
+    ensures cause { OnErr result (Rose (I.faults input.old) (I.faults input.new)) }
+{
+    let size = ((INPUT_LIMIT - total) as usize).min(PIECE).max(1);
+    let (piece, _) = buffer.split_at_mut(size);
+    input.read(piece)
+}
+
+/// No pairs beside those of the messages.
+pub fn none_given(alloc: Global) -> Result<Given, NoMemory>
+    ensures { IfOk result (λ g. g ≡ []) }
+{
+    match Given::read(alloc, "") {
+        Ok(given) => Ok(given),
+        Err(_) => Err(NoMemory),
+    }
+}
+
+/// Room for one piece.
+fn new_buffer(alloc: Global) -> Result<Vec<u8>, NoMemory>
+    ensures { IfOk result (λ v. vec_len v ≡ 65536) }
+{
+    Ok(vec![in alloc; 0u8; PIECE]?)
+}
+
+/// The last message of the input whose key has all the pairs, where the input is read to its end.
+pub fn last_wanted<X: Drop, I: Source<X>>(
+    alloc: Global,
+    wanted: &Wanted,
+    given: &Given,
+    input: &mut I,
+) -> Result<Last, Stop<X>>
+    requires { given.now ≡ [] }
+    ensures answer { IfSome (I.left input.old) (λ octets. Answers result (found wanted.now octets)) }
+    ensures to_end { IfSome (I.left input.old) (λ octets. OnOk result (I.left input.new ≡ Some [])) }
+    ensures count { I.faults input.old ≤ I.faults input.new }
+    ensures cause { IfErr result (λ e. is_fault e ≡ true → Rose (I.faults input.old) (I.faults input.new)) }
+{
+    let mut splitter = Splitter::new(alloc)?;
+    let mut last = Last {
+        found: false,
+        octets: Vec::new(alloc),
+    };
+    let mut buffer = new_buffer(alloc)?;
+    let mut total = 0u64;
+    for _ in 0..u64::MAX {
+        let n = match read_piece(input, &mut buffer, total) {
+            Ok(n) => n,
+            Err(fault) => return Err(Stop::Fault(fault)),
+        };
+        if n == 0 {
+            return match splitter.finish() {
+                Ok(_) => Ok(last),
+                Err(Truncated { number, .. }) => Err(Stop::Refused(Refusal::Message { number })),
+            };
+        }
+        if total == INPUT_LIMIT {
+            return Err(Stop::Refused(Refusal::Input));
+        }
+        let (octets, _) = buffer.split_at(n);
+        splitter.feed(octets)?;
+        total += n as u64;
+        match take_messages(alloc, wanted, given, &mut splitter, &mut last) {
+            Ok(()) => {}
+            Err(stop) => return Err(stop),
+        }
+    }
+    Err(Stop::Refused(Refusal::Input))
+}

@@ -1,0 +1,61 @@
+// The lines on the report.
+ghost use Rattle.std.specs.Prelude.{◌≡◌, ◌++◌, codes};
+ghost use Rattle.std.specs.Fmt.{decimal};
+ghost use Rattle.fd_program.specs.Outcome.{line, refusal_line, refusal_status};
+ghost use Rattle.fd_program.specs.Told.{Told, ToldOrNoMemory};
+
+use crate::refusal::Refusal;
+use crate::status::Status;
+use fd_io::{Sink, write_all};
+use std::alloc::Global;
+
+/// Writes the text that goes with a status. Where it can't be written, the status is that of a failed output.
+pub fn tell<X: Drop, E: Sink<X>>(report: &mut E, text: &str, status: Status) -> Status
+    ensures { Told status text.now result (E.taken report.old) (E.taken report.new) (E.faults report.old) (E.faults report.new) }
+{
+    match write_all(report, text.as_bytes()) {
+        Ok(()) => status,
+        Err(_) => Status::OutputFault,
+    }
+}
+
+/// Writes the line that tells that memory ran out.
+pub fn tell_no_memory<X: Drop, E: Sink<X>>(report: &mut E) -> Status
+    ensures { Told Status.NoMemory (line (codes "no memory")) result (E.taken report.old) (E.taken report.new) (E.faults report.old) (E.faults report.new) }
+{
+    tell(report, "no memory\n", Status::NoMemory)
+}
+
+/// Writes a text with a number at its end. Where there is no memory for it, the status and the line tell that.
+fn tell_number<X: Drop, E: Sink<X>>(
+    alloc: Global,
+    report: &mut E,
+    text: &str,
+    number: u64,
+    status: Status,
+) -> Status
+    ensures { ToldOrNoMemory status (line (text.now ++ decimal number)) result (E.taken report.old) (E.taken report.new) (E.faults report.old) (E.faults report.new) }
+{
+    match format!(in alloc; "{text}{number}\n") {
+        Ok(line) => tell(report, line.as_str(), status),
+        Err(_) => tell_no_memory(report),
+    }
+}
+
+/// Writes the line of a refusal.
+pub fn tell_refusal<X: Drop, E: Sink<X>>(alloc: Global, report: &mut E, refusal: Refusal) -> Status
+    ensures { ToldOrNoMemory (refusal_status refusal) (refusal_line refusal) result (E.taken report.old) (E.taken report.new) (E.faults report.old) (E.faults report.new) }
+{
+    match refusal {
+        Refusal::Message { number } => {
+            tell_number(alloc, report, "refused message ", number, Status::Refused)
+        }
+        Refusal::Key { number } => {
+            tell_number(alloc, report, "refused key ", number, Status::Refused)
+        }
+        Refusal::TooLong { len } => {
+            tell_number(alloc, report, "limit TooLong ", len, Status::Limit)
+        }
+        Refusal::Input => tell(report, "limit Input 68719476736\n", Status::Limit),
+    }
+}
