@@ -224,3 +224,9 @@ waited p (Refuses bad) none = absurd cc
 waited p (Takes m r) none = absurd cc
 
 pub ruleset pendings = (stream-pending)
+
+-- after `next` answered None the stream may be ended
+pub finishes : (p n : Progress) → answer p (first p.rest) ≡ Ok None → n ≡ progress p (first p.rest) → answer n (first n.rest) ≡ Ok None
+finishes p n none goes =
+    let is : n ≡ waiting p = goes ∙ waited p (first p.rest) none in
+    subst (λ (x : Progress). answer x (first x.rest) ≡ Ok None) (sym is) (still_waits p (first p.rest) refl none)

@@ -9,6 +9,8 @@ mod reader;
 mod refusal;
 mod sections;
 mod splitter;
+#[cfg(test)]
+mod tests;
 mod whole;
 
 pub use bad::Bad;

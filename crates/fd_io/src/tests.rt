@@ -1,0 +1,62 @@
+use super::*;
+use std::test::Fail;
+
+/// Reads once into a buffer of three octets.
+fn read<X, I: Source<X>>(input: &mut I) -> Result<usize, X> {
+    let mut buffer = [0u8; 3];
+    input.read(&mut buffer)
+}
+
+/// Writes all the octets.
+fn write<X, K: Sink<X>>(sink: &mut K, octets: &[u8]) -> Result<(), X> {
+    write_all(sink, octets)
+}
+
+#[test]
+fn memory(rt: HostRuntime) -> Result<(), Fail> {
+    let alloc = rt.alloc();
+    let mut source = MemSource::new(alloc, b"GRIB2", 2, &[2])?;
+    assert_eq!(rt; read(&mut source), Ok(2));
+    assert_eq!(rt;
+        read(&mut source),
+        Err(MemIoFault),
+        "the second read is planned to fail"
+    );
+    for n in [2, 1, 0, 0] {
+        assert_eq!(rt; read(&mut source), Ok(n));
+    }
+    let mut sink = MemSink::new(alloc, 6, &[2])?;
+    assert_eq!(rt; write(&mut sink, b"GRIB"), Ok(()));
+    assert_eq!(rt;
+        write(&mut sink, b"7"),
+        Err(MemIoFault),
+        "the second write is planned to fail"
+    );
+    assert_eq!(rt;
+        write(&mut sink, b"7777"),
+        Err(MemIoFault),
+        "there is room for two octets"
+    );
+    assert_eq!(rt; sink.taken(), b"GRIB77".as_slice());
+    let mut kept = Kept::new(alloc);
+    assert_eq!(rt; write(&mut kept, b"GRIB"), Ok(()));
+    assert_eq!(rt; kept.bytes(), b"GRIB".as_slice());
+    Ok(())
+}
+
+#[test]
+fn standard_streams(rt: HostRuntime) -> Result<(), Fail> {
+    let mut source = StdSource {
+        reader: b"GRIB".as_slice(),
+        failed: 0,
+    };
+    assert_eq!(rt; read(&mut source).ok(), Some(3));
+    assert_eq!(rt; read(&mut source).ok(), Some(1));
+    let mut sink = StdSink {
+        writer: Vec::new(rt.alloc()),
+        failed: 0,
+    };
+    assert!(rt; write(&mut sink, b"GRIB").is_ok());
+    assert_eq!(rt; sink.writer.as_slice(), b"GRIB".as_slice());
+    Ok(())
+}
