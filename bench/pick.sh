@@ -1,0 +1,37 @@
+#!/usr/bin/env bash
+# Throughput and peak memory of `fdb pick`, and beside it of ecCodes' `grib_copy -w` where it is installed, over a
+# stream of at least 256 MB that repeats the samples. No part of the gate.
+set -eu
+top=$(cd "$(dirname "$0")/.." && pwd)
+work=$(mktemp -d)
+trap 'rm -rf "$work"' EXIT
+stream=$work/stream.grib2
+size=$(stat -c %s "$top/samples/forecast.grib2")
+times=$((268435456 / size + 1))
+for _ in $(seq 64); do cat "$top/samples/forecast.grib2"; done > "$work/part"
+for _ in $(seq $((times / 64 + 1))); do cat "$work/part"; done > "$stream"
+"$top/fdb" pick step=6 < "$top/samples/forecast.grib2" > /dev/null
+
+# run NAME COMMAND.. : its seconds, throughput and peak memory
+run() {
+  python3 - "$@" <<'PY'
+import os, resource, subprocess, sys, time
+name, command = sys.argv[1], sys.argv[2:]
+stream, out = os.environ["STREAM"], os.environ["OUT"]
+begin = time.time()
+with open(stream, "rb") as source, open(out, "wb") as sink:
+    status = subprocess.call(command, stdin=source, stdout=sink)
+seconds = time.time() - begin
+memory = resource.getrusage(resource.RUSAGE_CHILDREN).ru_maxrss
+size = os.path.getsize(stream)
+print(f"{name:12} {size / 1e6:8.0f} MB {seconds:7.2f} s {size / 1e6 / seconds:8.1f} MB/s  peak {memory / 1024:7.1f} MiB  status {status}")
+PY
+}
+export STREAM=$stream OUT=$work/out
+run fdb "$top/fdb" pick step=6
+ls -l "$work/out" | awk '{print "  wrote", $5, "octets"}'
+if command -v grib_copy > /dev/null; then
+  run grib_copy grib_copy -w stepRange=6 "$stream" "$work/copied"
+else
+  echo "grib_copy is not installed (Debian: libeccodes-tools)"
+fi

@@ -1,0 +1,197 @@
+// The top call over objects in memory.
+ghost use Rattle.std.specs.Prelude.{◌≤◌};
+
+use crate::status::Status;
+use crate::top::fdb;
+use fd_io::{MemSink, MemSource};
+use std::alloc::{AllocError, Global};
+use std::process::Abort;
+use std::test::Fail;
+
+/// One message of 183 octets: surface 100000 Pa, step 0.
+const FIELD: [u8; 183] = [
+    0x47, 0x52, 0x49, 0x42, 0xFF, 0xFF, 0, 2, 0, 0, 0, 0, 0, 0, 0, 183, 0, 0, 0, 21, 1, 0, 98, 0,
+    0, 2, 0, 1, 7, 232, 1, 1, 0, 0, 0, 0, 1, 0, 0, 0, 72, 3, 0, 0, 0, 0, 4, 0, 0, 0, 0, 6, 255,
+    255, 255, 255, 255, 255, 255, 255, 255, 255, 255, 255, 255, 255, 255, 0, 0, 0, 2, 0, 0, 0, 2,
+    0, 0, 0, 0, 255, 255, 255, 255, 0, 152, 150, 128, 0, 0, 0, 0, 48, 0, 0, 0, 0, 0, 152, 150, 128,
+    0, 152, 150, 128, 0, 152, 150, 128, 0, 0, 0, 0, 34, 4, 0, 0, 0, 0, 0, 0, 2, 0, 0, 0, 0, 0, 1,
+    0, 0, 0, 0, 100, 0, 0, 1, 134, 160, 255, 255, 255, 255, 255, 255, 0, 0, 0, 21, 5, 0, 0, 0, 4,
+    0, 0, 67, 250, 0, 0, 128, 1, 0, 1, 8, 0, 0, 0, 0, 6, 6, 255, 0, 0, 0, 9, 7, 3, 16, 29, 42, 55,
+    55, 55, 55,
+];
+
+/// The octet at which the forecast time ends, and the last octet of the packed values.
+const STEP: usize = 130;
+
+const LAST: usize = 178;
+
+/// The field with other octets at two places.
+fn field(alloc: Global, step: u8, last: u8) -> Result<Vec<u8>, AllocError> {
+    let mut octets = FIELD;
+    octets[STEP] = step;
+    octets[LAST] = last;
+    Vec::from_slice(alloc, &octets)
+}
+
+/// A run of the top call: its words, its input in pieces of some octets, and the reads and writes that fail.
+#[derive(Clone, Copy)]
+struct Run<'a> {
+    words: &'a [&'a str],
+    input: &'a [u8],
+    piece: u32,
+    fail_reads: &'a [u32],
+    fail_output: &'a [u32],
+    fail_report: &'a [u32],
+}
+
+/// A run without a failing call.
+fn plain<'a>(words: &'a [&'a str], input: &'a [u8], piece: u32) -> Run<'a> {
+    Run {
+        words,
+        input,
+        piece,
+        fail_reads: &[],
+        fail_output: &[],
+        fail_report: &[],
+    }
+}
+
+/// The run ends with this status, output and report.
+fn check(
+    rt: &impl Abort,
+    alloc: Global,
+    run: &Run<'_>,
+    status: Status,
+    output: &[u8],
+    report: &str,
+) -> Result<(), Fail> {
+    let piece = run.piece.max(1);
+    let mut input = MemSource::new(alloc, run.input, piece, run.fail_reads)?;
+    let mut out = MemSink::new(alloc, 1000, run.fail_output)?;
+    let mut lines = MemSink::new(alloc, 200, run.fail_report)?;
+    let found = fdb(alloc, run.words, &mut input, &mut out, &mut lines);
+    assert_eq!(rt; found, status);
+    assert_eq!(rt; out.taken(), output);
+    assert_eq!(rt; lines.taken(), report.as_bytes());
+    Ok(())
+}
+
+const USAGE: &str =
+    "usage: fdb pick describe values generate create archive retrieve list axes stats session trial\n";
+
+/// The words are no command.
+fn check_usage(rt: &impl Abort, alloc: Global, words: &[&str]) -> Result<(), Fail> {
+    check(
+        rt,
+        alloc,
+        &plain(words, &FIELD, 7),
+        Status::Words,
+        b"",
+        USAGE,
+    )
+}
+
+#[test]
+fn picks(rt: HostRuntime) -> Result<(), Fail> {
+    let alloc = rt.alloc();
+    let second = field(alloc, 0, 43)?;
+    let mut stream = Vec::from_slice(alloc, b"junk")?;
+    stream.extend_from_slice(&FIELD)?;
+    stream.extend_from_slice(&second)?;
+    stream.extend_from_slice(&field(alloc, 6, 42)?)?;
+    stream.extend_from_slice(b"GRI")?;
+    for piece in [1, 200, 65_536] {
+        let step = plain(&["pick", "step=0"], &stream, piece);
+        check(
+            &rt,
+            alloc,
+            &step,
+            Status::Done,
+            &second,
+            "found 1 missed 0\n",
+        )?;
+        let two = plain(&["pick", "STEP=0m", "centre=098"], &stream, piece);
+        check(
+            &rt,
+            alloc,
+            &two,
+            Status::Done,
+            &second,
+            "found 1 missed 0\n",
+        )?;
+        let none = plain(&["pick", "step=12"], &stream, piece);
+        check(&rt, alloc, &none, Status::Missed, b"", "found 0 missed 1\n")?;
+    }
+    Ok(())
+}
+
+#[test]
+fn refuses_words(rt: HostRuntime) -> Result<(), Fail> {
+    let alloc = rt.alloc();
+    check_usage(&rt, alloc, &["pick"])?;
+    check_usage(&rt, alloc, &[])?;
+    check_usage(&rt, alloc, &["help"])?;
+    check_usage(&rt, alloc, &["pick", "--", "step=0"])?;
+    check_usage(&rt, alloc, &["pick", "step"])?;
+    check_usage(&rt, alloc, &["pick", "step=x"])?;
+    check_usage(&rt, alloc, &["pick", "step=0", "STEP=0"])?;
+    Ok(())
+}
+
+/// The words of the runs below.
+const WORDS: [&str; 2] = ["pick", "step=0"];
+
+/// A run over this input ends with this status and report, and with nothing on the output.
+fn check_refused(
+    rt: &impl Abort,
+    alloc: Global,
+    input: &[u8],
+    status: Status,
+    report: &str,
+) -> Result<(), Fail> {
+    check(rt, alloc, &plain(&WORDS, input, 7), status, b"", report)
+}
+
+#[test]
+fn refuses_input(rt: HostRuntime) -> Result<(), Fail> {
+    let alloc = rt.alloc();
+    let mut template = FIELD;
+    template[117] = 1;
+    let mut other = Vec::from_slice(alloc, &FIELD)?;
+    other.extend_from_slice(&template)?;
+    check_refused(&rt, alloc, &other, Status::Refused, "refused key 2\n")?;
+    let (cut, _) = FIELD.split_at(175);
+    check_refused(&rt, alloc, cut, Status::Refused, "refused message 1\n")?;
+    let mut long = FIELD;
+    long[12] = 8;
+    check_refused(
+        &rt,
+        alloc,
+        &long,
+        Status::Limit,
+        "limit TooLong 134217911\n",
+    )?;
+    Ok(())
+}
+
+#[test]
+fn meets_faults(rt: HostRuntime) -> Result<(), Fail> {
+    let alloc = rt.alloc();
+    let mut run = plain(&WORDS, &FIELD, 100);
+    run.fail_reads = &[2];
+    check(&rt, alloc, &run, Status::InputFault, b"", "input failed\n")?;
+    let mut run = plain(&WORDS, &FIELD, 100);
+    run.fail_output = &[1];
+    check(
+        &rt,
+        alloc,
+        &run,
+        Status::OutputFault,
+        b"",
+        "output failed\n",
+    )?;
+    let mut run = plain(&WORDS, &FIELD, 100);
+    run.fail_report = &[1];
+    check(&rt, alloc, &run, Status::OutputFault, &FIELD, "")?;
+    Ok(())
+}
