@@ -1,0 +1,19 @@
+mod TableVectors
+pub mod Slots
+pub mod StandingLemmas
+pub mod Inverse
+mod RunVectors
+mod SeenLemmas
+pub mod Reading
+mod Updates
+mod Holds
+mod Fetching
+mod Keeping
+mod Steps
+mod Failing
+mod Images
+mod Crashing
+mod EveryRun
+mod Reached
+mod Places
+mod SlotNumbers

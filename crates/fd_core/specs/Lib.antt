@@ -1,0 +1,7 @@
+pub mod Table
+pub mod Standing
+pub mod World
+pub mod Batches
+pub mod Machine
+pub mod Took
+pub mod Laws

@@ -1,0 +1,23 @@
+//! The table of contents of a dataset, and the machine that the store is proved by: writers who list batches in the
+//! table, readers who fetch what is listed, and a disk whose calls may fail and which may crash after any of them.
+#![tactic(auto)]
+
+mod batch;
+mod files;
+mod gate_steps;
+mod law;
+mod machine;
+mod numbers;
+mod state;
+mod sync_steps;
+mod table;
+mod table_steps;
+mod writers;
+
+pub use batch::{Batch, Listing, Pair};
+pub use files::Files;
+pub use law::every_run;
+pub use machine::{Answer, NamedFile, Phase, Seen, Step, Took, Writer};
+pub use state::State;
+pub use table::{Entry, NotATable};
+pub use writers::Writers;

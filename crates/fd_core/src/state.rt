@@ -1,0 +1,104 @@
+ghost use Rattle.std.specs.Prelude.{◌≡◌, ◌+◌, ◌<◌, ◌++◌, [], ◌∷◌, length, OnOk, OnErr, IfOk};
+ghost use Rattle.fd_core.specs.Table.{header};
+ghost use Rattle.fd_core.specs.World.{World};
+ghost use Rattle.fd_core.specs.Machine.{start, put_seen, after};
+ghost use Rattle.fd_core.specs.declared.machine.Step.TheVariants.{Look};
+
+use crate::{Batch, Entry, Files, Seen, Writers};
+use fd_bytes::{Bytes, Items, NoMemory};
+use fd_disk::{File, Ranges};
+use std::alloc::Global;
+use std::marker::Model;
+
+/// The state of the machine. It has been reached by some list of steps.
+#[derive(Drop)]
+pub struct State {
+    pub(crate) table: File,
+    pub(crate) files: Files,
+    pub(crate) history: Items<Batch>,
+    pub(crate) writers: Writers,
+    pub(crate) owner: Option<u32>,
+    pub(crate) doubt: Option<Entry>,
+    pub(crate) readers: Items<Seen>,
+    pub(crate) down: bool,
+}
+
+impl Model for State {
+    ghost use Rattle.fd_core.specs.World.{World};
+    ghost use Rattle.fd_core.specs.Took.{IsReached};
+
+    ghost Value = { World };
+
+    ghost view = { λ a. record { table = a.table; files = a.files; history = a.history; writers = a.writers; owner = a.owner; doubt = a.doubt; readers = a.readers; down = a.down } };
+
+    ghost invariant = { λ a. IsReached (record { table = a.table; files = a.files; history = a.history; writers = a.writers; owner = a.owner; doubt = a.doubt; readers = a.readers; down = a.down }) };
+}
+
+impl State {
+    /// The table is founded, and nothing has happened yet.
+    pub fn start(alloc: Global) -> Result<State, NoMemory>
+        ensures { IfOk result (λ s. s ≡ start) }
+    {
+        let firm = founded(alloc)?;
+        let reads = founded(alloc)?;
+        Ok(State {
+            table: File {
+                firm,
+                reads,
+                loose: Ranges::new(alloc),
+            },
+            files: Files::new(alloc),
+            history: Items::new(alloc),
+            writers: Writers::new(alloc),
+            owner: None,
+            doubt: None,
+            readers: Items::new(alloc),
+            down: false,
+        })
+    }
+}
+
+/// The header of the dataset with no name, and a closed gate.
+fn founded(alloc: Global) -> Result<Bytes, NoMemory>
+    ensures { IfOk result (λ b. b ≡ header [] ++ 0 ∷ []) }
+{
+    let mut bytes = Bytes::from_slice(alloc, b"FDTOC001")?;
+    for _zero in 0..313usize {
+        bytes.push(0)?;
+    }
+    Ok(bytes)
+}
+
+/// The reader has seen what is listed now.
+pub(crate) fn look(state: &mut State, r: u32) -> Result<(), NoMemory>
+    ensures ok { OnOk result (state.new ≡ after state.old (Look r)) }
+    ensures err { OnErr result (state.new ≡ state.old) }
+{
+    if state.down {
+        return Ok(());
+    }
+    let n = state.history.len() as u32;
+    see(&mut state.readers, r, n)
+}
+
+fn see(readers: &mut Items<Seen>, r: u32, n: u32) -> Result<(), NoMemory>
+    ensures ok { OnOk result (readers.new ≡ put_seen readers.old r n) }
+    ensures err { OnErr result (readers.new ≡ readers.old) }
+{
+    for i in 0..readers.len() {
+        if readers.at(i).reader == r {
+            readers.set(
+                i,
+                Seen {
+                    reader: r,
+                    length: n,
+                },
+            );
+            return Ok(());
+        }
+    }
+    readers.push(Seen {
+        reader: r,
+        length: n,
+    })
+}

@@ -1,0 +1,76 @@
+ghost use Rattle.fd_core.specs.Machine.{writer_in, put_writer, gone_to};
+ghost use Rattle.fd_core.specs.Took.{IsPlace};
+ghost use Rattle.fd_core.specs.declared.machine.Writer.{Writer};
+ghost use Rattle.fd_core.specs.declared.machine.Phase.TheVariants.{Filling};
+ghost use Rattle.std.specs.Prelude.{◌≡◌, ◌<◌, ◌+◌, ◌^◌, [], Some, IfSome, IfNone, length, slice_get, slice_set};
+
+use crate::{Phase, Writer};
+use std::alloc::Global;
+use std::marker::Model;
+
+/// The writers that have put something since the last opening. Contracts see them as a list.
+#[derive(Drop)]
+pub struct Writers {
+    items: Vec<Writer>,
+}
+
+impl Model for Writers {
+    ghost use Rattle.std.specs.Prelude.{List};
+    ghost use Rattle.fd_core.specs.declared.machine.Writer.{Writer};
+
+    ghost Value = { List Writer };
+
+    ghost view = { λ a. a.items.items };
+}
+
+impl Writers {
+    /// No writers.
+    pub fn new(alloc: Global) -> Writers
+        ensures { result ≡ [] }
+    {
+        Writers {
+            items: Vec::new(alloc),
+        }
+    }
+
+    /// The writer at a place.
+    pub(crate) fn at(&self, i: usize) -> &Writer
+        requires { i < length self.now }
+        ensures { slice_get self.now i ≡ Some result.now }
+    {
+        &self.items[i]
+    }
+
+    /// The place of the writer with this number.
+    pub(crate) fn place(&self, w: u32) -> Option<usize>
+        ensures some { IfSome result (λ i. IsPlace self.now w i) }
+        ensures none { IfNone result ((o : Writer) → writer_in self.now w o ≡ o) }
+    {
+        for i in 0..self.items.len() {
+            if self.at(i).id == w {
+                return Some(i);
+            }
+        }
+        None
+    }
+
+    /// The writer at this place goes on to a phase.
+    pub(crate) fn set_phase(&mut self, i: usize, phase: Phase)
+        requires { i < length self.old }
+        ensures { (x : Writer) → slice_get self.old i ≡ Some x → self.new ≡ slice_set self.old i (gone_to x phase) }
+    {
+        self.items[i].phase = phase;
+    }
+
+    /// The writer at this place begins its next batch.
+    pub(crate) fn begin_next(&mut self, i: usize)
+        requires inside { i < length self.old }
+        requires numbered { (x : Writer) → slice_get self.old i ≡ Some x → x.seq + 1 < 2 ^ 32 }
+        ensures { (x : Writer) → slice_get self.old i ≡ Some x → self.new ≡ slice_set self.old i (record { id = x.id; pairs = []; phase = Filling; seq = x.seq + 1 }) }
+    {
+        let writer = &mut self.items[i];
+        writer.pairs.clear();
+        writer.phase = Phase::Filling;
+        writer.seq += 1;
+    }
+}

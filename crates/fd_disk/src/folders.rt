@@ -1,0 +1,19 @@
+/// Which of the two files of a batch.
+#[derive(Clone, Copy, Debug, PartialEq, Eq)]
+pub enum FileKind {
+    /// The bytes of the batch, one after the other.
+    Fields,
+    /// Where the bytes of each key stand.
+    Index,
+}
+
+/// The name of a file of a dataset: its writer, the number of that writer's batch from 1, and its kind.
+#[derive(Clone, Copy, Debug, PartialEq, Eq)]
+pub struct FileName {
+    /// The writer's number.
+    pub writer: u32,
+    /// The number of the batch among this writer's, from 1.
+    pub seq: u32,
+    /// Which of the batch's two files.
+    pub kind: FileKind,
+}
