@@ -17,7 +17,7 @@ use Rattle.fd_core.specs.World.{World}
 use Rattle.fd_core.specs.Batches.{distinct, total, joined, rows}
 use Rattle.fd_core.specs.Machine.{file_of, fields_name, index_name, entry_of, writer_of, code, is_empty}
 use Rattle.fd_core.specs.Laws.{SeesOnlyListed, IsPrefix}
-use Rattle.fd_core.proofs.Reading.{KeysFit}
+use Rattle.fd_core.specs.Batches.{KeysFit}
 
 abbrev pub name_of : Entry → FileKind → FileName
 name_of e kind = record { writer = e.writer; seq = e.seq; kind = kind }

@@ -17,3 +17,6 @@ mod EveryRun
 mod Reached
 mod Places
 mod SlotNumbers
+mod FilePlaces
+mod BatchSums
+mod FillSteps

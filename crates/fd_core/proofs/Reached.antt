@@ -60,7 +60,7 @@ look_kept s r n readers (Ok u) up count reached ok err =
     (subst IsReached (looked s r up) (reached_step s (Look r) reached))
 look_kept s r n readers (Err e) up count reached ok err = subst (λ (rs : List Seen). IsReached (record s { readers = rs })) (sym err) reached
 
-done : (s : World) (step : Step) → possible s step ≡ true → after s step ≡ effect s step
+pub done : (s : World) (step : Step) → possible s step ≡ true → after s step ≡ effect s step
 done s step is = ap (λ (b : Bool). cond b (effect s step) s) is
 
 -- the writer at a place is the one of that number
@@ -128,7 +128,7 @@ phase_put s w i x ws p q place at phase made = (
   place_put s w i ws (λ x. in_other x q) place (id_is s w) made,
 )
 
-up_and : (d a : Bool) → d ≡ false → a ≡ true → (not d && a) ≡ true
+pub up_and : (d a : Bool) → d ≡ false → a ≡ true → (not d && a) ≡ true
 up_and d a ed ea = grind (arith, ed, ea)
 
 pub sync_body_done : (s : World) (w i : ℕ) (x : Writer) (t : File) (ws : List Writer) → s.down ≡ false → IsPlace s.writers w i → slice_get s.writers i ≡ Some x → is_in_phase x BodyLoose ≡ true → t ≡ synced s.table

@@ -4,7 +4,7 @@ use Rattle.std.proofs.lemmas.List.{take_at, drop_at, drop-drop}
 use Rattle.std.proofs.lemmas.Nat.{from_be_bytes-to_be_bytes_2, from_be_bytes-to_be_bytes_8}
 use Rattle.std.specs.Int.{w16, w64, to_be_bytes, from_be_bytes, byte_at}
 use Rattle.fd_core.specs.declared.batch.Pair.{Pair}
-use Rattle.fd_core.specs.Batches.{same_bytes, or_older, of_batch, newest, total, joined, rows_from, rows, Row, row_in, rows_read, last_row, of_files}
+use Rattle.fd_core.specs.Batches.{KeysFit, same_bytes, or_older, of_batch, newest, total, joined, rows_from, rows, Row, row_in, rows_read, last_row, of_files}
 
 older_assoc : {A : Type 0} (a b c : Option A) → or_older (or_older a b) c ≡ or_older a (or_older b c)
 older_assoc (Some x) b c = refl
@@ -25,11 +25,6 @@ older_if None b = refl
 pub newest-push : (bs : List (List Pair)) (b : List Pair) (key : List ℕ) → newest (bs ++ b ∷ []) key ≡ or_older (of_batch b key) (newest bs key)
 newest-push [] b key = sym (older_none (of_batch b key))
 newest-push (x ∷ bs) b key = ap (λ o. or_older o (of_batch x key)) (newest-push bs b key) ∙ older_assoc (of_batch b key) (newest bs key) (of_batch x key)
-
--- each key is short, and the bytes are not too many
-abbrev pub KeysFit : List Pair → Type 0
-KeysFit [] = Unit {0}
-KeysFit (p ∷ ps) = (length p.key ≤ 256) × KeysFit ps
 
 abbrev rows_of : ℕ → List Pair → List Row
 rows_of at [] = []

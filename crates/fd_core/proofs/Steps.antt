@@ -24,7 +24,7 @@ use Rattle.fd_core.specs.Machine.{file_of, put_file, fields_name, index_name, en
 use Rattle.fd_core.proofs.Keeping.{files_step, owner_step, SameOthers, there2, elsewhere2, known_writer, waits_code, phase_is, both, id_is, bound_idle}
 use Rattle.fd_core.proofs.Fetching.{same_count}
 use Rattle.fd_core.proofs.Updates.{file_there, file_elsewhere}
-use Rattle.fd_core.proofs.Reading.{KeysFit}
+use Rattle.fd_core.specs.Batches.{KeysFit}
 use Rattle.fd_disk.proofs.ImageLemmas.{written_within, written_reads}
 use Rattle.fd_core.specs.declared.machine.Step.TheVariants.{Put, SyncData, WriteIndex, SyncIndex, Take, Body, SyncBody, Gate, SyncGate, Post, Release, CloseGate, SyncClose}
 use Rattle.fd_core.proofs.Holds.{StandsFor, AllStand, PairsFit, IsReady, ByPhase, WriterHolds, Doubtful, Owned, Mending, OwnedOrMending, FreeOrInDoubt, TableHolds, MayWait, IsWriters, DoubtHolds, AllOlder, bound, HoldsUp}

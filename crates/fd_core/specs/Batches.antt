@@ -1,5 +1,5 @@
 -- Batches of pairs, the newest pair of a key, and the machine's plain index.
-use Rattle.std.specs.Prelude.{◌+◌, ◌==◌, ◌&&◌, ◌||◌, ℕ, zero, suc, Bool, true, false, List, [], ◌∷◌, ◌++◌, if◌then◌else◌, length, take, drop, Option, Some, None, option_map}
+use Rattle.std.specs.Prelude.{◌+◌, ◌<◌, ◌≤◌, ◌^◌, ◌==◌, ◌&&◌, ◌||◌, ℕ, zero, suc, Bool, true, false, List, [], ◌∷◌, ◌++◌, if◌then◌else◌, length, take, drop, Option, Some, None, option_map}
 use Rattle.std.specs.Int.{w16, w64, to_be_bytes, from_be_bytes}
 use Rattle.fd_core.specs.declared.batch.Pair.{Pair}
 
@@ -48,6 +48,18 @@ rows_from at (p ∷ ps) = to_be_bytes w16 (length p.key) ++ p.key ++ to_be_bytes
 
 abbrev pub rows : List Pair → List ℕ
 rows b = rows_from 0 b
+
+-- each key has at most 256 bytes
+abbrev pub KeysFit : List Pair → Type 0
+KeysFit [] = Unit {0}
+KeysFit (p ∷ ps) = (length p.key ≤ 256) × KeysFit ps
+
+-- a batch that a table may list
+pub record IsBounded (b : List Pair) : Type 0 where
+  pub keys : KeysFit b
+  pub few : distinct b ≤ 65536
+  pub sum : total b < 2 ^ 63
+  pub index : length (rows b) < 2 ^ 63
 
 pub record Row : Type 0 where
   pub key : List ℕ

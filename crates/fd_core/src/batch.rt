@@ -1,5 +1,6 @@
 ghost use Rattle.fd_core.specs.declared.batch.Pair.{Pair};
-ghost use Rattle.std.specs.Prelude.{◌≡◌, [], ◌∷◌, ◌++◌, List, IfOk, OnOk, OnErr};
+ghost use Rattle.fd_core.specs.Machine.{is_empty};
+ghost use Rattle.std.specs.Prelude.{◌≡◌, ◌<◌, Some, length, slice_get, [], ◌∷◌, ◌++◌, List, IfOk, OnOk, OnErr};
 
 use crate::Entry;
 use fd_bytes::{Bytes, NoMemory};
@@ -56,6 +57,28 @@ impl Batch {
         ensures { result.now ≡ self.now }
     {
         &self.items
+    }
+
+    /// The number of pairs.
+    pub fn len(&self) -> usize
+        ensures { result ≡ length self.now }
+    {
+        self.items.len()
+    }
+
+    /// Tells that there is no pair.
+    pub fn is_empty(&self) -> bool
+        ensures { result ≡ is_empty self.now }
+    {
+        self.items.is_empty()
+    }
+
+    /// The pair at a place.
+    pub fn at(&self, i: usize) -> &Pair
+        requires { i < length self.now }
+        ensures { slice_get self.now i ≡ Some result.now }
+    {
+        &self.items[i]
     }
 
     /// Appends a pair. After `NoMemory` nothing has changed.

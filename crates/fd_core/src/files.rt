@@ -1,9 +1,11 @@
-ghost use Rattle.std.specs.Prelude.{◌≡◌, ◌+◌, ◌-◌, ◌<◌, ◌^◌, ◌++◌, [], length, take, replicate, IfOk, OnOk, OnErr};
-ghost use Rattle.fd_disk.specs.Images.{synced, written, overwritten};
+ghost use Rattle.std.specs.Prelude.{◌≡◌, ◌+◌, ◌-◌, ◌<◌, ◌^◌, ◌++◌, [], length, take, replicate, slice_get, slice_set, ◌∷◌, Some, IfOk, IfSome, IfNone, OnOk, OnErr};
+ghost use Rattle.fd_core.specs.Machine.{file_of, put_file};
+ghost use Rattle.fd_disk.specs.Images.{firm_file, loosened, overwritten, synced, written};
+ghost use Rattle.fd_disk.specs.Names.{same_name};
 
 use crate::NamedFile;
 use fd_bytes::{Bytes, NoMemory};
-use fd_disk::{File, Range, Ranges};
+use fd_disk::{File, FileName, Range, Ranges};
 use std::alloc::{AllocError, Global};
 use std::marker::Model;
 
@@ -31,6 +33,136 @@ impl Files {
             items: Vec::new(alloc),
         }
     }
+}
+
+impl Files {
+    /// The file under a name.
+    pub(crate) fn find(&self, name: FileName) -> Option<&File>
+        ensures some { IfSome result (λ f. f.now ≡ file_of self.now name) }
+        ensures none { IfNone result (file_of self.now name ≡ firm_file []) }
+    {
+        for i in 0..self.len() {
+            if is_same(self.at(i).name, name) {
+                return Some(&self.at(i).file);
+            }
+        }
+        None
+    }
+
+    fn len(&self) -> usize
+        ensures { result ≡ length self.now }
+    {
+        self.items.len()
+    }
+
+    fn at(&self, i: usize) -> &NamedFile
+        requires { i < length self.now }
+        ensures { slice_get self.now i ≡ Some result.now }
+    {
+        &self.items[i]
+    }
+
+    fn set(&mut self, i: usize, file: NamedFile)
+        requires { i < length self.old }
+        ensures { self.new ≡ slice_set self.old i file }
+    {
+        self.items[i] = file;
+    }
+
+    fn push(&mut self, file: NamedFile) -> Result<(), NoMemory>
+        ensures ok { OnOk result (self.new ≡ self.old ++ file ∷ []) }
+        ensures err { OnErr result (self.new ≡ self.old) }
+    {
+        self.items.push(file)?;
+        Ok(())
+    }
+
+    /// A copy of the file under a name, which is empty where there is none.
+    pub(crate) fn copy_of(&self, alloc: Global, name: FileName) -> Result<File, NoMemory>
+        ensures { IfOk result (λ f. f ≡ file_of self.now name) }
+    {
+        match self.find(name) {
+            Some(file) => copied(alloc, file),
+            None => Ok(File {
+                firm: Bytes::new(alloc),
+                reads: Bytes::new(alloc),
+                loose: Ranges::new(alloc),
+            }),
+        }
+    }
+
+    /// Puts a file under a name, in place of the one that is there. After `NoMemory` nothing has changed.
+    pub(crate) fn put(&mut self, name: FileName, file: File) -> Result<(), NoMemory>
+        ensures ok { OnOk result (self.new ≡ put_file self.old name file) }
+        ensures err { OnErr result (self.new ≡ self.old) }
+    {
+        for i in 0..self.len() {
+            if is_same(self.at(i).name, name) {
+                self.set(i, NamedFile { name, file });
+                return Ok(());
+            }
+        }
+        self.push(NamedFile { name, file })
+    }
+
+    /// Writes into the file under a name. After `NoMemory` nothing has changed.
+    pub(crate) fn write(
+        &mut self,
+        alloc: Global,
+        name: FileName,
+        at: usize,
+        bytes: &[u8],
+    ) -> Result<(), NoMemory>
+        requires { at + length bytes.now < 2 ^ 63 }
+        ensures ok { OnOk result (self.new ≡ put_file self.old name (written (file_of self.old name) at bytes.now)) }
+        ensures err { OnErr result (self.new ≡ self.old) }
+    {
+        let mut file = self.copy_of(alloc, name)?;
+        write_file(alloc, &mut file, at, bytes)?;
+        self.put(name, file)
+    }
+
+    /// Syncs the file under a name. After `NoMemory` nothing has changed.
+    pub(crate) fn sync(&mut self, alloc: Global, name: FileName) -> Result<(), NoMemory>
+        ensures ok { OnOk result (self.new ≡ put_file self.old name (synced (file_of self.old name))) }
+        ensures err { OnErr result (self.new ≡ self.old) }
+    {
+        let mut file = self.copy_of(alloc, name)?;
+        sync_file(alloc, &mut file)?;
+        self.put(name, file)
+    }
+
+    /// Makes a range of the file under a name loose. After `NoMemory` nothing has changed.
+    pub(crate) fn loosen(
+        &mut self,
+        alloc: Global,
+        name: FileName,
+        at: u64,
+        len: u64,
+    ) -> Result<(), NoMemory>
+        ensures ok { OnOk result (self.new ≡ put_file self.old name (loosened (file_of self.old name) at len (file_of self.old name).reads)) }
+        ensures err { OnErr result (self.new ≡ self.old) }
+    {
+        let mut file = self.copy_of(alloc, name)?;
+        file.loose.put_first(Range { at, len })?;
+        self.put(name, file)
+    }
+}
+
+/// Tells that two names are one.
+pub(crate) fn is_same(a: FileName, b: FileName) -> bool
+    ensures { result ≡ same_name a b }
+{
+    a.writer == b.writer && a.seq == b.seq && a.kind == b.kind
+}
+
+fn copied(alloc: Global, file: &File) -> Result<File, NoMemory>
+    ensures { IfOk result (λ f. f ≡ file.now) }
+{
+    let firm = Bytes::from_slice(alloc, file.firm.as_slice())?;
+    let reads = Bytes::from_slice(alloc, file.reads.as_slice())?;
+    let loose = file.loose.copy(alloc)?;
+    Ok(File { firm, reads, loose })
 }
 
 /// Syncs a file: what a read gives is firm. After `NoMemory` nothing has changed.

@@ -4,10 +4,12 @@
 
 mod batch;
 mod files;
+mod fill_steps;
 mod gate_steps;
 mod law;
 mod machine;
 mod numbers;
+mod rows;
 mod state;
 mod sync_steps;
 mod table;
