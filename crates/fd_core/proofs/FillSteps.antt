@@ -1,21 +1,23 @@
 -- What the code of a step that fills or seals a batch has made of the state.
-use Rattle.std.proofs.Common.{◌≡◌, ◌&&◌, ◌^◌, ◌-◌, ◌<◌, ◌≤◌, ℕ, Bool, true, false, not, nat_lt, nat_le, List, [], ◌∷◌, ◌++◌, length, Some, slice_get, slice_set, sym, ◌∙◌, ap, subst, refl, arith}
+use Rattle.std.proofs.Common.{◌≡◌, ◌&&◌, ◌^◌, ◌-◌, ◌<◌, ◌≤◌, ℕ, Bool, true, false, not, nat_lt, nat_le, List, [], ◌∷◌, ◌++◌, length, Option, Some, None, is_some, is_none, ◌+◌, slice_get, slice_set, sym, ◌∙◌, ap, subst, refl, arith}
 use Rattle.std.proofs.lemmas.Bool.Decides.{nat_tests}
 use Rattle.fd_disk.specs.declared.file.File.{File}
 use Rattle.fd_disk.specs.Images.{synced, written}
+use Rattle.fd_core.specs.declared.table.Entry.{Entry}
+use Rattle.fd_core.specs.Table.{body_of, gate_at, with_body}
 use Rattle.fd_core.specs.declared.machine.NamedFile.{NamedFile}
 use Rattle.fd_core.specs.declared.machine.Phase.{Phase}
-use Rattle.fd_core.specs.declared.machine.Phase.TheVariants.{Filling, Synced, Written, Sealed}
+use Rattle.fd_core.specs.declared.machine.Phase.TheVariants.{Filling, Synced, Written, Sealed, Holding, BodyLoose}
 use Rattle.fd_core.specs.declared.machine.Step.{Step}
-use Rattle.fd_core.specs.declared.machine.Step.TheVariants.{SyncData, WriteIndex, SyncIndex}
+use Rattle.fd_core.specs.declared.machine.Step.TheVariants.{SyncData, WriteIndex, SyncIndex, Body}
 use Rattle.fd_core.specs.declared.machine.Writer.{Writer}
 use Rattle.fd_core.specs.World.{World}
 use Rattle.fd_core.specs.Batches.{IsBounded, rows}
-use Rattle.fd_core.specs.Machine.{after, effect, fields_name, file_of, index_name, is_empty, is_in_phase, possible, put_file, put_writer, writer_of}
+use Rattle.fd_core.specs.Machine.{after, effect, entry_of, fields_name, file_of, index_name, is_empty, is_in_phase, possible, put_file, put_writer, writer_of}
 use Rattle.fd_core.specs.Took.{IsPlace, IsReached}
 use Rattle.fd_core.proofs.Images.{and_true}
 use Rattle.fd_core.proofs.Steps.{in_other}
-use Rattle.fd_core.proofs.Reached.{done, phase_put, place_is, reached_up, up_and}
+use Rattle.fd_core.proofs.Reached.{done, phase_put, place_is, reached_few, reached_up, up_and}
 
 -- the batch of a writer is one that a table may list
 pub reached_bounded : (s : World) (w : ℕ) → IsReached s → s.down ≡ false → IsBounded (writer_of s w).pairs
@@ -60,4 +62,36 @@ pub sync_index_done : (s : World) (w i : ℕ) (x : Writer) (fs : List NamedFile)
 sync_index_done s w i x fs ws up place at phase is made =
     files_done s w i x fs ws Written Sealed (λ y. put_file s.files (index_name y) (synced (file_of s.files (index_name y)))) (SyncIndex w) place at phase is made
     (up_and s.down (is_in_phase (writer_of s w) Written) up (phase_put s w i x ws Written Sealed place at phase made).0)
+    refl
+
+-- the batches can be counted in 16 bits, by the length that the code takes
+pub count_few : (s : World) (n : ℕ) → IsReached s → n ≡ length s.history → n ≤ 65535
+count_few s n r is = let few = reached_few s r in omega (arith, few, is)
+
+-- a step that writes into the table and moves the writer from one phase to another
+table_done : (s : World) (w i : ℕ) (x : Writer) (t : File) (ws : List Writer) (p q : Phase) (F : Writer → File) (step : Step) → IsPlace s.writers w i → slice_get s.writers i ≡ Some x → is_in_phase x p ≡ true
+    → t ≡ F x → ((x : Writer) → slice_get s.writers i ≡ Some x → ws ≡ slice_set s.writers i (in_other x q)) → possible s step ≡ true
+    → effect s step ≡ record s { table = F (writer_of s w); writers = put_writer s.writers (in_other (writer_of s w) q) } → record s { table = t; writers = ws } ≡ after s step
+table_done s w i x t ws p q F step place at phase is made may does =
+    let put = phase_put s w i x ws p q place at phase made in
+    ap (λ (t : File). record s { table = t; writers = ws }) (is ∙ ap F (place_is s w i x place at))
+    ∙ ap (λ (ws : List Writer). record s { table = F (writer_of s w); writers = ws }) put.1
+    ∙ sym does ∙ sym (done s step may)
+
+none_of : (o : Option Entry) → is_some o ≡ false → is_none o ≡ true
+none_of None e = refl
+none_of (Some v) e = absurd (cc e)
+
+-- what the code wrote of an entry at a gate is the body that the definition writes
+pub body_written : (f : File) (n : ℕ) (x : Writer) (gate : ℕ) (e : Entry) (bytes : List ℕ) (g : File) → gate ≡ gate_at n → e ≡ entry_of x → bytes ≡ body_of e ++ 0 ∷ [] → g ≡ written f (gate + 1) bytes → g ≡ with_body f n (entry_of x)
+body_written f n x gate e bytes g place entry body is =
+    is ∙ ap (λ (p : ℕ). written f (p + 1) bytes) place ∙ ap (written f (gate_at n + 1)) (body ∙ ap (λ (e : Entry). body_of e ++ 0 ∷ []) entry)
+
+pub body_done : (s : World) (w i : ℕ) (x : Writer) (t : File) (ws : List Writer) → s.down ≡ false → is_some s.doubt ≡ false → IsPlace s.writers w i → slice_get s.writers i ≡ Some x → is_in_phase x Holding ≡ true
+    → t ≡ with_body s.table (length s.history) (entry_of x)
+    → ((x : Writer) → slice_get s.writers i ≡ Some x → ws ≡ slice_set s.writers i (in_other x BodyLoose)) → record s { table = t; writers = ws } ≡ after s (Body w)
+body_done s w i x t ws up doubt place at phase is made =
+    table_done s w i x t ws Holding BodyLoose (λ y. with_body s.table (length s.history) (entry_of y)) (Body w) place at phase is made
+    (up_and s.down (is_in_phase (writer_of s w) Holding && is_none s.doubt) up
+    (and_true (is_in_phase (writer_of s w) Holding) (is_none s.doubt) (phase_put s w i x ws Holding BodyLoose place at phase made).0 (none_of s.doubt doubt)))
     refl

@@ -1,5 +1,5 @@
 -- What a step answers.
-use Rattle.std.specs.Prelude.{◌≡◌, ◌<◌, ℕ, length, slice_get, slice_set, List, [], if◌then◌else◌, Option, Some, None}
+use Rattle.std.specs.Prelude.{◌≡◌, ◌<◌, ℕ, length, slice_get, slice_set, List, [], false, if◌then◌else◌, Option, Some, None}
 use Rattle.fd_core.specs.declared.table.Entry.{Entry}
 use Rattle.fd_core.specs.Table.{IsTable}
 use Rattle.fd_core.specs.World.{World}
@@ -9,7 +9,8 @@ use Rattle.fd_core.specs.declared.machine.Step.TheVariants.{Put, SyncData, Write
 use Rattle.fd_core.specs.declared.machine.Answer.TheVariants.{Found, Miss}
 use Rattle.fd_core.specs.declared.machine.Took.{Took}
 use Rattle.fd_core.specs.declared.machine.Took.TheVariants.{No, Yes, Answer}
-use Rattle.fd_core.specs.Machine.{possible, answer, run, start, writer_in, put_writer}
+use Rattle.fd_core.specs.declared.machine.Phase.{Phase}
+use Rattle.fd_core.specs.Machine.{possible, answer, run, start, writer_in, writer_of, put_writer}
 
 abbrev pub answered : Option (List ℕ) → Took
 answered (Some bytes) = Answer (Found bytes)
@@ -48,6 +49,12 @@ pub record IsPlace (xs : List Writer) (w i : ℕ) : Type 0 where
   pub inside : i < length xs
   pub writer : (o : Writer) → slice_get xs i ≡ Some (writer_in xs w o)
   pub put : (y : Writer) → y.id ≡ w → put_writer xs y ≡ slice_set xs i y
+
+-- the machine is up, and the writer stands at this place of its list and has come this far
+pub record IsAt (s : World) (w i : ℕ) (p : Phase) : Type 0 where
+  pub up : s.down ≡ false
+  pub place : IsPlace s.writers w i
+  pub phase : (writer_of s w).phase ≡ p
 
 -- the bytes are a table of some entries
 pub record ListsSome (bytes : List ℕ) : Type 0 where

@@ -1,12 +1,40 @@
 ghost use Rattle.std.specs.Prelude.{◌≡◌, IfOk, OnOk, OnErr};
 ghost use Rattle.fd_core.specs.Machine.{after};
 ghost use Rattle.fd_core.specs.Took.{took_of};
-ghost use Rattle.fd_core.specs.declared.machine.Step.TheVariants.{Gate, CloseGate};
+ghost use Rattle.fd_core.specs.declared.machine.Step.TheVariants.{Body, Gate, CloseGate};
 
 use crate::files::write_file;
+use crate::rows::entry_of;
+use crate::table::{CLOSED, OPEN, gate_at};
 use crate::{Phase, State, Took};
 use fd_bytes::NoMemory;
 use std::alloc::Global;
+
+/// The entry's body and the closed gate behind it are written, where nothing is in doubt.
+pub(crate) fn body(alloc: Global, state: &mut State, w: u32) -> Result<Took, NoMemory>
+    ensures took { IfOk result (λ t. t ≡ took_of state.old (Body w)) }
+    ensures ok { OnOk result (state.new ≡ after state.old (Body w)) }
+    ensures err { OnErr result (state.new ≡ state.old) }
+{
+    if state.down {
+        return Ok(Took::No);
+    }
+    if state.doubt.is_some() {
+        return Ok(Took::No);
+    }
+    let Some(i) = state.writers.place(w) else {
+        return Ok(Took::No);
+    };
+    let writer = state.writers.at(i);
+    if !writer.is_in(Phase::Holding) {
+        return Ok(Took::No);
+    }
+    let body = entry_of(writer).body();
+    let gate = gate_at(state.history.len());
+    write_file(alloc, &mut state.table, gate + 1, &body)?;
+    state.writers.set_phase(i, Phase::BodyLoose);
+    Ok(Took::Yes)
+}
 
 /// The gate before the entry is opened.
 pub(crate) fn gate(alloc: Global, state: &mut State, w: u32) -> Result<Took, NoMemory>
@@ -23,8 +51,8 @@ pub(crate) fn gate(alloc: Global, state: &mut State, w: u32) -> Result<Took, NoM
     if !state.writers.at(i).is_in(Phase::BodyFirm) {
         return Ok(Took::No);
     }
-    let n = state.history.len();
-    write_file(alloc, &mut state.table, 320 + 64 * n, &[79])?;
+    let gate = gate_at(state.history.len());
+    write_file(alloc, &mut state.table, gate, &[OPEN])?;
     state.writers.set_phase(i, Phase::GateLoose);
     Ok(Took::Yes)
 }
@@ -47,8 +75,8 @@ pub(crate) fn close_gate(alloc: Global, state: &mut State, w: u32) -> Result<Too
     if !state.writers.at(i).is_in(Phase::Holding) {
         return Ok(Took::No);
     }
-    let n = state.history.len();
-    write_file(alloc, &mut state.table, 320 + 64 * n, &[0])?;
+    let gate = gate_at(state.history.len());
+    write_file(alloc, &mut state.table, gate, &[CLOSED])?;
     state.writers.set_phase(i, Phase::Closing);
     Ok(Took::Yes)
 }

@@ -1,7 +1,8 @@
 ghost use Rattle.fd_core.specs.Batches.{IsBounded, distinct, has_key, rows, rows_from, total};
+ghost use Rattle.fd_core.specs.Machine.{entry_of};
 ghost use Rattle.std.specs.Prelude.{◌≡◌, ◌≤◌, ◌<◌, ◌+◌, ◌^◌, ◌++◌, [], ◌∷◌, length, drop, IfOk, OnOk};
 
-use crate::{Batch, Pair};
+use crate::{Batch, Entry, Pair, Writer};
 use fd_bytes::NoMemory;
 use std::alloc::Global;
 
@@ -52,6 +53,20 @@ pub(crate) fn distinct_of(batch: &Batch) -> usize
         }
     }
     count
+}
+
+/// What the table says of a writer's batch.
+pub(crate) fn entry_of(writer: &Writer) -> Entry
+    requires { IsBounded writer.now.pairs }
+    ensures { result ≡ entry_of writer.now }
+{
+    Entry {
+        writer: writer.id,
+        seq: writer.seq,
+        fields: distinct_of(&writer.pairs) as u32,
+        index_len: rows_len(&writer.pairs),
+        fields_len: total_of(&writer.pairs),
+    }
 }
 
 /// The rows of a batch: for each pair in order the key's length, the key, and the place and the length of the bytes.

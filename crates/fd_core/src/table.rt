@@ -1,3 +1,21 @@
+ghost use Rattle.std.specs.Prelude.{◌≡◌, ◌≤◌, ◌<◌, ◌^◌, ◌++◌, [], ◌∷◌};
+ghost use Rattle.fd_core.specs.Table.{body_of, gate_at};
+
+/// The byte of an open gate.
+pub(crate) const OPEN: u8 = 0x4F;
+
+/// The byte of a closed gate as it is written; a reader takes every byte but `OPEN` for a closed gate.
+pub(crate) const CLOSED: u8 = 0;
+
+/// The place of a gate in the table.
+pub(crate) fn gate_at(number: usize) -> usize
+    requires { number ≤ 65535 }
+    ensures place { result ≡ gate_at number }
+    ensures small { result < 2 ^ 32 }
+{
+    320 + 64 * number
+}
+
 /// A batch that a table lists, by the two files in which it stands.
 #[derive(Clone, Copy, Debug, PartialEq, Eq)]
 pub struct Entry {
@@ -11,6 +29,25 @@ pub struct Entry {
     pub index_len: u64,
     /// The length of the field file in bytes.
     pub fields_len: u64,
+}
+
+impl Entry {
+    /// What is written to list the entry: the 63 bytes behind its gate, and the next gate, which is closed.
+    pub fn body(&self) -> [u8; 64]
+        ensures { result ≡ body_of self.now ++ 0 ∷ [] }
+    {
+        let w = self.writer.to_be_bytes();
+        let s = self.seq.to_be_bytes();
+        let f = self.fields.to_be_bytes();
+        let x = self.index_len.to_be_bytes();
+        let y = self.fields_len.to_be_bytes();
+        [
+            1, w[0], w[1], w[2], w[3], s[0], s[1], s[2], s[3], f[0], f[1], f[2], f[3], x[0], x[1],
+            x[2], x[3], x[4], x[5], x[6], x[7], y[0], y[1], y[2], y[3], y[4], y[5], y[6], y[7], 0,
+            0, 0, 0, 0, 0, 0, 0, 0, 0, 0, 0, 0, 0, 0, 0, 0, 0, 0, 0, 0, 0, 0, 0, 0, 0, 0, 0, 0, 0,
+            0, 0, 0, 0, 0,
+        ]
+    }
 }
 
 /// The first octet of a table that is not in the format.

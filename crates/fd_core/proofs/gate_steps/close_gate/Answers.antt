@@ -1,24 +1,22 @@
-use Rattle.std.proofs.Common.{sym, ◌∙◌, ap, subst, arith}
+use Rattle.std.proofs.Common.{◌≡◌, ℕ, List, true, false, sym, ◌∙◌, ap, subst, arith, [], ◌∷◌}
 use Rattle.fd_core.specs.World.{World}
 use Rattle.fd_core.specs.Took.{IsReached}
 use Rattle.fd_core.specs.Machine.{after}
 use Rattle.fd_core.specs.declared.machine.Step.TheVariants.{CloseGate}
-use Rattle.fd_core.proofs.Reached.{close_gate_done, reached_step, reached_few}
+use Rattle.fd_core.proofs.Reached.{reached_step}
+use Rattle.fd_core.proofs.Reached.{close_gate_done}
+use Rattle.fd_core.proofs.FillSteps.{count_few}
+use Rattle.fd_disk.specs.Images.{written}
 use Rattle.fd_core.proofs.gate_steps.close_gate.Goals as goal
 
-pub overflow_mul-n : goal.overflow_mul-n
-overflow_mul-n c = let few = reached_few _ c.state.invariant in omega (arith, few, c.len-n.ensures)
-
-pub overflow_add-n : goal.overflow_add-n
-overflow_add-n c = let few = reached_few _ c.state.invariant in omega (arith, few, c.len-n.ensures)
-
-pub write_file-requires : goal.write_file-requires
-write_file-requires c = let few = reached_few _ c.state.invariant in omega (arith, few, c.len-n.ensures)
+pub gate_at-gate-requires : goal.gate_at-gate-requires
+gate_at-gate-requires c = count_few (record { table = c.state.inside.table; files = c.state.inside.files; history = c.state.inside.history; writers = c.state.inside.writers; owner = c.state.inside.owner; doubt = c.state.inside.doubt; readers = c.state.inside.readers; down = c.state.inside.down }) c.len.result c.state.invariant c.len.ensures
 
 pub returns-clause-ok : goal.returns-clause-ok
 returns-clause-ok c =
     let s : World = record { table = c.state.inside.table; files = c.state.inside.files; history = c.state.inside.history; writers = c.state.inside.writers; owner = c.state.inside.owner; doubt = c.state.inside.doubt; readers = c.state.inside.readers; down = c.state.inside.down } in
-    close_gate_done s c.args.w c.in-Some.i c.len-n.result c.at.result.now c.write_file.new.file c.set_phase.new.self c.if-state.false (sym c.is_some.ensures ∙ c.if-not-is_some.false) c.in-Some.ensures.some c.at.ensures (sym c.is_in.ensures ∙ c.if-not-is_in.false) c.len-n.ensures c.in_ok-write_file.ensures.ok c.set_phase.ensures
+    close_gate_done s c.args.w c.in-Some.i c.len.result c.at.result.now c.write_file.new.file c.set_phase.new.self c.if-state.false (sym c.is_some.ensures ∙ c.if-not-is_some.false) c.in-Some.ensures.some c.at.ensures (sym c.is_in.ensures ∙ c.if-not-is_in.false) c.len.ensures
+    (c.in_ok-write_file.ensures.ok ∙ ap (λ (n : ℕ). written s.table n (0 ∷ [])) c.gate_at-gate.ensures.place) c.set_phase.ensures
     ∙ ap (λ (t : World). after t (CloseGate c.args.w)) c.state.view_is
 
 pub invariant_of-state-2 : goal.invariant_of-state-2
