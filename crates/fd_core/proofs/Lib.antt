@@ -20,3 +20,4 @@ mod SlotNumbers
 mod FilePlaces
 mod BatchSums
 mod FillSteps
+mod FailSteps

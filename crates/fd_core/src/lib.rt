@@ -3,6 +3,7 @@
 #![tactic(auto)]
 
 mod batch;
+mod fail_steps;
 mod files;
 mod fill_steps;
 mod gate_steps;

@@ -1,0 +1,31 @@
+use Rattle.std.proofs.Common.{◌≡◌, ℕ, List, true, false, sym, ◌∙◌, ap, subst, arith, length, IsNone}
+use Rattle.fd_core.specs.World.{World}
+use Rattle.fd_core.specs.Took.{IsReached}
+use Rattle.fd_core.specs.Machine.{after}
+use Rattle.fd_core.specs.declared.machine.Step.TheVariants.{Fail}
+use Rattle.fd_core.proofs.Reached.{reached_step}
+use Rattle.fd_core.proofs.FailSteps.{fail_body_done}
+use Rattle.fd_core.specs.Took.{IsAt}
+use Rattle.fd_core.specs.declared.machine.Phase.TheVariants.{Holding}
+use Rattle.fd_core.proofs.FillSteps.{body_written, count_few, place_bounded}
+use Rattle.fd_core.specs.Table.{gate_at}
+use Rattle.fd_core.proofs.fail_steps.fail_body.Goals as goal
+
+pub entry_of-requires : goal.entry_of-requires
+entry_of-requires c =
+    let at = subst (λ (t : World). IsAt t c.args.w c.args.i Holding) (sym c.state.view_is) c.requires.at in
+    place_bounded (record { table = c.state.inside.table; files = c.state.inside.files; history = c.state.inside.history; writers = c.state.inside.writers; owner = c.state.inside.owner; doubt = c.state.inside.doubt; readers = c.state.inside.readers; down = c.state.inside.down }) c.args.w c.args.i c.at.result.now c.state.invariant at.up at.place c.at.ensures
+
+pub gate_at-gate-requires : goal.gate_at-gate-requires
+gate_at-gate-requires c = count_few (record { table = c.state.inside.table; files = c.state.inside.files; history = c.state.inside.history; writers = c.state.inside.writers; owner = c.state.inside.owner; doubt = c.state.inside.doubt; readers = c.state.inside.readers; down = c.state.inside.down }) c.len.result c.state.invariant c.len.ensures
+
+pub returns-clause-ok : goal.returns-clause-ok
+returns-clause-ok c =
+    let s : World = record { table = c.state.inside.table; files = c.state.inside.files; history = c.state.inside.history; writers = c.state.inside.writers; owner = c.state.inside.owner; doubt = c.state.inside.doubt; readers = c.state.inside.readers; down = c.state.inside.down } in
+    let at = subst (λ (t : World). IsAt t c.args.w c.args.i Holding) (sym c.state.view_is) c.requires.at in
+    fail_body_done s c.args.w c.args.i c.at.result.now c.write_file.new.file c.set_phase.new.self at (subst (λ (t : World). IsNone t.doubt) (sym c.state.view_is) c.requires.no_doubt) c.at.ensures
+    (body_written s.table (length s.history) c.at.result.now c.gate_at-gate.result c.entry_of.result c.body-body.result c.write_file.new.file (c.gate_at-gate.ensures.place ∙ ap gate_at c.len.ensures) c.entry_of.ensures c.body-body.ensures c.in_ok-write_file.ensures.ok) c.set_phase.ensures
+    ∙ ap (λ (t : World). after t (Fail c.args.w)) c.state.view_is
+
+pub invariant_of-state-2 : goal.invariant_of-state-2
+invariant_of-state-2 c = subst IsReached (sym (returns-clause-ok c)) (subst (λ (t : World). IsReached (after t (Fail c.args.w))) c.state.view_is (reached_step _ (Fail c.args.w) c.state.invariant))
