@@ -4,6 +4,8 @@ use Rattle.std.proofs.lemmas.List.{append-nil}
 use Rattle.std.specs.Cmp.Lexicographic.{pointwise}
 use Rattle.std.specs.Int.{w16, w64, to_be_bytes}
 use Rattle.fd_core.specs.declared.batch.Pair.{Pair}
+use Rattle.std.proofs.lemmas.Bool.Decides.{nat_tests}
+use Rattle.fd_core.proofs.Images.{bytes_same}
 use Rattle.fd_core.specs.Batches.{KeysFit, distinct, has_key, rows_from, same_bytes, total}
 
 -- the rest of a list begins with what stands at the place
@@ -67,3 +69,58 @@ same_as_eq [] [] = refl
 same_as_eq [] (y ∷ ys) = refl
 same_as_eq (x ∷ xs) [] = refl
 same_as_eq (x ∷ xs) (y ∷ ys) = ap (λ (b : Bool). (x == y) && b) (same_as_eq xs ys)
+
+-- one pair more
+pub total_push : (ps : List Pair) (p : Pair) → total (ps ++ p ∷ []) ≡ total ps + length p.bytes
+total_push [] p = omega arith
+total_push (x ∷ ps) p = let ih = total_push ps p in omega (arith, ih)
+
+rows_push_at : (at : ℕ) (ps : List Pair) (p : Pair) → length (rows_from at (ps ++ p ∷ [])) ≡ length (rows_from at ps) + (18 + length p.key)
+rows_push_at at [] p = let a = row_longer at p [] in omega (arith, a)
+rows_push_at at (x ∷ ps) p =
+    let ih = rows_push_at (at + length x.bytes) ps p in
+    let a = row_longer at x (ps ++ p ∷ []) in
+    let b = row_longer at x ps in
+    omega (arith, ih, a, b)
+
+pub rows_length_push : (ps : List Pair) (p : Pair) → length (rows_from 0 (ps ++ p ∷ [])) ≡ length (rows_from 0 ps) + (18 + length p.key)
+rows_length_push ps p = rows_push_at 0 ps p
+
+same_sym : (xs ys : List ℕ) → same_bytes xs ys ≡ same_bytes ys xs
+same_sym [] [] = refl
+same_sym [] (y ∷ ys) = refl
+same_sym (x ∷ xs) [] = refl
+same_sym (x ∷ xs) (y ∷ ys) = ap (λ (b : Bool). b && same_bytes xs ys) (swap x y) ∙ ap (λ (b : Bool). (y == x) && b) (same_sym xs ys)
+  where
+    swap : (x y : ℕ) → (x == y) ≡ (y == x)
+    swap x y = grind (arith, nat_tests)
+
+has_push : (ps : List Pair) (p : Pair) (key : List ℕ) → has_key (ps ++ p ∷ []) key ≡ (has_key ps key || same_bytes p.key key)
+has_push [] p key = or_false (same_bytes p.key key)
+  where
+    or_false : (b : Bool) → (b || false) ≡ b
+    or_false true = refl
+    or_false false = refl
+has_push (x ∷ ps) p key = ap (λ (b : Bool). same_bytes x.key key || b) (has_push ps p key) ∙ or_assoc (same_bytes x.key key) (has_key ps key) (same_bytes p.key key)
+  where
+    or_assoc : (a b c : Bool) → (a || (b || c)) ≡ ((a || b) || c)
+    or_assoc true b c = refl
+    or_assoc false b c = refl
+
+pub distinct_push : (ps : List Pair) (p : Pair) → distinct (ps ++ p ∷ []) ≡ (if has_key ps p.key then distinct ps else distinct ps + 1)
+distinct_push [] p = refl
+distinct_push (x ∷ ps) p =
+    ap (λ (b : Bool). (if b then 0 else 1) + distinct (ps ++ p ∷ [])) (has_push ps p x.key ∙ ap (λ (b : Bool). has_key ps x.key || b) (same_sym p.key x.key))
+    ∙ ap (λ (n : ℕ). (if has_key ps x.key || same_bytes x.key p.key then 0 else 1) + n) (distinct_push ps p)
+    ∙ cases (has_key ps x.key) (same_bytes x.key p.key) (has_key ps p.key) (distinct ps) (λ is. ap (has_key ps) (bytes_same x.key p.key is))
+  where
+    cases : (a d c : Bool) (n : ℕ) → (d ≡ true → a ≡ c) → (if a || d then 0 else 1) + (if c then n else n + 1) ≡ (if d || c then (if a then 0 else 1) + n else (if a then 0 else 1) + n + 1)
+    cases a true c n same = ap (λ (b : Bool). (if b || true then 0 else 1) + (if c then n else n + 1)) (same refl) ∙ both c n ∙ sym (ap (λ (b : Bool). (if b then 0 else 1) + n) (same refl))
+      where
+        both : (c : Bool) (n : ℕ) → (if c || true then 0 else 1) + (if c then n else n + 1) ≡ (if c then 0 else 1) + n
+        both true n = refl
+        both false n = omega arith
+    cases true false true n same = refl
+    cases true false false n same = omega arith
+    cases false false true n same = refl
+    cases false false false n same = omega arith

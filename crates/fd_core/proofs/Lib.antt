@@ -21,3 +21,4 @@ mod FilePlaces
 mod BatchSums
 mod FillSteps
 mod FailSteps
+mod PutSteps

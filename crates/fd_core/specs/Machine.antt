@@ -164,6 +164,10 @@ abbrev pub possible : World → Step → Bool
 possible s Reopen = s.down
 possible s step = not s.down && can s step
 
+-- the writer with other pairs
+abbrev pub filled : Writer → List Pair → Writer
+filled x pairs = record { id = x.id; pairs = pairs; phase = x.phase; seq = x.seq }
+
 -- the writer in another phase
 abbrev pub gone_to : Writer → Phase → Writer
 gone_to x p = record { id = x.id; pairs = x.pairs; phase = p; seq = x.seq }
@@ -220,7 +224,7 @@ effect s (Put w key bytes) =
     let x = writer_of s w in
     record s {
       files = put_file s.files (fields_name x) (written (file_of s.files (fields_name x)) (total x.pairs) bytes);
-      writers = put_writer s.writers (record { id = x.id; pairs = with_pair x.pairs key bytes; phase = x.phase; seq = x.seq });
+      writers = put_writer s.writers (filled x (with_pair x.pairs key bytes));
     }
 effect s (SyncData w) =
     let x = writer_of s w in

@@ -105,6 +105,22 @@ impl Files {
         self.push(NamedFile { name, file })
     }
 
+    /// The file under a name after a write into it; the file itself is as before.
+    pub(crate) fn written(
+        &self,
+        alloc: Global,
+        name: FileName,
+        at: usize,
+        bytes: &[u8],
+    ) -> Result<File, NoMemory>
+        requires { at + length bytes.now < 2 ^ 63 }
+        ensures { IfOk result (λ f. f ≡ written (file_of self.now name) at bytes.now) }
+    {
+        let mut file = self.copy_of(alloc, name)?;
+        write_file(alloc, &mut file, at, bytes)?;
+        Ok(file)
+    }
+
     /// Writes into the file under a name. After `NoMemory` nothing has changed.
     pub(crate) fn write(
         &mut self,
@@ -117,8 +133,7 @@ impl Files {
         ensures ok { OnOk result (self.new ≡ put_file self.old name (written (file_of self.old name) at bytes.now)) }
         ensures err { OnErr result (self.new ≡ self.old) }
     {
-        let mut file = self.copy_of(alloc, name)?;
-        write_file(alloc, &mut file, at, bytes)?;
+        let file = self.written(alloc, name, at, bytes)?;
         self.put(name, file)
     }
 

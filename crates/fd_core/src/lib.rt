@@ -10,6 +10,7 @@ mod gate_steps;
 mod law;
 mod machine;
 mod numbers;
+mod put_step;
 mod rows;
 mod state;
 mod sync_steps;

@@ -1,7 +1,9 @@
-ghost use Rattle.fd_core.specs.Machine.{code, is_in_phase};
+ghost use Rattle.fd_core.specs.Batches.{IsBounded};
+ghost use Rattle.fd_core.specs.Machine.{can_put, code, is_in_phase};
 ghost use Rattle.std.specs.Prelude.{◌≡◌};
 
 use crate::Batch;
+use crate::rows::{distinct_with, rows_len, total_of};
 use fd_bytes::{Bytes, Items};
 use fd_disk::{File, FileName};
 
@@ -71,6 +73,33 @@ impl Writer {
         ensures { result ≡ is_in_phase self.now phase }
     {
         self.phase.code() == phase.code()
+    }
+
+    /// Tells that a pair may be put: the writer is filling its batch and has a number that may put, and the batch with
+    /// the pair stays within the bounds of an entry.
+    pub(crate) fn can_put(&self, key: &[u8], bytes: &[u8]) -> bool
+        requires { IsBounded self.now.pairs }
+        ensures { result ≡ can_put self.now key.now bytes.now }
+    {
+        if !self.is_in(Phase::Filling) {
+            return false;
+        }
+        if self.id == 0 {
+            return false;
+        }
+        if self.id > 65536 {
+            return false;
+        }
+        if key.len() > 256 {
+            return false;
+        }
+        if distinct_with(&self.pairs, key) > 65536 {
+            return false;
+        }
+        if bytes.len() as u64 >= (1 << 63) - total_of(&self.pairs) {
+            return false;
+        }
+        18 + (key.len() as u64) < (1 << 63) - rows_len(&self.pairs)
     }
 }
 

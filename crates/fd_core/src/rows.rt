@@ -1,6 +1,6 @@
 ghost use Rattle.fd_core.specs.Batches.{IsBounded, distinct, has_key, rows, rows_from, total};
-ghost use Rattle.fd_core.specs.Machine.{entry_of};
-ghost use Rattle.std.specs.Prelude.{◌≡◌, ◌≤◌, ◌<◌, ◌+◌, ◌^◌, ◌++◌, [], ◌∷◌, length, drop, IfOk, OnOk};
+ghost use Rattle.fd_core.specs.Machine.{entry_of, with_pair};
+ghost use Rattle.std.specs.Prelude.{◌≡◌, ◌≤◌, ◌<◌, ◌+◌, ◌^◌, ◌++◌, [], ◌∷◌, length, drop, List, ℕ, IfOk, OnOk};
 
 use crate::{Batch, Entry, Pair, Writer};
 use fd_bytes::NoMemory;
@@ -53,6 +53,19 @@ pub(crate) fn distinct_of(batch: &Batch) -> usize
         }
     }
     count
+}
+
+/// The number of distinct keys after one more pair with this key.
+pub(crate) fn distinct_with(batch: &Batch, key: &[u8]) -> usize
+    requires { distinct batch.now ≤ 65536 }
+    ensures { (bytes : List ℕ) → result ≡ distinct (with_pair batch.now key.now bytes) }
+{
+    let count = distinct_of(batch);
+    if has_key_from(batch, 0, key) {
+        count
+    } else {
+        count + 1
+    }
 }
 
 /// What the table says of a writer's batch.

@@ -1,10 +1,12 @@
-ghost use Rattle.fd_core.specs.Machine.{writer_in, put_writer, gone_to};
+ghost use Rattle.fd_core.specs.Machine.{filled, gone_to, put_writer, writer_in};
 ghost use Rattle.fd_core.specs.Took.{IsPlace};
+ghost use Rattle.fd_core.specs.declared.batch.Pair.{Pair};
 ghost use Rattle.fd_core.specs.declared.machine.Writer.{Writer};
 ghost use Rattle.fd_core.specs.declared.machine.Phase.TheVariants.{Filling};
-ghost use Rattle.std.specs.Prelude.{◌≡◌, ◌<◌, ◌+◌, ◌^◌, [], Some, IfSome, IfNone, length, slice_get, slice_set};
+ghost use Rattle.std.specs.Prelude.{◌≡◌, ◌<◌, ◌+◌, ◌^◌, ◌++◌, ◌∷◌, List, [], OnOk, OnErr, Some, IfSome, IfNone, length, slice_get, slice_set};
 
-use crate::{Phase, Writer};
+use crate::{Pair, Phase, Writer};
+use fd_bytes::NoMemory;
 use std::alloc::Global;
 use std::marker::Model;
 
@@ -72,5 +74,38 @@ impl Writers {
         writer.pairs.clear();
         writer.phase = Phase::Filling;
         writer.seq += 1;
+    }
+
+    /// Appends a pair to the batch of the writer at this place. After `NoMemory` nothing has changed.
+    pub(crate) fn push_pair(&mut self, i: usize, pair: Pair) -> Result<(), NoMemory>
+        requires { i < length self.old }
+        ensures ok { OnOk result ((x : Writer) → slice_get self.old i ≡ Some x → self.new ≡ slice_set self.old i (filled x (x.pairs ++ pair ∷ []))) }
+        ensures err { OnErr result (self.new ≡ self.old) }
+    {
+        self.items[i].pairs.push(pair)
+    }
+
+    /// Takes the last pair away from the batch of the writer at this place.
+    pub(crate) fn drop_pair(&mut self, i: usize)
+        requires { i < length self.old }
+        ensures { (x : Writer) (ps : List Pair) (p : Pair) → slice_get self.old i ≡ Some x → x.pairs ≡ ps ++ p ∷ [] → self.new ≡ slice_set self.old i (filled x ps) }
+    {
+        self.items[i].pairs.drop_last();
+    }
+
+    /// Appends a writer. After `NoMemory` nothing has changed.
+    pub(crate) fn push(&mut self, writer: Writer) -> Result<(), NoMemory>
+        ensures ok { OnOk result (self.new ≡ self.old ++ writer ∷ []) }
+        ensures err { OnErr result (self.new ≡ self.old) }
+    {
+        self.items.push(writer)?;
+        Ok(())
+    }
+
+    /// Takes the last writer away.
+    pub(crate) fn drop_last(&mut self)
+        ensures { (xs : List Writer) (x : Writer) → self.old ≡ xs ++ x ∷ [] → self.new ≡ xs }
+    {
+        self.items.pop();
     }
 }
