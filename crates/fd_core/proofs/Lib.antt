@@ -22,3 +22,4 @@ mod BatchSums
 mod FillSteps
 mod FailSteps
 mod PutSteps
+mod CrashSteps

@@ -49,13 +49,13 @@ impl Files {
         None
     }
 
-    fn len(&self) -> usize
+    pub(crate) fn len(&self) -> usize
         ensures { result ≡ length self.now }
     {
         self.items.len()
     }
 
-    fn at(&self, i: usize) -> &NamedFile
+    pub(crate) fn at(&self, i: usize) -> &NamedFile
         requires { i < length self.now }
         ensures { slice_get self.now i ≡ Some result.now }
     {
@@ -69,7 +69,7 @@ impl Files {
         self.items[i] = file;
     }
 
-    fn push(&mut self, file: NamedFile) -> Result<(), NoMemory>
+    pub(crate) fn push(&mut self, file: NamedFile) -> Result<(), NoMemory>
         ensures ok { OnOk result (self.new ≡ self.old ++ file ∷ []) }
         ensures err { OnErr result (self.new ≡ self.old) }
     {

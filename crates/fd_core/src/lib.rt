@@ -3,6 +3,7 @@
 #![tactic(auto)]
 
 mod batch;
+mod crash_steps;
 mod fail_steps;
 mod files;
 mod fill_steps;
