@@ -23,3 +23,4 @@ mod FillSteps
 mod FailSteps
 mod PutSteps
 mod CrashSteps
+mod RowReading

@@ -31,7 +31,7 @@ rows_of at [] = []
 rows_of at (p ∷ ps) = record { key = p.key; at = at; len = length p.bytes } ∷ rows_of (at + length p.bytes) ps
 
 -- what stands behind the key of a row
-abbrev behind : ℕ → ℕ → List ℕ → List ℕ
+abbrev pub behind : ℕ → ℕ → List ℕ → List ℕ
 behind at len rest = to_be_bytes w64 at ++ to_be_bytes w64 len ++ rest
 
 key_behind : (h1 h2 : ℕ) (key rest : List ℕ) → drop (2 + length key) (h1 ∷ h2 ∷ (key ++ rest)) ≡ rest
@@ -40,7 +40,7 @@ key_behind h1 h2 key rest = sym (drop-drop (length key) 2 (h1 ∷ h2 ∷ (key ++
 later_behind : (n h1 h2 : ℕ) (key rest : List ℕ) → drop ((2 + length key) + n) (h1 ∷ h2 ∷ (key ++ rest)) ≡ drop n rest
 later_behind n h1 h2 key rest = sym (drop-drop n (2 + length key) (h1 ∷ h2 ∷ (key ++ rest))) ∙ ap (drop n) (key_behind h1 h2 key rest)
 
-row_back : (h1 h2 : ℕ) (key : List ℕ) (at len : ℕ) (rest : List ℕ) → at < 2 ^ 64 → len < 2 ^ 64
+pub row_back : (h1 h2 : ℕ) (key : List ℕ) (at len : ℕ) (rest : List ℕ) → at < 2 ^ 64 → len < 2 ^ 64
     → row_in (length key) (h1 ∷ h2 ∷ (key ++ behind at len rest)) ≡ record { key = key; at = at; len = len }
 row_back h1 h2 key at len rest sa sl =
     let all = h1 ∷ h2 ∷ (key ++ behind at len rest) in
@@ -54,12 +54,12 @@ row_back h1 h2 key at len rest sa sl =
     ∙ from_be_bytes-to_be_bytes_8 len sl in
     λ j. record { key = k j; at = a j; len = l j }
 
-rest_back : (h1 h2 : ℕ) (key : List ℕ) (at len : ℕ) (rest : List ℕ) → drop (18 + length key) (h1 ∷ h2 ∷ (key ++ behind at len rest)) ≡ rest
+pub rest_back : (h1 h2 : ℕ) (key : List ℕ) (at len : ℕ) (rest : List ℕ) → drop (18 + length key) (h1 ∷ h2 ∷ (key ++ behind at len rest)) ≡ rest
 rest_back h1 h2 key at len rest =
     let n : 18 + length key ≡ (2 + length key) + 16 = omega arith in
     ap (λ (n : ℕ). drop n (h1 ∷ h2 ∷ (key ++ behind at len rest))) n ∙ later_behind 16 h1 h2 key (behind at len rest)
 
-row_split : (at : ℕ) (p : Pair) (rest : List ℕ) → p.key ++ to_be_bytes w64 at ++ to_be_bytes w64 (length p.bytes) ++ rest ≡ p.key ++ behind at (length p.bytes) rest
+pub row_split : (at : ℕ) (p : Pair) (rest : List ℕ) → p.key ++ to_be_bytes w64 at ++ to_be_bytes w64 (length p.bytes) ++ rest ≡ p.key ++ behind at (length p.bytes) rest
 row_split at p rest = append_assoc (p.key ++ to_be_bytes w64 at) (to_be_bytes w64 (length p.bytes)) rest ∙ append_assoc p.key (to_be_bytes w64 at) (to_be_bytes w64 (length p.bytes) ++ rest)
 
 -- the rows that an index stands for are read back

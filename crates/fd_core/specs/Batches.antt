@@ -1,5 +1,5 @@
 -- Batches of pairs, the newest pair of a key, and the machine's plain index.
-use Rattle.std.specs.Prelude.{◌+◌, ◌<◌, ◌≤◌, ◌^◌, ◌==◌, ◌&&◌, ◌||◌, ℕ, zero, suc, Bool, true, false, List, [], ◌∷◌, ◌++◌, if◌then◌else◌, length, take, drop, Option, Some, None, option_map}
+use Rattle.std.specs.Prelude.{◌≡◌, ◌+◌, ◌<◌, ◌≤◌, ◌^◌, ◌==◌, ◌&&◌, ◌||◌, ℕ, zero, suc, Bool, true, false, List, [], ◌∷◌, ◌++◌, if◌then◌else◌, length, map, take, drop, Option, Some, None, option_map}
 use Rattle.std.specs.Int.{w16, w64, to_be_bytes, from_be_bytes}
 use Rattle.fd_core.specs.declared.batch.Pair.{Pair}
 
@@ -88,3 +88,15 @@ last_row (r ∷ rs) key = or_older (last_row rs key) (if same_bytes r.key key th
 -- what a pair of files gives for a key
 abbrev pub of_files : List ℕ → List ℕ → List ℕ → Option (List ℕ)
 of_files index fields key = option_map (λ r. take r.len (drop r.at fields)) (last_row (rows_read (length index) index) key)
+
+-- the pairs that a pair of files gives
+abbrev pub pairs_in : List ℕ → List ℕ → List Pair
+pairs_in index fields = map (λ r. record { key = r.key; bytes = take r.len (drop r.at fields) }) (rows_read (length index) index)
+
+-- the index and the fields of a batch that a table may list
+pub record HoldBatch (index fields : List ℕ) : Type 0 where
+  pub batch : List Pair
+  pub index_is : index ≡ rows batch
+  pub fields_is : fields ≡ joined batch
+  pub keys : KeysFit batch
+  pub sum : total batch < 2 ^ 63

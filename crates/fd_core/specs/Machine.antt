@@ -18,7 +18,7 @@ use Rattle.fd_core.specs.World.{World}
 use Rattle.fd_core.specs.declared.machine.Step.{Step}
 use Rattle.fd_core.specs.declared.machine.Step.TheVariants.{Put, SyncData, WriteIndex, SyncIndex, Take, Body, SyncBody, Gate, SyncGate, Post, Release, Look, Fetch, CloseGate, SyncClose, Fail, Crash, Reopen}
 use Rattle.fd_core.specs.Table.{header, gate_at, entry_in, listed, with_body, with_gate, with_closed}
-use Rattle.fd_core.specs.Batches.{of_files, distinct, total, rows, same_bytes, rows_read}
+use Rattle.fd_core.specs.Batches.{of_files, pairs_in, distinct, total, rows, same_bytes}
 
 -- files under their names; one that isn't there is empty
 abbrev pub file_of : List NamedFile → FileName → File
@@ -187,9 +187,7 @@ first_of_left (c ∷ cs) = c
 -- the batch that a listed entry's files give
 abbrev pub batch_in : List NamedFile → Entry → List Pair
 batch_in files e =
-    let index = (file_of files (record { writer = e.writer; seq = e.seq; kind = Index })).reads in
-    let fields = (file_of files (record { writer = e.writer; seq = e.seq; kind = Fields })).reads in
-    map (λ r. record { key = r.key; bytes = take r.len (drop r.at fields) }) (rows_read (length index) index)
+    pairs_in (file_of files (record { writer = e.writer; seq = e.seq; kind = Index })).reads (file_of files (record { writer = e.writer; seq = e.seq; kind = Fields })).reads
 
 -- one of the entries has the file
 abbrev pub is_listed : List Entry → FileName → Bool

@@ -13,6 +13,7 @@ mod machine;
 mod numbers;
 mod put_step;
 mod rows;
+mod segments;
 mod state;
 mod sync_steps;
 mod table;

@@ -1,5 +1,6 @@
-ghost use Rattle.std.specs.Prelude.{◌≡◌, ◌≤◌, ◌<◌, ◌^◌, ◌++◌, [], ◌∷◌};
-ghost use Rattle.fd_core.specs.Table.{body_of, gate_at};
+ghost use Rattle.std.specs.Prelude.{◌≡◌, ◌≤◌, ◌<◌, ◌^◌, ◌++◌, [], ◌∷◌, length};
+ghost use Rattle.std.specs.Int.{w32, w64, from_be_bytes};
+ghost use Rattle.fd_core.specs.Table.{body_of, entry_in, gate_at};
 
 /// The byte of an open gate.
 pub(crate) const OPEN: u8 = 0x4F;
@@ -14,6 +15,28 @@ pub(crate) fn gate_at(number: usize) -> usize
     ensures small { result < 2 ^ 32 }
 {
     320 + 64 * number
+}
+
+/// The number in four octets.
+pub(crate) fn number_4(bytes: &[u8]) -> u32
+    requires { length bytes.now ≡ 4 }
+    ensures { result ≡ from_be_bytes w32 bytes.now }
+{
+    match bytes {
+        [a, b, c, d] => u32::from_be_bytes([*a, *b, *c, *d]),
+        _ => unreachable!(),
+    }
+}
+
+/// The number in eight octets.
+pub(crate) fn number_8(bytes: &[u8]) -> u64
+    requires { length bytes.now ≡ 8 }
+    ensures { result ≡ from_be_bytes w64 bytes.now }
+{
+    match bytes {
+        [a, b, c, d, e, f, g, h] => u64::from_be_bytes([*a, *b, *c, *d, *e, *f, *g, *h]),
+        _ => unreachable!(),
+    }
 }
 
 /// A batch that a table lists, by the two files in which it stands.
@@ -32,6 +55,20 @@ pub struct Entry {
 }
 
 impl Entry {
+    /// The entry whose body begins these bytes, behind its gate.
+    pub fn from_body(bytes: &[u8]) -> Entry
+        requires { 63 ≤ length bytes.now }
+        ensures { result ≡ entry_in bytes.now }
+    {
+        Entry {
+            writer: number_4(&bytes[1..5]),
+            seq: number_4(&bytes[5..9]),
+            fields: number_4(&bytes[9..13]),
+            index_len: number_8(&bytes[13..21]),
+            fields_len: number_8(&bytes[21..29]),
+        }
+    }
+
     /// What is written to list the entry: the 63 bytes behind its gate, and the next gate, which is closed.
     pub fn body(&self) -> [u8; 64]
         ensures { result ≡ body_of self.now ++ 0 ∷ [] }
