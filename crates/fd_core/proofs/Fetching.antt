@@ -107,7 +107,7 @@ entry_at es bytes i f fit few lt =
     ∙ ap (λ (b : List ℕ). entry_in (drop (64 * i + 1) b)) (drop_at (header []) (slots_of es ++ f.rest) 320 refl)
     ∙ slot_at i 0 es f.rest fit (omega arith) lt
 
-stands_at : (files : List NamedFile) (es : List Entry) (bs : List (List Pair)) (i : ℕ) → AllStand files es bs → i < length es → StandsFor files (get_or es i no_entry) (get_or bs i [])
+pub stands_at : (files : List NamedFile) (es : List Entry) (bs : List (List Pair)) (i : ℕ) → AllStand files es bs → i < length es → StandsFor files (get_or es i no_entry) (get_or bs i [])
 stands_at files [] bs i all lt = absurd (omega arith)
 stands_at files (e ∷ es) [] i all lt = absurd all
 stands_at files (e ∷ es) (b ∷ bs) zero all lt = all.0

@@ -24,3 +24,4 @@ mod FailSteps
 mod PutSteps
 mod CrashSteps
 mod RowReading
+mod OpenSteps

@@ -31,9 +31,6 @@ reached_step s step r = record { steps = r.steps ++ step ∷ []; is = run-push r
 pub looked : (s : World) (r : ℕ) → s.down ≡ false → after s (Look r) ≡ effect s (Look r)
 looked s r up = ap (λ (b : Bool). cond (not b && true) (effect s (Look r)) s) up
 
-pub look_down : (s : World) (r : ℕ) → s.down ≡ true → after s (Look r) ≡ s
-look_down s r down = ap (λ (b : Bool). cond (not b && true) (effect s (Look r)) s) down
-
 few_of : (s : World) (d : Bool) → HoldsIf d s → length s.history ≤ 65535
 few_of s false h = omega (arith, h.few, same_count s.files h.entries s.history h.stands)
 few_of s true h = omega (arith, h.table.reads.few, same_count s.files h.entries h.found h.stands, ap length h.begins.1, length-append s.history h.begins.0)
@@ -52,13 +49,8 @@ reached_seq s w r up = ((reached_up s r up).writers w).pairs.seq
 pub reached_posted : (s : World) (w : ℕ) → IsReached s → s.down ≡ false → (writer_of s w).phase ≡ Posted → (writer_of s w).seq + 1 < 2 ^ 32
 reached_posted s w r up is = let h = reached_up s r up in omega (arith, (in_phase s h w Posted is).0.seq)
 
--- whatever a look answered, the state is one that some steps lead to
-pub look_kept : {E : Type 0} (s : World) (r n : ℕ) (readers : List Seen) (res : Result (Unit {0}) E) → s.down ≡ false → n ≡ length s.history → IsReached s → OnOk res (readers ≡ put_seen s.readers r n) → OnErr res (readers ≡ s.readers)
-    → IsReached (record s { readers = readers })
-look_kept s r n readers (Ok u) up count reached ok err =
-    subst (λ (rs : List Seen). IsReached (record s { readers = rs })) (sym (ok ∙ ap (λ (k : ℕ). put_seen s.readers r k) count))
-    (subst IsReached (looked s r up) (reached_step s (Look r) reached))
-look_kept s r n readers (Err e) up count reached ok err = subst (λ (rs : List Seen). IsReached (record s { readers = rs })) (sym err) reached
+pub look_done : (s : World) (r n : ℕ) (readers : List Seen) → s.down ≡ false → n ≡ length s.history → readers ≡ put_seen s.readers r n → record s { readers = readers } ≡ after s (Look r)
+look_done s r n readers up count is = ap (λ (rs : List Seen). record s { readers = rs }) (is ∙ ap (λ (k : ℕ). put_seen s.readers r k) count) ∙ sym (looked s r up)
 
 pub done : (s : World) (step : Step) → possible s step ≡ true → after s step ≡ effect s step
 done s step is = ap (λ (b : Bool). cond b (effect s step) s) is

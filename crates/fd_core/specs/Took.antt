@@ -1,5 +1,5 @@
 -- What a step answers.
-use Rattle.std.specs.Prelude.{◌≡◌, ◌<◌, ℕ, length, slice_get, slice_set, List, [], false, if◌then◌else◌, Option, Some, None}
+use Rattle.std.specs.Prelude.{◌≡◌, ◌<◌, ℕ, length, slice_get, slice_set, List, [], ◌∷◌, false, if◌then◌else◌, Option, Some, None}
 use Rattle.fd_core.specs.declared.table.Entry.{Entry}
 use Rattle.fd_core.specs.Table.{IsTable}
 use Rattle.fd_core.specs.World.{World}
@@ -10,7 +10,11 @@ use Rattle.fd_core.specs.declared.machine.Answer.TheVariants.{Found, Miss}
 use Rattle.fd_core.specs.declared.machine.Took.{Took}
 use Rattle.fd_core.specs.declared.machine.Took.TheVariants.{No, Yes, Answer}
 use Rattle.fd_core.specs.declared.machine.Phase.{Phase}
-use Rattle.fd_core.specs.Machine.{possible, answer, run, start, writer_in, writer_of, put_writer}
+use Rattle.fd_disk.specs.Names.{name_of}
+use Rattle.fd_disk.specs.declared.folders.FileKind.TheVariants.{Fields, Index}
+use Rattle.fd_core.specs.declared.machine.NamedFile.{NamedFile}
+use Rattle.fd_core.specs.Batches.{HoldBatch}
+use Rattle.fd_core.specs.Machine.{file_of, possible, answer, run, start, writer_in, writer_of, put_writer}
 
 abbrev pub answered : Option (List ℕ) → Took
 answered (Some bytes) = Answer (Found bytes)
@@ -60,3 +64,11 @@ pub record IsAt (s : World) (w i : ℕ) (p : Phase) : Type 0 where
 pub record ListsSome (bytes : List ℕ) : Type 0 where
   pub entries : List Entry
   pub table : IsTable [] entries bytes
+
+-- the files of an entry hold a batch
+abbrev pub IsHeld : List NamedFile → Entry → Type 0
+IsHeld files e = HoldBatch (file_of files (name_of e.writer e.seq Index)).reads (file_of files (name_of e.writer e.seq Fields)).reads
+
+abbrev pub AllHeld : List NamedFile → List Entry → Type 0
+AllHeld files [] = Unit {0}
+AllHeld files (e ∷ es) = IsHeld files e × AllHeld files es

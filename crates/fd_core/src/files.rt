@@ -1,10 +1,10 @@
-ghost use Rattle.std.specs.Prelude.{◌≡◌, ◌+◌, ◌-◌, ◌<◌, ◌^◌, ◌++◌, [], length, take, replicate, slice_get, slice_set, ◌∷◌, Some, IfOk, IfSome, IfNone, OnOk, OnErr};
-ghost use Rattle.fd_core.specs.Machine.{file_of, put_file};
+ghost use Rattle.std.specs.Prelude.{◌≡◌, ◌==◌, ◌&&◌, ◌+◌, ◌-◌, ◌<◌, ◌^◌, ◌++◌, [], length, take, drop, replicate, slice_get, slice_set, ◌∷◌, Some, IfOk, IfSome, IfNone, OnOk, OnErr};
+ghost use Rattle.fd_core.specs.Machine.{file_of, is_listed, kept_files, put_file};
 ghost use Rattle.fd_disk.specs.Images.{firm_file, loosened, overwritten, synced, written};
 ghost use Rattle.fd_disk.specs.Names.{same_name};
 
-use crate::NamedFile;
-use fd_bytes::{Bytes, NoMemory};
+use crate::{Entry, NamedFile};
+use fd_bytes::{Bytes, Items, NoMemory};
 use fd_disk::{File, FileName, Range, Ranges};
 use std::alloc::{AllocError, Global};
 use std::marker::Model;
@@ -60,6 +60,37 @@ impl Files {
         ensures { slice_get self.now i ≡ Some result.now }
     {
         &self.items[i]
+    }
+
+    /// What a read gives of the file under a name: nothing where there is no file.
+    pub(crate) fn reads_of(&self, name: FileName) -> &[u8]
+        ensures { result.now ≡ (file_of self.now name).reads }
+    {
+        match self.find(name) {
+            Some(file) => file.reads.as_slice(),
+            None => &[],
+        }
+    }
+
+    /// Keeps the files that one of the entries has, and drops the others.
+    pub(crate) fn keep_listed(&mut self, entries: &Items<Entry>)
+        ensures { self.new ≡ kept_files entries.now self.old }
+    {
+        let mut i = 0;
+        'files: while i < self.len() {
+            if is_listed(entries, self.at(i).name) {
+                i += 1;
+            } else {
+                self.remove(i);
+            }
+        }
+    }
+
+    fn remove(&mut self, i: usize)
+        requires { i < length self.old }
+        ensures { self.new ≡ take i self.old ++ drop (i + 1) self.old }
+    {
+        self.items.remove(i);
     }
 
     fn set(&mut self, i: usize, file: NamedFile)
@@ -162,6 +193,25 @@ impl Files {
         file.loose.put_first(Range { at, len })?;
         self.put(name, file)
     }
+}
+
+/// Tells that one of the entries has the file.
+fn is_listed(entries: &Items<Entry>, name: FileName) -> bool
+    ensures { result ≡ is_listed entries.now name }
+{
+    for i in 0..entries.len() {
+        if has_file(entries.at(i), name) {
+            return true;
+        }
+    }
+    false
+}
+
+/// Tells that the file is one of the entry's.
+fn has_file(entry: &Entry, name: FileName) -> bool
+    ensures { result ≡ ((name.writer == entry.now.writer) && (name.seq == entry.now.seq)) }
+{
+    name.writer == entry.writer && name.seq == entry.seq
 }
 
 /// Tells that two names are one.

@@ -4,13 +4,16 @@
 
 mod batch;
 mod crash_steps;
+mod dispatch;
 mod fail_steps;
+mod fetch_step;
 mod files;
 mod fill_steps;
 mod gate_steps;
 mod law;
 mod machine;
 mod numbers;
+mod open_steps;
 mod put_step;
 mod rows;
 mod segments;
@@ -21,6 +24,7 @@ mod table_steps;
 mod writers;
 
 pub use batch::{Batch, Listing, Pair};
+pub use dispatch::step;
 pub use files::Files;
 pub use law::every_run;
 pub use machine::{Answer, NamedFile, Phase, Seen, Step, Took, Writer};

@@ -42,7 +42,7 @@ fn number_2(bytes: &[u8]) -> u16
 }
 
 /// The bytes from a place on.
-fn behind(bytes: &[u8], at: usize) -> &[u8]
+pub(crate) fn behind(bytes: &[u8], at: usize) -> &[u8]
     requires { at ≤ length bytes.now }
     ensures { result.now ≡ drop at bytes.now }
 {

@@ -2,9 +2,10 @@ ghost use Rattle.std.specs.Prelude.{◌≡◌, ◌+◌, ◌<◌, ◌++◌, [], �
 ghost use Rattle.fd_core.specs.Table.{header};
 ghost use Rattle.fd_core.specs.World.{World};
 ghost use Rattle.fd_core.specs.Machine.{start, put_seen, after};
+ghost use Rattle.fd_core.specs.Took.{took_of};
 ghost use Rattle.fd_core.specs.declared.machine.Step.TheVariants.{Look};
 
-use crate::{Batch, Entry, Files, Seen, Writers};
+use crate::{Batch, Entry, Files, Seen, Took, Writers};
 use fd_bytes::{Bytes, Items, NoMemory};
 use fd_disk::{File, Ranges};
 use std::alloc::Global;
@@ -70,15 +71,17 @@ fn founded(alloc: Global) -> Result<Bytes, NoMemory>
 }
 
 /// The reader has seen what is listed now.
-pub(crate) fn look(state: &mut State, r: u32) -> Result<(), NoMemory>
+pub(crate) fn look(state: &mut State, r: u32) -> Result<Took, NoMemory>
+    ensures took { IfOk result (λ t. t ≡ took_of state.old (Look r)) }
     ensures ok { OnOk result (state.new ≡ after state.old (Look r)) }
     ensures err { OnErr result (state.new ≡ state.old) }
 {
     if state.down {
-        return Ok(());
+        return Ok(Took::No);
     }
     let n = state.history.len() as u32;
-    see(&mut state.readers, r, n)
+    see(&mut state.readers, r, n)?;
+    Ok(Took::Yes)
 }
 
 fn see(readers: &mut Items<Seen>, r: u32, n: u32) -> Result<(), NoMemory>

@@ -59,13 +59,15 @@ rows-preserved c = λ h.
     let n = numbers c.rows.rest.now u.at r.pair r.others r.facts c.first_row-row.result.key_len c.first_row-row.result.at c.first_row-row.result.len c.first_row-row.ensures.key_len c.first_row-row.ensures.at c.first_row-row.ensures.len in
     let more = next_row h.batch c.rows.rest.now c.args.fields.now u r c.behind-rest.result.now c.first_row-row.result.key_len n.key_len c.behind-rest.ensures in
     let key : c.part.result.now ≡ r.pair.key = c.part.ensures ∙ key_read c.rows.rest.now u.at r.pair r.others r.facts c.first_row-row.result.key_len n.key_len in
-    let test : same_bytes r.pair.key c.args.key.now ≡ c.eq.result = ap (λ (l : List ℕ). same_bytes l c.args.key.now) (sym key) ∙ same_as_eq c.part.result.now c.args.key.now ∙ sym c.eq.ensures in
-    (more, elim c.if-eq.branch [
-      | then-eq w ↦ (
-          let bytes : w.part-then-eq.result.now ≡ r.pair.bytes = w.part-then-eq.ensures ∙ bytes_read h.batch c.rows.rest.now c.args.fields.now u r c.first_row-row.result.at c.first_row-row.result.len n.place n.len in
-          subst (λ (o : Option (Bor (List ℕ))). MatchOption o (of_batch (u.done ++ r.pair ∷ []) c.args.key.now ≡ None) (λ b. of_batch (u.done ++ r.pair ∷ []) c.args.key.now ≡ Some b.now)) (sym w.found-is) (found_here u.done r.pair c.args.key.now w.part-then-eq.result.now (test ∙ w.if-eq.true) bytes))
-      | else-eq w ↦ subst (λ (o : Option (Bor (List ℕ))). MatchOption o (of_batch (u.done ++ r.pair ∷ []) c.args.key.now ≡ None) (λ b. of_batch (u.done ++ r.pair ∷ []) c.args.key.now ≡ Some b.now)) (sym w.found-is) (found_before u.done r.pair c.args.key.now c.rows.found (λ b. b.now) (test ∙ w.if-eq.false) was)
-    ])
+    let test : same_bytes r.pair.key c.args.key.now ≡ c.eq.result = ap (λ (l : List ℕ). same_bytes l c.args.key.now) (sym key) ∙ same_as_eq c.part.result.now c.args.key.now ∙ sym c.eq.ensures in (
+      more,
+      elim c.if-eq.branch [
+        | then-eq w ↦ (
+            let bytes : w.part-then-eq.result.now ≡ r.pair.bytes = w.part-then-eq.ensures ∙ bytes_read h.batch c.rows.rest.now c.args.fields.now u r c.first_row-row.result.at c.first_row-row.result.len n.place n.len in
+            subst (λ (o : Option (Bor (List ℕ))). MatchOption o (of_batch (u.done ++ r.pair ∷ []) c.args.key.now ≡ None) (λ b. of_batch (u.done ++ r.pair ∷ []) c.args.key.now ≡ Some b.now)) (sym w.found-is) (found_here u.done r.pair c.args.key.now w.part-then-eq.result.now (test ∙ w.if-eq.true) bytes))
+        | else-eq w ↦ subst (λ (o : Option (Bor (List ℕ))). MatchOption o (of_batch (u.done ++ r.pair ∷ []) c.args.key.now ≡ None) (λ b. of_batch (u.done ++ r.pair ∷ []) c.args.key.now ≡ Some b.now)) (sym w.found-is) (found_before u.done r.pair c.args.key.now c.rows.found (λ b. b.now) (test ∙ w.if-eq.false) was)
+      ],
+    )
 
 pub returns : goal.returns
 returns c =

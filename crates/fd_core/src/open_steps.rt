@@ -1,0 +1,90 @@
+ghost use Rattle.std.specs.Prelude.{◌≡◌, ◌≤◌, ◌+◌, length, drop, map, [], IfOk, OnOk, OnErr};
+ghost use Rattle.fd_core.specs.Table.{entry_in, gate_at, listed};
+ghost use Rattle.fd_core.specs.Machine.{after, batch_in, entries_or_none};
+ghost use Rattle.fd_core.specs.Took.{AllHeld, IsHeld, ListsSome, took_of};
+ghost use Rattle.fd_core.specs.declared.machine.Step.TheVariants.{Reopen};
+
+use crate::segments::{behind, read_pairs};
+use crate::table::{OPEN, gate_at};
+use crate::{Batch, Entry, Files, State, Took};
+use fd_bytes::{Items, NoMemory};
+use fd_disk::{FileKind, FileName};
+use std::alloc::Global;
+
+/// The store is opened after a crash: the history is what the table lists, and files that no entry has go.
+pub(crate) fn reopen(alloc: Global, state: &mut State) -> Result<Took, NoMemory>
+    ensures took { IfOk result (λ t. t ≡ took_of state.old Reopen) }
+    ensures ok { OnOk result (state.new ≡ after state.old Reopen) }
+    ensures err { OnErr result (state.new ≡ state.old) }
+{
+    if !state.down {
+        return Ok(Took::No);
+    }
+    let entries = entries_of(alloc, state.table.reads.as_slice())?;
+    let history = batches_of(alloc, &state.files, &entries)?;
+    state.files.keep_listed(&entries);
+    state.history = history;
+    state.down = false;
+    Ok(Took::Yes)
+}
+
+/// The entries that a table lists.
+pub(crate) fn entries_of(alloc: Global, table: &[u8]) -> Result<Items<Entry>, NoMemory>
+    requires { ListsSome table.now }
+    ensures { IfOk result (λ es. es ≡ entries_or_none (listed [] table.now)) }
+{
+    let mut entries = Items::new(alloc);
+    for i in 0..65536usize {
+        if table[gate_at(i)] != OPEN {
+            return Ok(entries);
+        }
+        entries.push(entry_at(table, i))?;
+    }
+    Ok(entries)
+}
+
+/// The entry in a slot of the table.
+pub(crate) fn entry_at(table: &[u8], slot: usize) -> Entry
+    requires number { slot ≤ 65535 }
+    requires whole { gate_at slot + 64 ≤ length table.now }
+    ensures { result ≡ entry_in (drop (gate_at slot + 1) table.now) }
+{
+    Entry::from_body(behind(table, gate_at(slot) + 1))
+}
+
+/// The batches that the files of these entries hold.
+fn batches_of(
+    alloc: Global,
+    files: &Files,
+    entries: &Items<Entry>,
+) -> Result<Items<Batch>, NoMemory>
+    requires { AllHeld files.now entries.now }
+    ensures { IfOk result (λ bs. bs ≡ map (batch_in files.now) entries.now) }
+{
+    let mut batches = Items::new(alloc);
+    for i in 0..entries.len() {
+        batches.push(batch_of(alloc, files, entries.at(i))?)?;
+    }
+    Ok(batches)
+}
+
+/// The batch that the files of an entry hold.
+fn batch_of(alloc: Global, files: &Files, entry: &Entry) -> Result<Batch, NoMemory>
+    requires { IsHeld files.now entry.now }
+    ensures { IfOk result (λ b. b ≡ batch_in files.now entry.now) }
+{
+    let index = files.reads_of(file_name(entry, FileKind::Index));
+    let fields = files.reads_of(file_name(entry, FileKind::Fields));
+    read_pairs(alloc, index, fields)
+}
+
+/// The name of a file of an entry.
+pub(crate) fn file_name(entry: &Entry, kind: FileKind) -> FileName
+    ensures { result ≡ record { writer = entry.now.writer; seq = entry.now.seq; kind = kind } }
+{
+    FileName {
+        writer: entry.writer,
+        seq: entry.seq,
+        kind,
+    }
+}
