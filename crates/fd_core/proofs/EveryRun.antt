@@ -7,7 +7,9 @@ use Rattle.fd_core.specs.declared.machine.Seen.{Seen}
 use Rattle.fd_core.specs.World.{World}
 use Rattle.fd_core.specs.declared.machine.Step.{Step}
 use Rattle.fd_core.specs.declared.machine.Step.TheVariants.{Put, SyncData, WriteIndex, SyncIndex, Take, Body, SyncBody, Gate, SyncGate, Post, Release, Look, Fetch, CloseGate, SyncClose, Fail, Crash, Reopen}
-use Rattle.fd_core.specs.Machine.{can, possible, effect, may_leave, greatest_seq, entries_or_none, after, writer_of, run, start, seen_by, put_seen}
+use Rattle.fd_core.specs.Machine.{answer, can, possible, effect, may_leave, greatest_seq, entries_or_none, after, writer_of, run, start, seen_by, put_seen}
+use Rattle.fd_core.specs.Took.{answered}
+use Rattle.fd_core.specs.declared.machine.Took.TheVariants.{No}
 use Rattle.fd_core.specs.declared.table.Entry.{Entry}
 use Rattle.fd_core.specs.Table.{header, listed, IsTable}
 use Rattle.fd_core.proofs.Slots.{listed_table}
@@ -18,7 +20,7 @@ use Rattle.fd_core.proofs.Failing.{keeps_fail, failed_down, failed_history}
 use Rattle.fd_core.proofs.Crashing.{crash_left, crashed, opened_history, reopened}
 use Rattle.fd_core.proofs.Keeping.{both}
 use Rattle.fd_core.proofs.Images.{and_true, left_images, images_left}
-use Rattle.fd_core.specs.Laws.{IsPrefix, may_list, FetchesNewest, OnlyGrows, SeesOnlyListed, PostsItsPairs, OnlyPostLists, IsReopened, SurvivesCrash, LeavesImages, OverEveryRun}
+use Rattle.fd_core.specs.Laws.{IsPrefix, may_list, FetchesNewest, OnlyGrows, SeesOnlyListed, PostsItsPairs, OnlyPostLists, IsReopened, SurvivesCrash, LeavesImages, OnlyReopens, OverEveryRun}
 
 -- a step was possible and did what it does, or it changed nothing
 abbrev pub Took : World → Step → World → Type 0
@@ -190,7 +192,7 @@ pub fetches : OverEveryRun FetchesNewest
 fetches steps r key is =
     let s = run steps start in
     let u = up_only s (can s (Fetch r key)) is in
-    holds_fetches s (up_holds s u.0 (holds steps)) r key
+    ap (λ (b : Bool). if b then answered (answer s r key) else No) is ∙ ap answered (holds_fetches s (up_holds s u.0 (holds steps)) r key)
 
 prefix_same : (s : World) (bs : List (List Pair)) → bs ≡ s.history → IsPrefix s.history bs
 prefix_same s bs is = ([], append-nil s.history ∙ sym is)
@@ -247,3 +249,27 @@ images steps = leaves_images (run steps start)
 
 pub survives : OverEveryRun SurvivesCrash
 survives steps = survives_each (run steps start) (holds steps)
+
+-- while the machine is down
+still_down : (d c : Bool) → d ≡ true → (not d && c) ≡ true → ⊥
+still_down d c down is = cc (ap (λ (b : Bool). not b && c) (sym down) ∙ is)
+
+pub only_reopens : (s : World) → OnlyReopens s
+only_reopens s (Put w key bytes) down is = absurd (still_down s.down (can s (Put w key bytes)) down is)
+only_reopens s (SyncData w) down is = absurd (still_down s.down (can s (SyncData w)) down is)
+only_reopens s (WriteIndex w) down is = absurd (still_down s.down (can s (WriteIndex w)) down is)
+only_reopens s (SyncIndex w) down is = absurd (still_down s.down (can s (SyncIndex w)) down is)
+only_reopens s (Take w) down is = absurd (still_down s.down (can s (Take w)) down is)
+only_reopens s (Body w) down is = absurd (still_down s.down (can s (Body w)) down is)
+only_reopens s (SyncBody w) down is = absurd (still_down s.down (can s (SyncBody w)) down is)
+only_reopens s (Gate w) down is = absurd (still_down s.down (can s (Gate w)) down is)
+only_reopens s (SyncGate w) down is = absurd (still_down s.down (can s (SyncGate w)) down is)
+only_reopens s (Post w) down is = absurd (still_down s.down (can s (Post w)) down is)
+only_reopens s (Release w) down is = absurd (still_down s.down (can s (Release w)) down is)
+only_reopens s (Look r) down is = absurd (still_down s.down (can s (Look r)) down is)
+only_reopens s (Fetch r key) down is = absurd (still_down s.down (can s (Fetch r key)) down is)
+only_reopens s (CloseGate w) down is = absurd (still_down s.down (can s (CloseGate w)) down is)
+only_reopens s (SyncClose w) down is = absurd (still_down s.down (can s (SyncClose w)) down is)
+only_reopens s (Fail w) down is = absurd (still_down s.down (can s (Fail w)) down is)
+only_reopens s (Crash left) down is = absurd (still_down s.down (can s (Crash left)) down is)
+only_reopens s Reopen down is = refl

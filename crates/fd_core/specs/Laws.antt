@@ -9,7 +9,8 @@ use Rattle.fd_core.specs.World.{World}
 use Rattle.fd_core.specs.declared.machine.Step.{Step}
 use Rattle.fd_core.specs.declared.machine.Step.TheVariants.{Put, SyncData, WriteIndex, SyncIndex, Take, Body, SyncBody, Gate, SyncGate, Post, Release, Look, Fetch, CloseGate, SyncClose, Fail, Crash, Reopen}
 use Rattle.fd_core.specs.Batches.{newest}
-use Rattle.fd_core.specs.Machine.{possible, after, answer, length_of, writer_of, run, start}
+use Rattle.fd_core.specs.Took.{answered, took_of}
+use Rattle.fd_core.specs.Machine.{possible, after, length_of, writer_of, run, start}
 
 abbrev pub IsPrefix : {A : Type 0} → List A → List A → Type 0
 IsPrefix {A} xs ys = (rest : List A) × (xs ++ rest ≡ ys)
@@ -37,7 +38,7 @@ may_list Reopen = true
 
 -- a fetch answers the newest bytes of the batches that the reader has seen
 abbrev pub FetchesNewest : World → Type 0
-FetchesNewest s = (r : ℕ) (key : List ℕ) → possible s (Fetch r key) ≡ true → answer s r key ≡ newest (take (length_of s r) s.history) key
+FetchesNewest s = (r : ℕ) (key : List ℕ) → possible s (Fetch r key) ≡ true → took_of s (Fetch r key) ≡ answered (newest (take (length_of s r) s.history) key)
 
 -- the history before a step begins the one after it
 abbrev pub OnlyGrows : World → Type 0
@@ -86,3 +87,7 @@ LeavesImages s = (left : List (List ℕ)) → (possible s (Crash left) ≡ true)
 -- whatever images a crash leaves, opening finds the history, with or without the batch that is being listed, whole
 abbrev pub SurvivesCrash : World → Type 0
 SurvivesCrash s = (left : List (List ℕ)) → possible s (Crash left) ≡ true → IsReopened s (after (after s (Crash left)) Reopen).history
+
+-- from a crash to the next opening nothing else is possible
+abbrev pub OnlyReopens : World → Type 0
+OnlyReopens s = (step : Step) → s.down ≡ true → possible s step ≡ true → step ≡ Reopen

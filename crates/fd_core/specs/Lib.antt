@@ -5,3 +5,4 @@ pub mod Batches
 pub mod Machine
 pub mod Took
 pub mod Laws
+pub mod Examples

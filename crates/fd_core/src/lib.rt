@@ -26,7 +26,7 @@ mod writers;
 pub use batch::{Batch, Listing, Pair};
 pub use dispatch::step;
 pub use files::Files;
-pub use law::every_run;
+pub use law::{every_run, every_table};
 pub use machine::{Answer, NamedFile, Phase, Seen, Step, Took, Writer};
 pub use state::State;
 pub use table::{Entry, NotATable};

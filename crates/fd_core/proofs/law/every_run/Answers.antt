@@ -1,5 +1,5 @@
 use Rattle.fd_core.specs.Machine.{run, start}
-use Rattle.fd_core.proofs.EveryRun.{fetches, sees, grows, post, only_post, survives, images}
+use Rattle.fd_core.proofs.EveryRun.{fetches, sees, grows, post, only_post, survives, images, only_reopens}
 use Rattle.fd_core.proofs.law.every_run.Goals as goal
 
 pub returns-clause-fetches : goal.returns-clause-fetches
@@ -22,3 +22,6 @@ returns-clause-crash c = survives
 
 pub returns-clause-images : goal.returns-clause-images
 returns-clause-images c = images
+
+pub returns-clause-down : goal.returns-clause-down
+returns-clause-down c = λ steps. only_reopens (run steps start)

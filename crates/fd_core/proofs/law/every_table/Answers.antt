@@ -1,0 +1,10 @@
+use Rattle.fd_core.proofs.Inverse.{table_listed}
+use Rattle.fd_core.proofs.Slots.{listed_table}
+use Rattle.fd_core.proofs.TableVectors.{examples}
+use Rattle.fd_core.proofs.law.every_table.Goals as goal
+
+pub returns-clause-entries : goal.returns-clause-entries
+returns-clause-entries c = λ dataset bytes es short octets. ((λ is. table_listed dataset bytes es short octets is), (λ t. listed_table dataset es bytes t))
+
+pub returns-clause-examples : goal.returns-clause-examples
+returns-clause-examples c = examples
