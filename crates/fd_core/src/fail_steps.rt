@@ -177,8 +177,7 @@ fn fail_gate_sync(state: &mut State, w: u32, i: usize)
     requires { IsAt state.old w i GateLoose }
     ensures { state.new ≡ after state.old (Fail w) }
 {
-    let entry = entry_of(state.writers.at(i));
-    state.doubt = Some(entry);
+    state.doubt = Some(entry_of(state.writers.at(i)));
     state.owner = None;
     state.writers.set_phase(i, Phase::Sealed);
 }

@@ -31,3 +31,6 @@ pub use machine::{Answer, NamedFile, Phase, Seen, Step, Took, Writer};
 pub use state::State;
 pub use table::{Entry, NotATable};
 pub use writers::Writers;
+
+#[cfg(test)]
+mod tests;

@@ -10,8 +10,8 @@ use Rattle.fd_core.specs.declared.machine.Phase.TheVariants.{GateLoose}
 use Rattle.fd_core.proofs.FillSteps.{place_bounded}
 use Rattle.fd_core.proofs.fail_steps.fail_gate_sync.Goals as goal
 
-pub entry_of-entry-requires : goal.entry_of-entry-requires
-entry_of-entry-requires c =
+pub entry_of-requires : goal.entry_of-requires
+entry_of-requires c =
     let at = subst (λ (t : World). IsAt t c.args.w c.args.i GateLoose) (sym c.state.view_is) c.requires in
     place_bounded (record { table = c.state.inside.table; files = c.state.inside.files; history = c.state.inside.history; writers = c.state.inside.writers; owner = c.state.inside.owner; doubt = c.state.inside.doubt; readers = c.state.inside.readers; down = c.state.inside.down }) c.args.w c.args.i c.at.result.now c.state.invariant at.up at.place c.at.ensures
 
@@ -19,7 +19,7 @@ pub returns : goal.returns
 returns c =
     let s : World = record { table = c.state.inside.table; files = c.state.inside.files; history = c.state.inside.history; writers = c.state.inside.writers; owner = c.state.inside.owner; doubt = c.state.inside.doubt; readers = c.state.inside.readers; down = c.state.inside.down } in
     let at = subst (λ (t : World). IsAt t c.args.w c.args.i GateLoose) (sym c.state.view_is) c.requires in
-    fail_gate_sync_done s c.args.w c.args.i c.at.result.now c.entry_of-entry.result c.set_phase.new.self at c.at.ensures c.entry_of-entry.ensures c.set_phase.ensures
+    fail_gate_sync_done s c.args.w c.args.i c.at.result.now c.entry_of.result c.set_phase.new.self at c.at.ensures c.entry_of.ensures c.set_phase.ensures
     ∙ ap (λ (t : World). after t (Fail c.args.w)) c.state.view_is
 
 pub invariant_of-state : goal.invariant_of-state
