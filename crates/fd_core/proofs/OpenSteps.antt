@@ -1,6 +1,6 @@
 -- What the code of an opening and of a fetch reads.
-use Rattle.std.proofs.Common.{◌≡◌, ◌==◌, ◌&&◌, ◌||◌, ◌+◌, ◌-◌, ◌*◌, ◌<◌, ◌≤◌, if◌then◌else◌, ℕ, zero, suc, Bool, true, false, List, [], ◌∷◌, ◌++◌, length, map, take, drop, get_or, Option, Some, None, is_some, unwrap_or, MatchOption, slice_get, sym, ◌∙◌, ap, subst, refl, arith, append_assoc, length-append}
-use Rattle.std.proofs.lemmas.List.{append-nil, drop_all, drop_at, length-take-le, take-append-drop, take_all, take_at, take_more}
+use Rattle.std.proofs.Common.{◌≡◌, ◌==◌, ◌&&◌, ◌||◌, ◌+◌, ◌-◌, ◌<◌, ◌≤◌, if◌then◌else◌, ℕ, zero, suc, Bool, true, false, List, [], ◌∷◌, ◌++◌, length, map, take, drop, get_or, Option, Some, None, is_some, unwrap_or, MatchOption, slice_get, sym, ◌∙◌, ap, subst, arith, append_assoc, length-append}
+use Rattle.std.proofs.lemmas.List.{append-nil, drop_all, drop_at, length-take-le, take_all, take_at, take_more}
 use Rattle.fd_disk.specs.declared.file.File.{File}
 use Rattle.fd_disk.specs.declared.folders.FileName.{FileName}
 use Rattle.fd_core.specs.declared.table.Entry.{Entry}
@@ -11,12 +11,11 @@ use Rattle.fd_core.specs.declared.machine.NamedFile.{NamedFile}
 use Rattle.fd_core.specs.declared.machine.Seen.{Seen}
 use Rattle.fd_core.specs.declared.machine.Step.TheVariants.{Reopen}
 use Rattle.fd_core.specs.World.{World}
-use Rattle.fd_core.specs.Batches.{HoldBatch}
-use Rattle.fd_core.specs.Machine.{after, batch_in, entries_or_none, fetched, is_listed, kept_files, length_of, of_slot, seen_by}
+use Rattle.fd_core.specs.Machine.{after, batch_in, entries_or_none, fetched, is_listed, kept_files, of_slot, seen_by}
 use Rattle.fd_core.specs.Took.{AllHeld, IsHeld, IsReached, ListsSome}
 use Rattle.fd_core.proofs.BatchSums.{drop_here}
 use Rattle.fd_core.proofs.EveryRun.{holds}
-use Rattle.fd_core.proofs.Fetching.{Front, entry_at, front, front_of_table, no_entry, same_count, stands_at}
+use Rattle.fd_core.proofs.Fetching.{entry_at, front, front_of_table, no_entry, same_count, stands_at}
 use Rattle.fd_core.proofs.Holds.{AllStand, Holds, HoldsDown, HoldsIf, HoldsUp, StandsFor}
 use Rattle.fd_core.proofs.Reached.{done}
 use Rattle.fd_core.proofs.SlotNumbers.{long}

@@ -1,5 +1,5 @@
 -- What the code of a put has tested, and what it has made of the state.
-use Rattle.std.proofs.Common.{◌≡◌, ◌≢◌, inl, inr, ◌==◌, ◌&&◌, ◌-◌, ◌+◌, ◌^◌, ◌<◌, ◌≤◌, ℕ, zero, suc, Bool, true, false, if◌then◌else◌, nat_le, nat_lt, List, [], ◌∷◌, ◌++◌, length, Some, Result, Ok, Err, OnErr, slice_get, slice_set, sym, ◌∙◌, ap, subst, refl, arith}
+use Rattle.std.proofs.Common.{◌≡◌, inl, inr, ◌==◌, ◌&&◌, ◌-◌, ◌+◌, ◌^◌, ◌<◌, ◌≤◌, ℕ, zero, suc, Bool, true, false, if◌then◌else◌, nat_le, nat_lt, List, [], ◌∷◌, ◌++◌, length, Some, Result, Ok, Err, OnErr, slice_get, slice_set, sym, ◌∙◌, ap, subst, refl, arith}
 use Rattle.std.proofs.lemmas.Bool.{cases_eq}
 use Rattle.std.proofs.lemmas.Bool.Decides.{nat_tests}
 use Rattle.fd_disk.specs.declared.folders.FileName.{FileName}
@@ -12,7 +12,7 @@ use Rattle.fd_core.specs.declared.machine.Writer.{Writer}
 use Rattle.fd_core.specs.World.{World}
 use Rattle.fd_core.specs.Batches.{distinct, rows, total}
 use Rattle.fd_core.specs.Machine.{after, can_put, is_in_phase, fields_name, file_of, filled, fresh, put_file, put_writer, with_pair, writer_in, writer_of}
-use Rattle.fd_core.specs.Took.{IsPlace, IsReached}
+use Rattle.fd_core.specs.Took.{IsPlace}
 use Rattle.fd_core.proofs.BatchSums.{total_push}
 use Rattle.fd_core.proofs.Keeping.{id_is}
 use Rattle.fd_core.proofs.Reached.{done, place_is, place_put, up_and}

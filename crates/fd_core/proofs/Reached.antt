@@ -1,5 +1,5 @@
 -- What holds of a state that some list of steps has led to.
-use Rattle.std.proofs.Common.{◌≡◌, Option, Some, None, is_some, is_none, nat_lt, slice_get, slice_set, ℕ, ◌+◌, ◌^◌, ◌<◌, ◌≤◌, length-append, List, [], ◌∷◌, ◌++◌, length, Bool, true, false, not, ◌&&◌, cond, Result, Ok, Err, OnOk, OnErr, refl, sym, ◌∙◌, ap, subst, arith}
+use Rattle.std.proofs.Common.{◌≡◌, Option, Some, None, is_some, is_none, nat_lt, slice_get, slice_set, ℕ, ◌+◌, ◌^◌, ◌<◌, ◌≤◌, length-append, List, [], ◌∷◌, ◌++◌, length, Bool, true, false, not, ◌&&◌, cond, refl, sym, ◌∙◌, ap, subst, arith}
 use Rattle.fd_core.specs.World.{World}
 use Rattle.fd_core.specs.declared.machine.Step.{Step}
 use Rattle.fd_core.specs.declared.machine.Phase.TheVariants.{Filling, Sealed, Holding, BodyLoose, BodyFirm, GateLoose, Listed, Posted, Closing}

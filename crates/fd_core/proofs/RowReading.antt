@@ -1,11 +1,11 @@
 -- The rows of an index, read one after the other.
-use Rattle.std.proofs.Common.{◌≡◌, ◌==◌, ◌||◌, if◌then◌else◌, ℕ, zero, suc, ◌+◌, ◌^◌, ◌<◌, ◌≤◌, Bool, true, false, List, [], ◌∷◌, ◌++◌, length, map, take, drop, refl, sym, ◌∙◌, ap, subst, arith, append_assoc, length-append, Option, Some, None, MatchOption, option_map}
+use Rattle.std.proofs.Common.{◌≡◌, ◌==◌, if◌then◌else◌, ℕ, ◌+◌, ◌^◌, ◌<◌, ◌≤◌, Bool, true, false, List, [], ◌∷◌, ◌++◌, length, take, drop, refl, sym, ◌∙◌, ap, subst, arith, append_assoc, length-append, Option, Some, None, MatchOption}
 use Rattle.std.proofs.lemmas.Bool.Decides.{nat_tests}
 use Rattle.std.proofs.lemmas.List.{append-nil, drop_at, take_at}
 use Rattle.std.proofs.lemmas.Nat.{from_be_bytes-to_be_bytes_2}
-use Rattle.std.specs.Int.{w16, w64, to_be_bytes, from_be_bytes, byte_at}
+use Rattle.std.specs.Int.{w16, w64, from_be_bytes, byte_at}
 use Rattle.fd_core.specs.declared.batch.Pair.{Pair}
-use Rattle.fd_core.specs.Batches.{HoldBatch, KeysFit, Row, joined, of_batch, of_files, or_older, pairs_in, row_in, rows, rows_from, same_bytes, total}
+use Rattle.fd_core.specs.Batches.{HoldBatch, KeysFit, Row, joined, of_batch, of_files, or_older, pairs_in, rows, rows_from, same_bytes, total}
 use Rattle.fd_core.proofs.Reading.{batch_back, behind, files_of_batch, rest_back, row_back, row_split}
 
 -- what is read of the row that begins these bytes

@@ -1,7 +1,7 @@
 -- Worked tables: their bytes, what they list, and the first octet against the format.
 use Rattle.std.specs.Prelude.{◌≡◌, ℕ, List, [], ◌∷◌, ◌++◌, length, replicate, take, Some, None, Ok, Err, codes, slice_set}
 use Rattle.fd_core.specs.declared.table.Entry.{Entry}
-use Rattle.fd_core.specs.Table.{header, listed, table_of}
+use Rattle.fd_core.specs.Table.{listed, table_of}
 
 -- writer 1 lists its first batch: two keys, 549 bytes, an index of 4,120 bytes
 abbrev pub an_entry : Entry

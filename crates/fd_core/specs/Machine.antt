@@ -1,5 +1,5 @@
 -- The machine: what each step may do, over whole runs.
-use Rattle.std.specs.Prelude.{◌+◌, ◌-◌, ◌^◌, ◌==◌, ◌&&◌, ◌||◌, not, ℕ, zero, suc, max, Bool, true, false, nat_lt, nat_le, is_none, List, [], ◌∷◌, ◌++◌, if◌then◌else◌, map, length, take, drop, Option, Some, None, unwrap_or, is_some, Result, Ok, Err}
+use Rattle.std.specs.Prelude.{◌+◌, ◌-◌, ◌^◌, ◌==◌, ◌&&◌, ◌||◌, not, ℕ, zero, suc, max, Bool, true, false, nat_lt, nat_le, is_none, List, [], ◌∷◌, ◌++◌, if◌then◌else◌, map, length, drop, Option, Some, None, unwrap_or, is_some, Result, Ok, Err}
 use Rattle.fd_disk.specs.declared.file.File.{File}
 use Rattle.fd_disk.specs.declared.file.Range.{Range}
 use Rattle.fd_disk.specs.declared.folders.FileName.{FileName}

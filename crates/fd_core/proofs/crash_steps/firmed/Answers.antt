@@ -1,4 +1,4 @@
-use Rattle.std.proofs.Common.{◌≡◌, ◌+◌, ◌<◌, ◌++◌, [], ◌∷◌, ◌&&◌, Bool, true, List, ℕ, length, drop, sym, ◌∙◌, ap, subst, arith, append_assoc}
+use Rattle.std.proofs.Common.{◌≡◌, ◌+◌, ◌++◌, [], ◌∷◌, ◌&&◌, true, List, drop, sym, ◌∙◌, ap, arith, append_assoc}
 use Rattle.fd_disk.specs.declared.file.File.{File}
 use Rattle.fd_disk.specs.Images.{firm_file}
 use Rattle.fd_core.specs.declared.machine.NamedFile.{NamedFile}

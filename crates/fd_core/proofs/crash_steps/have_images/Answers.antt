@@ -1,4 +1,4 @@
-use Rattle.std.proofs.Common.{◌≡◌, ◌+◌, ◌-◌, ◌<◌, ◌&&◌, Bool, false, true, List, ℕ, nat_le, length, drop, sym, ◌∙◌, ap, arith}
+use Rattle.std.proofs.Common.{◌≡◌, ◌+◌, ◌-◌, ◌<◌, ◌&&◌, Bool, false, true, ℕ, nat_le, length, drop, sym, ◌∙◌, ap, arith}
 use Rattle.fd_core.specs.Machine.{has_image, have_images}
 use Rattle.fd_core.proofs.CrashSteps.{images_end, images_short, images_step, shorter}
 use Rattle.fd_core.proofs.PutSteps.{something}

@@ -1,4 +1,4 @@
-use Rattle.std.proofs.Common.{◌≡◌, ℕ, List, true, false, sym, ◌∙◌, ap, subst, arith, length, IsNone}
+use Rattle.std.proofs.Common.{sym, ◌∙◌, ap, subst, length, IsNone}
 use Rattle.fd_core.specs.World.{World}
 use Rattle.fd_core.specs.Took.{IsReached}
 use Rattle.fd_core.specs.Machine.{after}

@@ -1,4 +1,4 @@
-use Rattle.std.proofs.Common.{◌≡◌, ℕ, List, true, false, sym, ◌∙◌, ap, subst, arith, [], ◌∷◌, IsSome}
+use Rattle.std.proofs.Common.{ℕ, sym, ◌∙◌, ap, subst, [], ◌∷◌, IsSome}
 use Rattle.fd_core.specs.World.{World}
 use Rattle.fd_core.specs.Took.{IsReached}
 use Rattle.fd_core.specs.Machine.{after}

@@ -1,4 +1,4 @@
-use Rattle.std.proofs.Common.{◌≡◌, ℕ, false, sym, ◌∙◌, ap, subst, arith}
+use Rattle.std.proofs.Common.{◌≡◌, false, sym, ◌∙◌, ap, subst, arith}
 use Rattle.fd_core.specs.World.{World}
 use Rattle.fd_core.specs.Machine.{writer_in}
 use Rattle.fd_core.specs.declared.machine.Writer.{Writer}

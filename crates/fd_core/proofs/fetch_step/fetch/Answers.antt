@@ -1,4 +1,4 @@
-use Rattle.std.proofs.Common.{◌≤◌, length, sym, ◌∙◌, subst}
+use Rattle.std.proofs.Common.{◌≤◌, length, sym, subst}
 use Rattle.fd_core.specs.World.{World}
 use Rattle.fd_core.proofs.Reached.{reached_up}
 use Rattle.fd_core.proofs.OpenSteps.{seen_small}

@@ -1,4 +1,4 @@
-use Rattle.std.proofs.Common.{◌≡◌, ◌-◌, ℕ, List, sym, ◌∙◌, ap, arith}
+use Rattle.std.proofs.Common.{◌-◌, sym, ◌∙◌, arith}
 use Rattle.fd_core.specs.Machine.{fetched, of_slot}
 use Rattle.fd_core.proofs.OpenSteps.{fetched_step, found_slot, passed_slot}
 use Rattle.fd_core.proofs.fetch_step.newest_of.Goals as goal

@@ -1,4 +1,4 @@
-use Rattle.std.proofs.Common.{◌≡◌, ◌+◌, ◌<◌, ◌≤◌, false, ℕ, List, length, drop, sym, ◌∙◌, ap, subst, arith}
+use Rattle.std.proofs.Common.{◌≡◌, ◌+◌, ◌<◌, ◌≤◌, false, ℕ, List, length, drop, sym, ◌∙◌, ap, subst}
 use Rattle.fd_disk.specs.declared.folders.FileName.{FileName}
 use Rattle.fd_disk.specs.declared.folders.FileKind.{FileKind}
 use Rattle.fd_disk.specs.declared.folders.FileKind.TheVariants.{Fields, Index}

@@ -1,4 +1,4 @@
-use Rattle.std.proofs.Common.{◌≡◌, ◌+◌, ◌||◌, Bool, drop, sym, ◌∙◌, ap}
+use Rattle.std.proofs.Common.{◌+◌, ◌||◌, Bool, drop, sym, ◌∙◌, ap}
 use Rattle.fd_core.specs.Machine.{is_listed}
 use Rattle.fd_core.proofs.OpenSteps.{listed_step}
 use Rattle.fd_core.proofs.files.is_listed.Goals as goal

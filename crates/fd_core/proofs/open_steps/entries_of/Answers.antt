@@ -1,6 +1,4 @@
-use Rattle.std.proofs.Common.{◌≡◌, ◌≢◌, ◌<◌, ◌≤◌, ◌+◌, ◌*◌, ◌++◌, [], ◌∷◌, ℕ, List, length, get_or, take, sym, ◌∙◌, ap, arith}
-use Rattle.fd_core.specs.declared.table.Entry.{Entry}
-use Rattle.fd_core.specs.Took.{ListsSome}
+use Rattle.std.proofs.Common.{◌≢◌, ◌+◌, ◌*◌, ℕ, get_or, sym, ◌∙◌, ap, arith}
 use Rattle.fd_core.proofs.OpenSteps.{entry_read, entry_whole, listed_all}
 use Rattle.fd_core.proofs.SlotNumbers.{closed, long, opened}
 use Rattle.fd_core.proofs.open_steps.entries_of.Goals as goal

@@ -1,4 +1,4 @@
-use Rattle.std.proofs.Common.{◌≡◌, ◌+◌, if◌then◌else◌, Bool, true, false, List, ℕ, drop, sym, ◌∙◌, ap, arith}
+use Rattle.std.proofs.Common.{◌≡◌, ◌+◌, if◌then◌else◌, Bool, drop, sym, ◌∙◌, ap, arith}
 use Rattle.fd_core.specs.Batches.{distinct, has_key}
 use Rattle.fd_core.proofs.BatchSums.{distinct_step}
 use Rattle.fd_core.proofs.rows.distinct_of.Goals as goal

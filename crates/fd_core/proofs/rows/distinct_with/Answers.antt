@@ -1,4 +1,4 @@
-use Rattle.std.proofs.Common.{◌≡◌, ◌+◌, if◌then◌else◌, Bool, sym, ◌∙◌, ap, arith}
+use Rattle.std.proofs.Common.{◌+◌, if◌then◌else◌, Bool, sym, ◌∙◌, ap}
 use Rattle.fd_core.specs.Batches.{distinct}
 use Rattle.fd_core.proofs.BatchSums.{distinct_push}
 use Rattle.fd_core.proofs.rows.distinct_with.Goals as goal

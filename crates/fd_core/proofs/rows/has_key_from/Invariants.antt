@@ -1,4 +1,4 @@
-use Rattle.std.proofs.Common.{◌≡◌, ◌+◌, ◌≤◌, ◌++◌, length, drop}
+use Rattle.std.proofs.Common.{◌≡◌, length, drop}
 use Rattle.fd_core.specs.Batches.{has_key}
 use Rattle.fd_core.proofs.rows.has_key_from.Given as goal
 

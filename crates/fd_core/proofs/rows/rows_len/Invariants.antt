@@ -1,4 +1,4 @@
-use Rattle.std.proofs.Common.{◌≡◌, ◌+◌, ◌≤◌, ◌++◌, length, drop}
+use Rattle.std.proofs.Common.{◌≡◌, ◌+◌, length, drop}
 use Rattle.fd_core.specs.Batches.{rows_from}
 use Rattle.fd_core.proofs.rows.rows_len.Given as goal
 

@@ -1,4 +1,4 @@
-use Rattle.std.proofs.Common.{◌≡◌, ◌+◌, ◌≤◌, ◌++◌, length, drop}
+use Rattle.std.proofs.Common.{◌≡◌, ◌+◌, ◌++◌, length, drop}
 use Rattle.fd_core.specs.Batches.{KeysFit, rows_from, total}
 use Rattle.fd_core.proofs.rows.rows_of.Given as goal
 

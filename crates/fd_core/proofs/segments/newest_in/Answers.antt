@@ -1,10 +1,8 @@
-use Rattle.std.proofs.Common.{◌≡◌, ◌==◌, ◌+◌, ◌≤◌, ◌++◌, [], ◌∷◌, Bool, true, false, if◌then◌else◌, ℕ, List, length, take, drop, Option, Some, None, MatchOption, Bor, sym, ◌∙◌, ap, subst, refl, arith}
+use Rattle.std.proofs.Common.{◌≡◌, ◌++◌, [], ◌∷◌, ℕ, List, length, Option, Some, None, MatchOption, Bor, sym, ◌∙◌, ap, subst, refl, arith}
 use Rattle.std.proofs.lemmas.Bool.{eqb-true}
-use Rattle.std.specs.Int.{w16, from_be_bytes}
-use Rattle.fd_core.specs.declared.batch.Pair.{Pair}
-use Rattle.fd_core.specs.Batches.{of_batch, pairs_in, same_bytes}
+use Rattle.fd_core.specs.Batches.{of_batch, same_bytes}
 use Rattle.fd_core.proofs.BatchSums.{same_as_eq}
-use Rattle.fd_core.proofs.RowReading.{all_rows, bytes_read, found_all, found_before, found_here, key_read, next_row, numbers, one_row, pairs_held, row_long, same_pair, some_left, unread}
+use Rattle.fd_core.proofs.RowReading.{all_rows, bytes_read, found_all, found_before, found_here, key_read, next_row, numbers, one_row, row_long, some_left, unread}
 use Rattle.fd_core.proofs.segments.newest_in.Goals as goal
 use Rattle.fd_core.proofs.segments.newest_in.Goals.{then-eq, else-eq}
 

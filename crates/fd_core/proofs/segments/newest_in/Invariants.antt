@@ -1,4 +1,4 @@
-use Rattle.std.proofs.Common.{◌≡◌, ℕ, length, Some, None, MatchOption}
+use Rattle.std.proofs.Common.{◌≡◌, length, Some, None, MatchOption}
 use Rattle.fd_core.specs.Batches.{HoldBatch, of_batch}
 use Rattle.fd_core.proofs.RowReading.{Unread}
 use Rattle.fd_core.proofs.segments.newest_in.Given as goal

@@ -1,4 +1,4 @@
-use Rattle.std.proofs.Common.{◌≡◌, ℕ, length}
+use Rattle.std.proofs.Common.{◌≡◌, length}
 use Rattle.fd_core.specs.Batches.{HoldBatch}
 use Rattle.fd_core.proofs.RowReading.{Unread}
 use Rattle.fd_core.proofs.segments.read_pairs.Given as goal
