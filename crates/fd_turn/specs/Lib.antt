@@ -1,0 +1,7 @@
+pub mod Views
+pub mod Seats
+pub mod Rule
+pub mod Steps
+pub mod Passes
+pub mod TestRows
+pub mod TestLanes

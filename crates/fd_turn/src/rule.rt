@@ -1,0 +1,28 @@
+//! What the slots of a board's table hold, and the rule of the table.
+use crate::handed::{Guarded, Handed};
+use crate::view::SeatView;
+use atomic_table::TableRule;
+use std::snapshot::Snapshot;
+
+/// What a slot holds: the value, the locked state, or nothing while these are out.
+#[derive(Drop)]
+pub enum Slot<V, W> {
+    /// The value that readers get copies of.
+    Value(V),
+    /// The state that one owner at a time has.
+    Locked(W),
+    /// Nothing.
+    Empty,
+}
+
+/// The rule over the words, the slots and what all seats know. The first seat knows the list of the first value.
+pub struct BoardRule;
+
+impl<V: Handed, W: Guarded> TableRule<Slot<V, W>, SeatView, Snapshot<V>> for BoardRule {
+    ghost use Rattle.fd_turn.specs.Rule.{IsKept};
+    ghost use Rattle.fd_turn.specs.Seats.{first_seat};
+
+    ghost holds = { λ _. IsKept V.list W.list W.doubt };
+
+    ghost first = { λ key. first_seat (V.list key.value) };
+}
