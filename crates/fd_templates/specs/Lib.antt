@@ -1,0 +1,5 @@
+pub mod Octets
+pub mod Identification
+pub mod Grid
+pub mod Product
+pub mod Simple

@@ -1,0 +1,130 @@
+ghost use Rattle.std.specs.Prelude.{◌≡◌, ◌≤◌, ◌++◌, length, OnOk, OnErr, IfOk, Ok};
+ghost use Rattle.fd_sections.specs.Message.{IsSection};
+ghost use Rattle.fd_sections.specs.Parts.{sections_of};
+ghost use Rattle.fd_templates.specs.Simple.{simple_is, simple_of, simple_octets, header_octets, packing_octets, Fits};
+
+use crate::fault::TemplateFault;
+use crate::octets::{
+    read_i16, read_u8, read_u16, read_u32, write_i16, write_u8, write_u16, write_u32,
+};
+use fd_bytes::NoMemory;
+use fd_sections::Message;
+use std::alloc::Global;
+
+/// The numbers of section 5 with template 5.0, simple packing. The reference value is given by its octets, an IEEE 754
+/// single.
+#[derive(Clone, Copy, Debug, PartialEq, Eq)]
+pub struct Simple {
+    /// The number of values that are packed (octets 6-9).
+    pub coded: u32,
+    /// The octets of the reference value R, an IEEE 754 single.
+    pub reference: u32,
+    /// E: a packed number counts 2^E.
+    pub binary_scale: i32,
+    /// D: the sum is the value times 10^D.
+    pub decimal_scale: i32,
+    /// How many bits each packed number has.
+    pub bits: u8,
+    /// Code table 5.1.
+    pub original_type: u8,
+}
+
+impl Simple {
+    /// The numbers of a message's section 5. `Other` comes exactly where the template isn't 0, and else `BadLength`
+    /// exactly where the section has fewer than 21 octets. What follows these is not read.
+    pub fn read(message: &Message) -> Result<Simple, TemplateFault>
+        ensures { result ≡ simple_is (sections_of message.now).representation }
+    {
+        read_section(message.representation())
+    }
+
+    /// Appends a section 5 of 21 octets with these numbers. After `NoMemory` nothing has changed.
+    pub fn write(&self, alloc: Global, out: &mut Vec<u8>) -> Result<(), NoMemory>
+        requires { Fits self.now }
+        ensures ok { OnOk result (out.new.items ≡ out.old.items ++ simple_octets self.now) }
+        ensures err { OnErr result (out.new.items ≡ out.old.items) }
+        // It is a section of this number and length.
+        ensures section { IsSection 5 21 (simple_octets self.now) }
+        // What was written is read again.
+        ensures again { simple_is (simple_octets self.now) ≡ Ok self.now }
+    {
+        let simple = *self;
+        reads_again(simple);
+        let section = section(alloc, self)?;
+        out.extend_from_slice(&section)?;
+        Ok(())
+    }
+}
+
+#[tactic(auto, unfolding(crate::specs::Simple::simple_is))]
+fn read_section(section: &[u8]) -> Result<Simple, TemplateFault>
+    requires { 11 ≤ length section.now }
+    ensures { result ≡ simple_is section.now }
+{
+    let template = read_u16(section, 10);
+    if template != 0 {
+        return Err(TemplateFault::Other(template));
+    }
+    if section.len() < 21 {
+        return Err(TemplateFault::BadLength {
+            said: section.len() as u64,
+        });
+    }
+    Ok(numbers(section))
+}
+
+fn numbers(section: &[u8]) -> Simple
+    requires { 21 ≤ length section.now }
+    ensures { result ≡ simple_of section.now }
+{
+    Simple {
+        coded: read_u32(section, 6),
+        reference: read_u32(section, 12),
+        binary_scale: read_i16(section, 16),
+        decimal_scale: read_i16(section, 18),
+        bits: read_u8(section, 20),
+        original_type: read_u8(section, 21),
+    }
+}
+
+/// What stands before the template.
+#[tactic(auto, unfolding(crate::specs::Simple::header_octets))]
+fn put_header(out: &mut Vec<u8>, simple: &Simple) -> Result<(), NoMemory>
+    ensures { OnOk result (out.new.items ≡ out.old.items ++ header_octets simple.now) }
+{
+    write_u32(out, 21)?;
+    write_u8(out, 5)?;
+    write_u32(out, simple.coded)?;
+    write_u16(out, 0)
+}
+
+/// The template.
+#[tactic(auto, unfolding(crate::specs::Simple::packing_octets))]
+fn put_packing(out: &mut Vec<u8>, simple: &Simple) -> Result<(), NoMemory>
+    requires { Fits simple.now }
+    ensures { OnOk result (out.new.items ≡ out.old.items ++ packing_octets simple.now) }
+{
+    write_u32(out, simple.reference)?;
+    write_i16(out, &simple.binary_scale)?;
+    write_i16(out, &simple.decimal_scale)?;
+    write_u8(out, simple.bits)?;
+    write_u8(out, simple.original_type)
+}
+
+#[tactic(auto, unfolding(crate::specs::Simple::simple_octets))]
+fn section(alloc: Global, simple: &Simple) -> Result<Vec<u8>, NoMemory>
+    requires { Fits simple.now }
+    ensures { IfOk result (λ v. v.items ≡ simple_octets simple.now) }
+{
+    let mut out = Vec::new(alloc);
+    put_header(&mut out, simple)?;
+    put_packing(&mut out, simple)?;
+    Ok(out)
+}
+
+/// The section that is written for these numbers has these numbers.
+fn reads_again(simple: Simple)
+    requires { Fits simple }
+    ensures section { IsSection 5 21 (simple_octets simple) }
+    ensures again { simple_is (simple_octets simple) ≡ Ok simple }
+{}
