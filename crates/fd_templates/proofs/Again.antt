@@ -1,7 +1,7 @@
 -- A number that was written is read again.
-use Rattle.std.proofs.Common.{◌≡◌, ℕ, ℤ, pos, negsuc, suc, ◌+◌, ◌-◌, ◌*◌, ◌/◌, ◌%◌, ◌^◌, ◌<◌, cond, true, false, ap, ◌∙◌, arith}
-use Rattle.std.specs.Prelude.{Option, Some, None, IfSome, ◌-ℤ◌}
-use Rattle.std.proofs.lemmas.Bool.{lt-ltb, le-ltb}
+use Rattle.std.proofs.Common.{◌≢◌, ◌≤◌, ◌⊎◌, inl, inr, subst, refl, sym, zero, ◌≡◌, ℕ, ℤ, pos, negsuc, suc, ◌+◌, ◌-◌, ◌*◌, ◌/◌, ◌%◌, ◌^◌, ◌<◌, cond, true, false, ap, ◌∙◌, arith}
+use Rattle.std.specs.Prelude.{Option, Some, None, IfSome, ◌-ℤ◌, unsigned_abs}
+use Rattle.std.proofs.lemmas.Bool.{cases_lt, lt-ltb, le-ltb}
 use Rattle.std.proofs.lemmas.Int.{ints}
 use Rattle.std.proofs.lemmas.Bool.Decides.{nat_tests}
 use Rattle.fd_bytes.specs.Numbers.{signed, sign_and_magnitude, is_missing}
@@ -51,3 +51,44 @@ number_missing_again n None fits = let e : is_missing (8 * n) (2 ^ (8 * n) - 1) 
 number_missing_again n (Some x) fits =
     let e : is_missing (8 * n) x ≡ false = grind (arith, nat_tests) in
     ap (λ b. cond b None (Some x)) e
+
+-- ---- What is read fits
+
+-- a number from half on is the negation of what it has above half
+negated : (d : ℕ) → (pos 0 -ℤ pos d ≡ pos 0) × (d ≡ 0) ⊎ ((m : ℕ) × (pos 0 -ℤ pos d ≡ negsuc m) × (d ≡ suc m))
+negated zero = inl (refl, refl)
+negated (suc m) = inr (m, (let e : pos 0 -ℤ pos (suc m) ≡ negsuc m = omega (arith, ints) in e), refl)
+
+read_low : (b raw : ℕ) → raw < 2 ^ (b - 1) → signed b raw ≡ pos raw
+read_low b raw low = ap (λ t. cond t (pos raw) (pos 0 -ℤ pos (raw - 2 ^ (b - 1)))) (lt-ltb raw (2 ^ (b - 1)) low)
+
+read_high : (b raw : ℕ) → 2 ^ (b - 1) ≤ raw → signed b raw ≡ pos 0 -ℤ pos (raw - 2 ^ (b - 1))
+read_high b raw high = ap (λ t. cond t (pos raw) (pos 0 -ℤ pos (raw - 2 ^ (b - 1)))) (le-ltb raw (2 ^ (b - 1)) high)
+
+-- a magnitude has one digit less
+pub signed_small : (b raw : ℕ) → 2 ^ b ≡ 2 * 2 ^ (b - 1) → raw < 2 ^ b → unsigned_abs (signed b raw) < 2 ^ (b - 1)
+signed_small b raw two lt =
+    elim (cases_lt raw (2 ^ (b - 1))) [
+      | inl low ↦ let P : ℤ → Type 0 = λ (z : ℤ). unsigned_abs z < 2 ^ (b - 1) in subst P (sym (read_low b raw low)) low
+      | inr high ↦
+          let P : ℤ → Type 0 = λ (z : ℤ). unsigned_abs z < 2 ^ (b - 1) in
+          elim (negated (raw - 2 ^ (b - 1))) [
+            | inl none ↦ subst P (sym (read_high b raw high ∙ none.0)) (omega arith)
+            | inr some ↦ subst P (sym (read_high b raw high ∙ some.1)) (let less : suc some.0 < 2 ^ (b - 1) = omega (arith, some.2) in less)
+          ]
+    ]
+
+pub signed_there : (b raw : ℕ) → 2 ^ b ≡ 2 * 2 ^ (b - 1) → raw < 2 ^ b → raw ≢ 2 ^ b - 1 → sign_and_magnitude b (signed b raw) ≢ 2 ^ b - 1
+signed_there b raw two lt there =
+    let P : ℤ → Type 0 = λ (z : ℤ). sign_and_magnitude b z ≢ 2 ^ b - 1 in
+    elim (cases_lt raw (2 ^ (b - 1))) [
+      | inl low ↦ subst P (sym (read_low b raw low)) there
+      | inr high ↦
+          elim (negated (raw - 2 ^ (b - 1))) [
+            | inl none ↦ subst P (sym (read_high b raw high ∙ none.0)) (λ e. absurd (omega arith))
+            | inr some ↦ subst P (sym (read_high b raw high ∙ some.1)) (λ e. there (omega (arith, some.2, e)))
+          ]
+    ]
+
+pub halves : (b : ℕ) → (b ≡ 8) ⊎ (b ≡ 16) ⊎ (b ≡ 32) → 2 ^ b ≡ 2 * 2 ^ (b - 1)
+halves b w = let P : ℕ → Type 0 = λ (k : ℕ). 2 ^ k ≡ 2 * 2 ^ (k - 1) in elim w [ inl e ↦ subst P (sym e) refl | inr v ↦ elim v [ inl e ↦ subst P (sym e) refl | inr e ↦ subst P (sym e) refl ] ]

@@ -54,7 +54,9 @@ impl LatLon {
     /// The numbers of a message's section 3. `Other` comes exactly where the template isn't 0, and else `BadLength`
     /// exactly where the section has fewer than 72 octets. What follows these is not read.
     pub fn read(message: &Message) -> Result<LatLon, TemplateFault>
-        ensures { result ≡ grid_is (sections_of message.now).grid }
+        ensures numbers { result ≡ grid_is (sections_of message.now).grid }
+        // They fit their octets.
+        ensures fits { IfOk result Fits }
     {
         read_section(message.grid())
     }
@@ -81,7 +83,8 @@ impl LatLon {
 #[tactic(auto, unfolding(crate::specs::Grid::grid_is))]
 fn read_section(section: &[u8]) -> Result<LatLon, TemplateFault>
     requires { 14 ≤ length section.now }
-    ensures { result ≡ grid_is section.now }
+    ensures numbers { result ≡ grid_is section.now }
+    ensures fits { IfOk result Fits }
 {
     let template = read_u16(section, 13);
     if template != 0 {
@@ -97,7 +100,8 @@ fn read_section(section: &[u8]) -> Result<LatLon, TemplateFault>
 
 fn numbers(section: &[u8]) -> LatLon
     requires { 72 ≤ length section.now }
-    ensures { result ≡ grid_of section.now }
+    ensures numbers { result ≡ grid_of section.now }
+    ensures fits { Fits result }
 {
     LatLon {
         points: read_u32(section, 7),

@@ -1,6 +1,6 @@
 // One number at a time. Octets count from 1, as in the manual.
-ghost use Rattle.std.specs.Prelude.{◌≡◌, ◌+◌, ◌-◌, ◌<◌, ◌≤◌, ◌^◌, ◌⊎◌, ◌≢◌, length, ◌++◌, OnOk, IfSome};
-ghost use Rattle.fd_bytes.specs.Numbers.{signed};
+ghost use Rattle.std.specs.Prelude.{◌≡◌, ◌+◌, ◌-◌, ◌<◌, ◌≤◌, ◌^◌, ◌⊎◌, ◌≢◌, length, ◌++◌, OnOk, IfSome, unsigned_abs};
+ghost use Rattle.fd_bytes.specs.Numbers.{signed, sign_and_magnitude};
 ghost use Rattle.fd_templates.specs.Octets.{number, signed_number, number_or_missing, signed_or_missing, octets_of, signed_octets, octets_or_ones, signed_or_ones, FitsSigned, FitsOrMissing};
 
 use fd_bytes::{NoMemory, is_missing, signed, unsigned_of};
@@ -44,7 +44,9 @@ pub fn read_u32(section: &[u8], first: usize) -> u32
 fn signed_value(raw: u32, bits: u8) -> i32
     requires width { (bits ≡ 8) ⊎ (bits ≡ 16) ⊎ (bits ≡ 32) }
     requires fits { raw < 2 ^ bits }
-    ensures { result ≡ signed bits raw }
+    ensures value { result ≡ signed bits raw }
+    ensures magnitude { unsigned_abs result < 2 ^ (bits - 1) }
+    ensures there { raw ≢ 2 ^ bits - 1 → sign_and_magnitude bits result ≢ 2 ^ bits - 1 }
 {
     signed(u64::from(raw), bits) as i32
 }
@@ -54,7 +56,8 @@ fn signed_value(raw: u32, bits: u8) -> i32
 pub fn read_i16(section: &[u8], first: usize) -> i32
     requires from_one { 1 ≤ first }
     requires within { first + 1 ≤ length section.now }
-    ensures { result ≡ signed_number first (first + 1) section.now }
+    ensures value { result ≡ signed_number first (first + 1) section.now }
+    ensures fits { FitsSigned 2 result }
 {
     signed_value(u32::from(read_u16(section, first)), 16)
 }
@@ -64,7 +67,8 @@ pub fn read_i16(section: &[u8], first: usize) -> i32
 pub fn read_i32(section: &[u8], first: usize) -> i32
     requires from_one { 1 ≤ first }
     requires within { first + 3 ≤ length section.now }
-    ensures { result ≡ signed_number first (first + 3) section.now }
+    ensures value { result ≡ signed_number first (first + 3) section.now }
+    ensures fits { FitsSigned 4 result }
 {
     signed_value(read_u32(section, first), 32)
 }
@@ -74,7 +78,8 @@ pub fn read_i32(section: &[u8], first: usize) -> i32
 pub fn read_i8_or_missing(section: &[u8], octet: usize) -> Option<i32>
     requires from_one { 1 ≤ octet }
     requires within { octet ≤ length section.now }
-    ensures { result ≡ signed_or_missing octet octet section.now }
+    ensures value { result ≡ signed_or_missing octet octet section.now }
+    ensures fits { IfSome result (FitsOrMissing 1) }
 {
     let raw = u32::from(read_u8(section, octet));
     if is_missing(u64::from(raw), 8) {
@@ -89,7 +94,8 @@ pub fn read_i8_or_missing(section: &[u8], octet: usize) -> Option<i32>
 pub fn read_i32_or_missing(section: &[u8], first: usize) -> Option<i32>
     requires from_one { 1 ≤ first }
     requires within { first + 3 ≤ length section.now }
-    ensures { result ≡ signed_or_missing first (first + 3) section.now }
+    ensures value { result ≡ signed_or_missing first (first + 3) section.now }
+    ensures fits { IfSome result (FitsOrMissing 4) }
 {
     let raw = read_u32(section, first);
     if is_missing(u64::from(raw), 32) {
@@ -104,7 +110,8 @@ pub fn read_i32_or_missing(section: &[u8], first: usize) -> Option<i32>
 pub fn read_u32_or_missing(section: &[u8], first: usize) -> Option<u32>
     requires from_one { 1 ≤ first }
     requires within { first + 3 ≤ length section.now }
-    ensures { result ≡ number_or_missing first (first + 3) section.now }
+    ensures value { result ≡ number_or_missing first (first + 3) section.now }
+    ensures fits { IfSome result (λ n. n < 2 ^ 32 - 1) }
 {
     let raw = read_u32(section, first);
     if is_missing(u64::from(raw), 32) {

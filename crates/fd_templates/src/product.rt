@@ -46,7 +46,9 @@ impl Product {
     /// The numbers of a message's section 4. `Other` comes exactly where the template isn't 0, and else `BadLength`
     /// exactly where the section has fewer than 34 octets. What follows these is not read.
     pub fn read(message: &Message) -> Result<Product, TemplateFault>
-        ensures { result ≡ product_is (sections_of message.now).product }
+        ensures numbers { result ≡ product_is (sections_of message.now).product }
+        // They fit their octets.
+        ensures fits { IfOk result Fits }
     {
         read_section(message.product())
     }
@@ -73,7 +75,8 @@ impl Product {
 #[tactic(auto, unfolding(crate::specs::Product::product_is))]
 fn read_section(section: &[u8]) -> Result<Product, TemplateFault>
     requires { 9 ≤ length section.now }
-    ensures { result ≡ product_is section.now }
+    ensures numbers { result ≡ product_is section.now }
+    ensures fits { IfOk result Fits }
 {
     let template = read_u16(section, 8);
     if template != 0 {
@@ -89,7 +92,8 @@ fn read_section(section: &[u8]) -> Result<Product, TemplateFault>
 
 fn numbers(section: &[u8]) -> Product
     requires { 34 ≤ length section.now }
-    ensures { result ≡ product_of section.now }
+    ensures numbers { result ≡ product_of section.now }
+    ensures fits { Fits result }
 {
     Product {
         coordinates: read_u16(section, 6),

@@ -33,7 +33,9 @@ impl Simple {
     /// The numbers of a message's section 5. `Other` comes exactly where the template isn't 0, and else `BadLength`
     /// exactly where the section has fewer than 21 octets. What follows these is not read.
     pub fn read(message: &Message) -> Result<Simple, TemplateFault>
-        ensures { result ≡ simple_is (sections_of message.now).representation }
+        ensures numbers { result ≡ simple_is (sections_of message.now).representation }
+        // They fit their octets.
+        ensures fits { IfOk result Fits }
     {
         read_section(message.representation())
     }
@@ -59,7 +61,8 @@ impl Simple {
 #[tactic(auto, unfolding(crate::specs::Simple::simple_is))]
 fn read_section(section: &[u8]) -> Result<Simple, TemplateFault>
     requires { 11 ≤ length section.now }
-    ensures { result ≡ simple_is section.now }
+    ensures numbers { result ≡ simple_is section.now }
+    ensures fits { IfOk result Fits }
 {
     let template = read_u16(section, 10);
     if template != 0 {
@@ -75,7 +78,8 @@ fn read_section(section: &[u8]) -> Result<Simple, TemplateFault>
 
 fn numbers(section: &[u8]) -> Simple
     requires { 21 ≤ length section.now }
-    ensures { result ≡ simple_of section.now }
+    ensures numbers { result ≡ simple_of section.now }
+    ensures fits { Fits result }
 {
     Simple {
         coded: read_u32(section, 6),
