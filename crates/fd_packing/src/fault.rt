@@ -1,0 +1,61 @@
+ghost use Rattle.std.specs.Prelude.{◌≡◌};
+ghost use Rattle.fd_packing.specs.Faults.{of_template};
+
+use fd_bytes::NoMemory;
+use fd_templates::TemplateFault;
+
+/// Why the values of a message are not read: the first thing that is wrong, in this order.
+#[derive(Clone, Copy, Debug, PartialEq, Eq)]
+pub enum FieldFault {
+    /// The packing has another template than 5.0.
+    Template(u16),
+    /// Section 5 is shorter than its template.
+    BadLength { said: u64 },
+    /// A packed number has more than 64 bits.
+    Bits(u8),
+    /// The reference value, given by its octets, is infinite or no number.
+    ReferenceNotFinite(u32),
+    /// The sum of the reference value and the greatest packed number, each in units of the common power of two, is 2^127
+    /// or more. The larger of the two has `need` binary digits.
+    TooWide { need: u32 },
+    /// The bit map indicator names a bit map that is not in the message.
+    BitMap(u8),
+    /// Section 6 has fewer octets than its bit map needs; both count the section whole.
+    MapShort { need: u64, found: u64 },
+    /// The number of coded values is not the number of points that have one.
+    Count { said: u64, found: u64 },
+    /// There are fewer packed octets than the coded values need; both count what follows the first five of section 7.
+    PackedShort { need: u64, found: u64 },
+    /// An allocation was refused.
+    NoMemory,
+}
+
+impl From<TemplateFault> for FieldFault {
+    ghost from_gives = { λ fault e. e ≡ of_template fault };
+
+    fn from(fault: TemplateFault) -> FieldFault {
+        match fault {
+            TemplateFault::Other(number) => FieldFault::Template(number),
+            TemplateFault::BadLength { said } => FieldFault::BadLength { said },
+        }
+    }
+}
+
+/// Why numbers are not packed.
+#[derive(Clone, Copy, Debug, PartialEq, Eq)]
+pub enum PackFault {
+    /// The number at this place, from 0, is the first with more binary digits than it is given.
+    DoesNotFit { at: u64 },
+    /// An allocation was refused.
+    NoMemory,
+}
+
+impl From<NoMemory> for PackFault {
+    ghost use Rattle.fd_packing.specs.declared.fault.PackFault.TheVariants.{NoMemory};
+
+    ghost from_gives = { λ _ e. e ≡ NoMemory };
+
+    fn from(_: NoMemory) -> PackFault {
+        PackFault::NoMemory
+    }
+}
