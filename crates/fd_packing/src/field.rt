@@ -1,4 +1,4 @@
-ghost use Rattle.std.specs.Prelude.{◌≡◌, ◌<◌, ◌^◌};
+ghost use Rattle.std.specs.Prelude.{ℕ, ◌≡◌, ◌<◌, ◌^◌, Some, length, slice_get};
 ghost use Rattle.fd_sections.specs.Parts.{sections_of};
 ghost use Rattle.fd_packing.specs.Value.{value_of, values_of};
 ghost use Rattle.fd_packing.specs.Field.{field_of};
@@ -30,7 +30,8 @@ impl<'a> Model for Field<'a> {
 }
 
 impl<'a> Field<'a> {
-    /// Reads the field of a message. Of the faults that hold the first is answered.
+    /// Reads the field of a message. Of the faults that hold the first is answered, in the order of `FieldFault`. Nothing
+    /// is kept but numbers and where the octets lie, so no memory is taken, and `NoMemory` doesn't come.
     pub fn read(_alloc: Global, message: &Message<'a>) -> Result<Field<'a>, FieldFault>
         ensures { result ≡ field_of (sections_of message.now) }
     {
@@ -59,7 +60,10 @@ impl<'a> Field<'a> {
 
     /// The values of all points in order. Going over them takes time in proportion to their number.
     pub fn values(&self) -> Points<'a>
-        ensures { result ≡ values_of self.now }
+        ensures values { result ≡ values_of self.now }
+        // There is one for each point, and it is the point's.
+        ensures count { length result ≡ self.now.points }
+        ensures each { (i : ℕ) → i < self.now.points → slice_get result i ≡ Some (value_of self.now i) }
     {
         Points {
             parts: self.parts,
