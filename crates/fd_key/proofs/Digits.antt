@@ -89,3 +89,12 @@ short_with_unit n u text e small few =
     let front : length (decimal n ++ codes "u") ≡ length (decimal n) + 1 = length-append (decimal n) (codes "u") in
     let all : length ((decimal n ++ codes "u") ++ decimal u) ≡ length (decimal n ++ codes "u") + length (decimal u) = length-append (decimal n ++ codes "u") (decimal u) in
     rw e (omega arith)
+
+-- how long two numbers up to 255 with `-` between them are
+pub short_two : (n u : ℕ) (text : List ℕ) → text ≡ decimal n ++ codes "-" ++ decimal u → n < 2 ^ 8 → u < 2 ^ 8 → length text ≤ 32
+short_two n u text e small few =
+    let one : length (decimal n) ≤ 3 = decimal_fits 3 n (omega arith) (omega arith) (omega arith) in
+    let two : length (decimal u) ≤ 3 = decimal_fits 3 u (omega arith) (omega arith) (omega arith) in
+    let front : length (decimal n ++ codes "-") ≡ length (decimal n) + 1 = length-append (decimal n) (codes "-") in
+    let all : length ((decimal n ++ codes "-") ++ decimal u) ≡ length (decimal n ++ codes "-") + length (decimal u) = length-append (decimal n ++ codes "-") (decimal u) in
+    rw e (omega arith)

@@ -1,3 +1,6 @@
 pub mod Digits
 pub mod NameLaws
+pub mod Zeros
+pub mod KeyLaws
+pub mod GivenLaws
 pub mod PairLaws

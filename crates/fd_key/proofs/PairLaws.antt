@@ -89,14 +89,14 @@ with_new_pair (p ∷ ps) name text none = go (bytes_eq name p.0) none (with_new_
     go true h e = absurd (cc)
     go false h e = ap (λ qs. p ∷ qs) (e h)
 
+pub count_within_rest : (ps : List Pair) → length ps ≤ length (rest_text ps)
+count_within_rest [] = omega arith
+count_within_rest (p ∷ ps) = omega (arith, count_within_rest ps, length-rest_text p ps)
+
 -- there are no more pairs than bytes in their text
 pub count_within_text : (ps : List Pair) → length ps ≤ length (key_text ps)
 count_within_text [] = omega arith
 count_within_text (p ∷ ps) = omega (arith, count_within_rest ps, length-key_text p ps)
-  where
-    count_within_rest : (qs : List Pair) → length qs ≤ length (rest_text qs)
-    count_within_rest [] = omega arith
-    count_within_rest (q ∷ qs) = omega (arith, count_within_rest qs, length-rest_text q qs)
 
 rest_joined : (ps qs : List Pair) → length (rest_text (ps ++ qs)) ≡ length (rest_text ps) + length (rest_text qs)
 rest_joined [] qs = omega arith
@@ -110,3 +110,21 @@ rest_short (p ∷ ps) = omega (arith, length-rest_text p ps, length-key_text p p
 pub key_text_joined : (ps qs : List Pair) → length (key_text (ps ++ qs)) ≤ length (key_text ps) + length (key_text qs) + 1
 key_text_joined [] qs = omega arith
 key_text_joined (p ∷ ps) qs = omega (arith, rest_joined ps qs, rest_short qs, length-key_text p (ps ++ qs), length-key_text p ps)
+
+-- a pair makes a key longer by one at most
+pub with_pair_longer : (ps : List Pair) (name text : List ℕ) → length (with_pair ps name text) ≤ length ps + 1
+with_pair_longer [] name text = omega arith
+with_pair_longer (p ∷ ps) name text = go (bytes_eq name p.0) (with_pair_longer ps name text)
+  where
+    go : (b : Bool) → length (with_pair ps name text) ≤ length ps + 1 → length (cond b ((p.0, text) ∷ ps) (p ∷ with_pair ps name text)) ≤ length (p ∷ ps) + 1
+    go true h = omega arith
+    go false h = omega arith
+
+-- a pair behind others, with a comma before each
+pub length-rest_push : (ps : List Pair) (name text : List ℕ) → length (rest_text (ps ++ (name, text) ∷ [])) ≡ length (rest_text ps) + length name + length text + 2
+length-rest_push ps name text = omega (arith, rest_joined ps ((name, text) ∷ []), length-rest_text (name, text) [])
+
+-- the first of them needs no comma
+pub length-key_push : (ps : List Pair) (p : Pair) → length (key_text (ps ++ p ∷ [])) + 1 ≡ length (rest_text (ps ++ p ∷ []))
+length-key_push [] p = omega (arith, length-key_text p [], length-rest_text p [])
+length-key_push (q ∷ ps) p = omega (arith, length-key_text q (ps ++ p ∷ []), length-rest_text q (ps ++ p ∷ []))

@@ -1,20 +1,17 @@
 -- The one spelling of a value, by the name that it belongs to.
-use Rattle.std.specs.Prelude.{◌≡◌, ℕ, List, ◌++◌, codes, Option, Some, None, option_map, Result, Ok, Err, if◌then◌else◌, ◌&&◌, String, string_bytes}
+use Rattle.std.specs.Prelude.{◌≡◌, ℕ, Bool, true, List, ◌++◌, codes, Option, Some, None, option_map, Result, Ok, Err, if◌then◌else◌, ◌&&◌, String, string_bytes}
 use Rattle.std.specs.Fmt.{decimal}
 use Rattle.std.specs.declared.alloc.Global.{Global}
 use Rattle.fd_key.specs.declared.meaning.Meaning.{Meaning}
-use Rattle.fd_key.specs.declared.meaning.Meaning.TheVariants.{Centre, ProcessedType, Param, Step, Other}
+use Rattle.fd_key.specs.declared.meaning.Meaning.TheVariants.{Centre, Date, Time, ProcessedType, Param, Levtype, Levelist, Step, Other}
 use Rattle.fd_key.specs.declared.fault.ValueFault.{ValueFault}
 use Rattle.fd_key.specs.declared.fault.ValueFault.TheVariants.{BadValue, NoMemory}
 use Rattle.fd_key.specs.Names.{lower, is_name, is_value, meaning_of}
 use Rattle.fd_key.specs.Pairs.{Pair}
-use Rattle.fd_key.specs.Numerals.{number_up_to, cut}
+use Rattle.fd_key.specs.Numerals.{number_up_to, cut, ◌>>=◌}
 use Rattle.fd_key.specs.Steps.{step_spelling}
-
-infixl 10 ◌>>=◌
-abbrev pub ◌>>=◌ : {A B : Type 0} → Option A → (A → Option B) → Option B
-None >>= f = None
-(Some x) >>= f = f x
+use Rattle.fd_key.specs.Civil.{date_spelling, time_spelling}
+use Rattle.fd_key.specs.Levels.{levtype_spelling, levelist_spelling}
 
 -- `d.c.n`: discipline, category and number of a parameter
 abbrev pub param_text : ℕ → ℕ → ℕ → List ℕ
@@ -36,15 +33,24 @@ param_of p = param_text p.0 p.1 p.2
 -- the one spelling of a text in lower case
 unfoldable pub spelling : Meaning → List ℕ → Option (List ℕ)
 spelling Centre text = option_map decimal (number_up_to 65535 text)
+spelling Date text = date_spelling text
+spelling Time text = time_spelling text
 spelling ProcessedType text = option_map decimal (number_up_to 255 text)
 spelling Param text = option_map param_of (param_numbers text)
+spelling Levtype text = levtype_spelling text
+spelling Levelist text = levelist_spelling text
 spelling Step text = step_spelling text
-spelling Other text = None
+spelling Other text = Some text
+
+-- a value, or a time, in which `:` may stand
+abbrev pub is_text_of : Meaning → List ℕ → Bool
+is_text_of Time text = true
+is_text_of meaning text = is_value text
 
 -- the one spelling of the text as a value of the name, if it is one
 unfoldable pub canonical : List ℕ → List ℕ → Option (List ℕ)
 canonical name text =
-    if is_name (lower name) && is_value (lower text)
+    if is_name (lower name) && is_text_of (meaning_of (lower name)) (lower text)
     then spelling (meaning_of (lower name)) (lower text)
     else None
 

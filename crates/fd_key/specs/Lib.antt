@@ -2,6 +2,8 @@ pub mod Names
 pub mod Pairs
 pub mod Numerals
 pub mod Steps
+pub mod Civil
+pub mod Levels
 pub mod Canonical
 pub mod Seen
 pub mod Given

@@ -3,11 +3,15 @@ use Rattle.std.specs.Prelude.{ℕ, Bool, false, List, [], ◌∷◌, length, cod
 use Rattle.std.specs.List.{list_all}
 use Rattle.std.specs.Str.{bytes_eq, str_to_ascii_lowercase}
 use Rattle.fd_key.specs.declared.meaning.Meaning.{Meaning}
-use Rattle.fd_key.specs.declared.meaning.Meaning.TheVariants.{Centre, ProcessedType, Param, Step, Other}
+use Rattle.fd_key.specs.declared.meaning.Meaning.TheVariants.{Centre, Date, Time, ProcessedType, Param, Levtype, Levelist, Step, Other}
 
 -- upper-case letters are read as lower-case ones
 abbrev pub lower : List ℕ → List ℕ
 lower text = str_to_ascii_lowercase text
+
+-- a byte of ASCII
+abbrev pub is_ascii : ℕ → Bool
+is_ascii b = nat_lt b 128
 
 -- `a` to `z`
 abbrev pub is_letter : ℕ → Bool
@@ -38,7 +42,11 @@ is_value text = nat_lt 0 (length text) && nat_le (length text) 255 && list_all i
 abbrev pub meaning_of : List ℕ → Meaning
 meaning_of name =
     if bytes_eq name (codes "centre") then Centre
+    else if bytes_eq name (codes "date") then Date
+    else if bytes_eq name (codes "time") then Time
     else if bytes_eq name (codes "type") then ProcessedType
     else if bytes_eq name (codes "param") then Param
+    else if bytes_eq name (codes "levtype") then Levtype
+    else if bytes_eq name (codes "levelist") then Levelist
     else if bytes_eq name (codes "step") then Step
     else Other

@@ -11,6 +11,11 @@ abbrev pub with_pair : List Pair → List ℕ → List ℕ → List Pair
 with_pair [] name text = (name, text) ∷ []
 with_pair (p ∷ ps) name text = if bytes_eq name p.0 then (p.0, text) ∷ ps else p ∷ with_pair ps name text
 
+-- the same with a text that may be absent
+abbrev pub with_pair_if : List Pair → List ℕ → Option (List ℕ) → List Pair
+with_pair_if ps name None = ps
+with_pair_if ps name (Some text) = with_pair ps name text
+
 -- the text of a name
 abbrev pub text_of : List Pair → List ℕ → Option (List ℕ)
 text_of [] name = None

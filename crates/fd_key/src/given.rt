@@ -1,9 +1,14 @@
-ghost use Rattle.std.specs.Prelude.{◌≡◌, ◌<◌, ◌^◌, length, [], Some, slice_get};
-ghost use Rattle.fd_key.specs.Given.{IsGiven, given_of};
-ghost use Rattle.fd_key.specs.Reading.{GivesGiven};
+ghost use Rattle.std.specs.Prelude.{◌≡◌, ◌<◌, ◌+◌, ◌-◌, ◌^◌, ◌∷◌, length, [], true, Some, Ok, IfNone, IfSome, IfErr, OnOk, option_map, slice_get};
+ghost use Rattle.std.specs.Option.{option_copied};
+ghost use Rattle.fd_key.specs.Names.{is_name, is_value};
+ghost use Rattle.fd_key.specs.Given.{IsGiven, given_of, pairs_from, with_piece, is_reserved, plain_pair, new_pair, pieces_of};
+ghost use Rattle.fd_key.specs.Reading.{GivesGiven, GivesNew, Refuses, pieces_if};
 
 use crate::fault::GivenFault;
 use crate::key::Key;
+use crate::meaning::{Meaning, meaning_of};
+use crate::names::{is_name, is_value, lower, text_from};
+use crate::numerals::cut;
 use std::alloc::Global;
 use std::marker::Model;
 
@@ -27,20 +32,54 @@ impl Model for Given {
 }
 
 impl Given {
-    /// Reads `name=value` pairs that are joined by commas. The empty text is no pair.
+    /// Reads `name=value` pairs that are joined by commas; upper-case letters are read as lower-case ones. The empty text
+    /// is no pair.
     ///
-    /// `Pair` names the first byte of the first pair that isn't one.
+    /// The first cause from left to right is answered: `Pair` with the first byte of a pair that isn't one, `Clash` with a
+    /// name that messages have of their own or that is kept for later, and `Twice` with a name that came before.
     #[tactic(auto, unfolding(crate::specs::Given::given_of))]
     pub fn read(alloc: Global, text: &str) -> Result<Given, GivenFault>
         requires { length text.now < 2 ^ 31 }
         ensures { GivesGiven result (given_of text.now) }
     {
+        let text = lower(alloc, text)?;
         if text.is_empty() {
-            return Ok(Given {
-                pairs: Key::new(alloc)?,
-            });
+            return Given::none(alloc);
         }
-        Err(GivenFault::Pair { at: 0 })
+        Given::read_pieces(alloc, text.as_bytes())
+    }
+
+    /// No pairs.
+    fn none(alloc: Global) -> Result<Given, GivenFault>
+        ensures { GivesGiven result (Ok []) }
+    {
+        Ok(Given {
+            pairs: Key::new(alloc)?,
+        })
+    }
+
+    /// Reads one pair or more in lower case.
+    fn read_pieces(alloc: Global, text: &[u8]) -> Result<Given, GivenFault>
+        requires { length text.now < 2 ^ 31 }
+        ensures { GivesGiven result (pairs_from 0 [] (pieces_of text.now)) }
+    {
+        let mut pairs = Key::new(alloc)?;
+        let mut at = 0;
+        let mut rest = text;
+        'pairs: loop {
+            let (piece, behind) = first_piece(rest);
+            match put_piece(alloc, &mut pairs, piece, at) {
+                Ok(()) => {}
+                Err(fault) => return Err(fault),
+            }
+            match behind {
+                None => return Ok(Given { pairs }),
+                Some(others) => {
+                    at += piece.len() as u32 + 1;
+                    rest = others;
+                }
+            }
+        }
     }
 
     /// The number of pairs.
@@ -57,5 +96,77 @@ impl Given {
         ensures { slice_get self.now i ≡ Some (result.0.now, result.1.now) }
     {
         self.pairs.pair(i)
+    }
+}
+
+/// What stands before the first comma, and what stands behind it.
+fn first_piece(text: &[u8]) -> (&[u8], Option<&[u8]>)
+    ensures pieces { pieces_of text.now ≡ result.0.now ∷ pieces_if (option_copied result.1) }
+    ensures last { IfNone result.1 (result.0.now ≡ text.now) }
+    ensures lengths { IfSome result.1 (λ o. length text.now ≡ length result.0.now + length o.now + 1) }
+{
+    match cut(text, b',') {
+        Some((piece, others)) => (piece, Some(others)),
+        None => (text, None),
+    }
+}
+
+/// Puts the pair of a piece, which begins at this place. After a refusal nothing has changed.
+#[tactic(auto, unfolding(crate::specs::Given::with_piece))]
+fn put_piece(alloc: Global, pairs: &mut Key, piece: &[u8], at: u32) -> Result<(), GivenFault>
+    requires { length pairs.old < 2 ^ 32 - 1 }
+    ensures ok { OnOk result (with_piece pairs.old piece.now at ≡ Ok pairs.new) }
+    ensures err { IfErr result (λ e. Refuses e (with_piece pairs.old piece.now at)) }
+{
+    let (name, value) = new_pair(alloc, pairs, piece, at)?;
+    pairs.add(alloc, name.as_str(), value.as_str())?;
+    Ok(())
+}
+
+/// The name and the value of a piece, which begins at this place.
+fn new_pair(
+    alloc: Global,
+    before: &Key,
+    piece: &[u8],
+    at: u32,
+) -> Result<(String, String), GivenFault>
+    ensures { GivesNew result (new_pair before.now (plain_pair piece.now) at) }
+{
+    let Some((name, value)) = plain_pair(piece) else {
+        return Err(GivenFault::Pair { at });
+    };
+    let name = text_from(alloc, name)?;
+    if is_reserved(name.as_str()) {
+        return Err(GivenFault::Clash(name));
+    }
+    if before.get(name.as_str()).is_some() {
+        return Err(GivenFault::Twice(name));
+    }
+    let value = text_from(alloc, value)?;
+    Ok((name, value))
+}
+
+/// A name and a value with `=` between them, in lower case.
+#[tactic(auto, unfolding(crate::specs::Given::plain_pair))]
+fn plain_pair(piece: &[u8]) -> Option<(&[u8], &[u8])>
+    ensures pair { option_map (λ x. (x.0.now, x.1.now)) result ≡ plain_pair piece.now }
+    ensures name { IfSome result (λ x. is_name x.0.now ≡ true) }
+    ensures value { IfSome result (λ x. is_value x.1.now ≡ true) }
+{
+    let (name, value) = cut(piece, b'=')?;
+    if is_name(name) && is_value(value) {
+        Some((name, value))
+    } else {
+        None
+    }
+}
+
+/// Tells that messages have this name of their own, or that it is kept for later.
+fn is_reserved(name: &str) -> bool
+    ensures { result ≡ is_reserved name.now }
+{
+    match meaning_of(name) {
+        Meaning::Other => name == "number" || name == "stat",
+        _ => true,
     }
 }

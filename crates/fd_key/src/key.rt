@@ -92,10 +92,11 @@ impl Key {
     }
 
     /// Adds a pair whose name it doesn't have.
-    fn add(&mut self, alloc: Global, name: &str, text: &str) -> Result<(), NoMemory>
+    pub(crate) fn add(&mut self, alloc: Global, name: &str, text: &str) -> Result<(), NoMemory>
         requires room { length self.old < 2 ^ 32 - 1 }
         requires other { text_of self.old name.now ≡ None }
-        ensures { OnOk result (self.new ≡ self.old ++ (name.now, text.now) ∷ []) }
+        ensures pair { OnOk result (self.new ≡ self.old ++ (name.now, text.now) ∷ []) }
+        ensures short { OnOk result (length (key_text self.new) ≤ length (key_text self.old) + length name.now + length text.now + 2) }
     {
         self.put(alloc, name, text)
     }

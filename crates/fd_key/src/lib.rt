@@ -2,12 +2,15 @@
 //! sections and of pairs that the writer gives, and each value has one spelling.
 #![tactic(auto)]
 
+mod civil;
 mod fault;
 mod given;
 mod key;
+mod levels;
 mod meaning;
 mod names;
 mod numerals;
+mod octets;
 mod of_message;
 mod steps;
 mod values;

@@ -6,10 +6,18 @@ ghost use Rattle.fd_key.specs.Names.{meaning_of};
 pub enum Meaning {
     /// The originating centre.
     Centre,
+    /// The day of the reference time.
+    Date,
+    /// The time of day of the reference time.
+    Time,
     /// The type of processed data.
     ProcessedType,
     /// The parameter.
     Param,
+    /// The types of the surfaces.
+    Levtype,
+    /// The values of the surfaces.
+    Levelist,
     /// The forecast time.
     Step,
     /// A name that only writers give.
@@ -22,10 +30,18 @@ pub(crate) fn meaning_of(name: &str) -> Meaning
 {
     if name == "centre" {
         Meaning::Centre
+    } else if name == "date" {
+        Meaning::Date
+    } else if name == "time" {
+        Meaning::Time
     } else if name == "type" {
         Meaning::ProcessedType
     } else if name == "param" {
         Meaning::Param
+    } else if name == "levtype" {
+        Meaning::Levtype
+    } else if name == "levelist" {
+        Meaning::Levelist
     } else if name == "step" {
         Meaning::Step
     } else {

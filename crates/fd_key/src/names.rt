@@ -1,6 +1,6 @@
-ghost use Rattle.std.specs.Prelude.{◌≡◌, IfOk, string_bytes};
+ghost use Rattle.std.specs.Prelude.{◌≡◌, ◌++◌, true, IfOk, OnOk, string_bytes};
 ghost use Rattle.std.specs.List.{list_all};
-ghost use Rattle.fd_key.specs.Names.{lower, is_letter, is_name, is_name_byte, is_value, is_value_byte};
+ghost use Rattle.fd_key.specs.Names.{lower, is_ascii, is_letter, is_name, is_name_byte, is_value, is_value_byte};
 
 use fd_bytes::NoMemory;
 use std::alloc::Global;
@@ -12,6 +12,27 @@ pub(crate) fn lower(alloc: Global, text: &str) -> Result<String, NoMemory>
     let mut lowered = String::from_str(alloc, text)?;
     lowered.make_ascii_lowercase();
     Ok(lowered)
+}
+
+/// A text of these bytes, which are ASCII.
+pub(crate) fn text_from(alloc: Global, bytes: &[u8]) -> Result<String, NoMemory>
+    requires { list_all is_ascii bytes.now ≡ true }
+    ensures { IfOk result (λ s. string_bytes s ≡ bytes.now) }
+{
+    let mut out = String::new(alloc);
+    push_bytes(&mut out, bytes)?;
+    Ok(out)
+}
+
+/// Appends bytes, which are ASCII, to a text.
+pub(crate) fn push_bytes(out: &mut String, bytes: &[u8]) -> Result<(), NoMemory>
+    requires { list_all is_ascii bytes.now ≡ true }
+    ensures { OnOk result (string_bytes out.new ≡ string_bytes out.old ++ bytes.now) }
+{
+    for b in bytes {
+        out.push(char::from(*b))?;
+    }
+    Ok(())
 }
 
 fn is_letter(b: u8) -> bool

@@ -75,7 +75,7 @@ fn are_digits(text: &[u8]) -> bool
 }
 
 /// Tells that the text is one digit or more.
-fn is_numeral(text: &[u8]) -> bool
+pub(crate) fn is_numeral(text: &[u8]) -> bool
     ensures { result ≡ is_numeral text.now }
 {
     0 < text.len() && are_digits(text)

@@ -1,9 +1,11 @@
 ghost use Rattle.std.specs.Prelude.{◌≡◌, ◌≤◌, IfOk, IfSome, length, string_bytes, option_map};
 ghost use Rattle.std.specs.Fmt.{decimal};
 ghost use Rattle.fd_key.specs.Numerals.{number_up_to, cut};
-ghost use Rattle.fd_key.specs.Canonical.{GivesText, GivesPair, canonical, pair_of, param_text, param_of, param_numbers, spelling};
+ghost use Rattle.fd_key.specs.Canonical.{GivesText, GivesPair, canonical, pair_of, param_text, param_of, param_numbers, spelling, is_text_of};
 
+use crate::civil::{date_spelling, time_spelling};
 use crate::fault::ValueFault;
+use crate::levels::{levelist_spelling, levtype_spelling};
 use crate::meaning::{Meaning, meaning_of};
 use crate::names::{is_name, is_value, lower};
 use crate::numerals::{cut, number_up_to};
@@ -63,15 +65,36 @@ fn param_spelling(alloc: Global, text: &[u8]) -> Result<String, ValueFault>
 
 /// The one spelling of a text in lower case.
 #[tactic(auto, unfolding(crate::specs::Canonical::spelling))]
-fn spelling(alloc: Global, meaning: Meaning, text: &[u8]) -> Result<String, ValueFault>
+fn spelling(alloc: Global, meaning: Meaning, text: &str) -> Result<String, ValueFault>
     ensures { GivesText result (spelling meaning text.now) }
 {
+    let bytes = text.as_bytes();
     match meaning {
-        Meaning::Centre => number_spelling(alloc, text, 65_535),
-        Meaning::ProcessedType => number_spelling(alloc, text, 255),
-        Meaning::Param => param_spelling(alloc, text),
-        Meaning::Step => step_spelling(alloc, text),
-        Meaning::Other => Err(ValueFault::BadValue),
+        Meaning::Centre => number_spelling(alloc, bytes, 65_535),
+        Meaning::Date => date_spelling(alloc, bytes),
+        Meaning::Time => time_spelling(alloc, bytes),
+        Meaning::ProcessedType => number_spelling(alloc, bytes, 255),
+        Meaning::Param => param_spelling(alloc, bytes),
+        Meaning::Levtype => levtype_spelling(alloc, bytes),
+        Meaning::Levelist => levelist_spelling(alloc, bytes),
+        Meaning::Step => step_spelling(alloc, bytes),
+        Meaning::Other => Ok(copy_of(alloc, text)?),
+    }
+}
+
+fn copy_of(alloc: Global, text: &str) -> Result<String, NoMemory>
+    ensures { IfOk result (λ s. string_bytes s ≡ text.now) }
+{
+    Ok(String::from_str(alloc, text)?)
+}
+
+/// Tells that a text in lower case is a value, or may be a time, in which `:` stands.
+fn is_text_of(meaning: Meaning, text: &[u8]) -> bool
+    ensures { result ≡ is_text_of meaning text.now }
+{
+    match meaning {
+        Meaning::Time => true,
+        _ => is_value(text),
     }
 }
 
@@ -83,10 +106,11 @@ pub fn canonical(alloc: Global, name: &str, text: &str) -> Result<String, ValueF
 {
     let name = lower(alloc, name)?;
     let text = lower(alloc, text)?;
-    if !is_name(name.as_bytes()) || !is_value(text.as_bytes()) {
+    let meaning = meaning_of(name.as_str());
+    if !is_name(name.as_bytes()) || !is_text_of(meaning, text.as_bytes()) {
         return Err(ValueFault::BadValue);
     }
-    spelling(alloc, meaning_of(name.as_str()), text.as_bytes())
+    spelling(alloc, meaning, text.as_str())
 }
 
 /// A word `name=value` of the command line: the name in lower case, and the value in its one spelling. `BadValue` exactly
