@@ -3,4 +3,6 @@ pub mod NameLaws
 pub mod Zeros
 pub mod KeyLaws
 pub mod GivenLaws
+mod Rows
+mod Again
 pub mod PairLaws

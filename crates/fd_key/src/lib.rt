@@ -20,3 +20,6 @@ pub use given::Given;
 pub use key::Key;
 pub use of_message::key_of;
 pub use values::{canonical, read_pair};
+
+#[cfg(test)]
+mod tests;
