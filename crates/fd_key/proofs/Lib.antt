@@ -4,5 +4,4 @@ pub mod Zeros
 pub mod KeyLaws
 pub mod GivenLaws
 mod Rows
-mod Again
 pub mod PairLaws

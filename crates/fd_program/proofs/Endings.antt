@@ -70,7 +70,7 @@ done message r a b c d m n out t =
 -- the status of a refusal is one that tells the outcome
 refused_ends : (refusal : Refusal) (a c d : Text) → Takes c d (refusal_line refusal) → Ends (refusal_status refusal) (picked (Err refusal)) [] a a c d
 refused_ends (refusals.Message number) a c d t = record { status = refl; output = Takes-none a; report = t }
-refused_ends (refusals.Key number) a c d t = record { status = refl; output = Takes-none a; report = t }
+refused_ends (refusals.Key number fault) a c d t = record { status = refl; output = Takes-none a; report = t }
 refused_ends (refusals.TooLong len) a c d t = record { status = refl; output = Takes-none a; report = t }
 refused_ends refusals.Input a c d t = record { status = refl; output = Takes-none a; report = t }
 

@@ -14,7 +14,7 @@ use Rattle.fd_key.specs.Keys.{key_of}
 use Rattle.fd_program.specs.declared.pick.Last.{Last}
 use Rattle.fd_program.specs.declared.refusal.Refusal.{Refusal}
 use Rattle.fd_program.specs.declared.refusal.Refusal.TheVariants as refusals
-use Rattle.fd_program.specs.Found.{IsKeyIfAny, IsLast, Took, IsConsidered}
+use Rattle.fd_program.specs.Found.{IsLast, Took, IsConsidered}
 use Rattle.fd_program.specs.Picking.{found_after, unless, keyless, this_or, refused, last_wanted, has_wanted}
 
 abbrev Found : Type 0
@@ -30,7 +30,7 @@ goes_over wanted past n before m k pairs s e =
 
 -- a message without one
 pub stops_at : (wanted : List Pair) (past : Bool) (n : ℕ) (before : Option Sections) (m : Sections) (k : ℕ) (fault : KeyFault) (s : Stream) → key_of m [] ≡ Err fault
-    → found_after wanted past n before (after (m ∷ []) k s) ≡ Err (refusals.Key (n + 1))
+    → found_after wanted past n before (after (m ∷ []) k s) ≡ Err (refusals.Key (n + 1) fault)
 stops_at wanted past n before m k fault s e = rw e refl
 
 -- octets that are skipped change nothing
@@ -84,20 +84,13 @@ waits wanted p q old e goes =
     }
 
 -- what a message's key is, where no pairs are given
-pub keyed : (m : Sections) (given : List Pair) (o : Option (List Pair)) (pairs : List Pair) → given ≡ [] → o ≡ Some pairs → IsKeyIfAny (key_of m given) o → key_of m [] ≡ Ok pairs
-keyed m given o pairs e f is =
-    let h : IsKeyIfAny (key_of m []) (Some pairs) = subst (λ (g : List Pair). IsKeyIfAny (key_of m g) (Some pairs)) e (subst (IsKeyIfAny (key_of m given)) f is) in
-    h
+pub keyed : (m : Sections) (given : List Pair) (r k : Result (List Pair) KeyFault) → given ≡ [] → r ≡ k → key_of m given ≡ r → key_of m [] ≡ k
+keyed m given r k e f is = ap (key_of m) (sym e) ∙ is ∙ f
 
-pub unkeyed : (m : Sections) (given : List Pair) (o : Option (List Pair)) → given ≡ [] → o ≡ None → IsKeyIfAny (key_of m given) o → (fault : KeyFault) × (key_of m [] ≡ Err fault)
-unkeyed m given o e f is =
-    let h : IsKeyIfAny (key_of m []) None = subst (λ (g : List Pair). IsKeyIfAny (key_of m g) None) e (subst (IsKeyIfAny (key_of m given)) f is) in
-    h
-
-pub keyless_stops : (wanted : List Pair) (past : Bool) (p : Progress) (m : Sections) (fault : KeyFault) (n : ℕ) → answer p (first p.rest) ≡ Ok (Some m) → key_of m [] ≡ Err fault → n ≡ p.given → (before : Option Sections) (more : List ℕ) → found_after wanted past p.given before (stream (p.rest ++ more)) ≡ Err (refusals.Key (n + 1))
+pub keyless_stops : (wanted : List Pair) (past : Bool) (p : Progress) (m : Sections) (fault : KeyFault) (n : ℕ) → answer p (first p.rest) ≡ Ok (Some m) → key_of m [] ≡ Err fault → n ≡ p.given → (before : Option Sections) (more : List ℕ) → found_after wanted past p.given before (stream (p.rest ++ more)) ≡ Err (refusals.Key (n + 1) fault)
 keyless_stops wanted past p m fault n e key count before more =
     let a = answered p (first p.rest) m e in
-    ap (found_after wanted past p.given before) (stream-takes p.rest more m a.0 a.1) ∙ stops_at wanted past p.given before m (gap p.rest) fault (stream (a.0 ++ more)) key ∙ ap (λ (k : ℕ). Err (refusals.Key (k + 1))) (sym count)
+    ap (found_after wanted past p.given before) (stream-takes p.rest more m a.0 a.1) ∙ stops_at wanted past p.given before m (gap p.rest) fault (stream (a.0 ++ more)) key ∙ ap (λ (k : ℕ). Err (refusals.Key (k + 1) fault)) (sym count)
 
 abbrev made : ℕ → Bad → BadAt
 made n b = record { number = n; bad = b }

@@ -5,7 +5,6 @@ use Rattle.fd_sections.specs.Progress.{Progress}
 use Rattle.fd_sections.specs.Splitting.{answer}
 use Rattle.fd_sections.specs.Stream.{first, stream}
 use Rattle.fd_key.specs.Pairs.{Pair}
-use Rattle.fd_key.specs.declared.fault.KeyFault.{KeyFault}
 use Rattle.fd_program.specs.declared.refusal.Refusal.{Refusal}
 use Rattle.fd_program.specs.declared.pick.Stop.{Stop}
 use Rattle.fd_program.specs.declared.pick.Stop.TheVariants as stop
@@ -72,8 +71,3 @@ pub record TookAll (wanted : List Pair) (p q : Progress) (old new : Last) : Type
 abbrev pub IsConsidered : Bool → List ℕ → Last → Last → Type 0
 IsConsidered true octets old new = (new.found ≡ true) × (new.octets.items ≡ octets)
 IsConsidered false octets old new = new ≡ old
-
--- the key of a message is this, or it has none
-abbrev pub IsKeyIfAny : Result (List Pair) KeyFault → Option (List Pair) → Type 0
-IsKeyIfAny key (Some pairs) = key ≡ Ok pairs
-IsKeyIfAny key None = (fault : KeyFault) × (key ≡ Err fault)

@@ -2,6 +2,8 @@
 use Rattle.std.specs.Prelude.{ℕ, List, [], ◌∷◌, ◌++◌, codes, Option, Some, None, Result, Ok, Err}
 use Rattle.std.specs.Fmt.{decimal}
 use Rattle.fd_sections.specs.Message.{Sections, message_octets}
+use Rattle.fd_key.specs.declared.fault.KeyFault.{KeyFault}
+use Rattle.fd_key.specs.declared.fault.KeyFault.TheVariants.{Product, ProductLength, BadDate, KeyTooLong, NoMemory}
 use Rattle.fd_program.specs.declared.command.Command.{Command}
 use Rattle.fd_program.specs.declared.command.Command.TheVariants.{Pick}
 use Rattle.fd_program.specs.declared.refusal.Refusal.{Refusal}
@@ -20,16 +22,28 @@ pub record Outcome : Type 0 where
 abbrev pub line : List ℕ → List ℕ
 line text = text ++ 10 ∷ []
 
+-- the kind of a fault and its number
+abbrev pub key_fault_text : KeyFault → List ℕ
+key_fault_text (Product template) = codes "Product " ++ decimal template
+key_fault_text (ProductLength said) = codes "ProductLength " ++ decimal said
+key_fault_text BadDate = codes "BadDate"
+key_fault_text (KeyTooLong len) = codes "KeyTooLong " ++ decimal len
+key_fault_text NoMemory = codes "NoMemory"
+
+-- the line that tells why a message has no key
+abbrev pub refused_key_line : ℕ → KeyFault → List ℕ
+refused_key_line n fault = line (codes "refused key " ++ decimal n ++ codes " " ++ key_fault_text fault)
+
 -- the line that tells why the input is refused
 abbrev pub refusal_line : Refusal → List ℕ
 refusal_line (refusals.Message n) = line (codes "refused message " ++ decimal n)
-refusal_line (refusals.Key n) = line (codes "refused key " ++ decimal n)
+refusal_line (refusals.Key n fault) = refused_key_line n fault
 refusal_line (refusals.TooLong len) = line (codes "limit TooLong " ++ decimal len)
 refusal_line refusals.Input = line (codes "limit Input 68719476736")
 
 abbrev pub refusal_status : Refusal → Status
 refusal_status (refusals.Message n) = Refused
-refusal_status (refusals.Key n) = Refused
+refusal_status (refusals.Key n fault) = Refused
 refusal_status (refusals.TooLong len) = Limit
 refusal_status refusals.Input = Limit
 

@@ -25,7 +25,7 @@ last_wanted wanted before (m ∷ ms) = last_wanted wanted (if is_wanted wanted m
 
 abbrev pub this_or : Result (List Pair) KeyFault → ℕ → Option Refusal → Option Refusal
 this_or (Ok pairs) n others = others
-this_or (Err fault) n others = Some (Key n)
+this_or (Err fault) n others = Some (Key n fault)
 
 -- the first message that has no key; n is the number of the first of all
 abbrev pub keyless : ℕ → List Sections → Option Refusal

@@ -6,7 +6,7 @@ ghost use Rattle.fd_key.specs.Pairs.{has_all};
 ghost use Rattle.fd_sections.specs.Message.{Sections};
 ghost use Rattle.fd_sections.specs.Stream.{Bad_end};
 ghost use Rattle.fd_program.specs.Picking.{found, refused, unless};
-ghost use Rattle.fd_program.specs.Found.{StoppedAs, IsNoMemory, Answers, IsKeyIfAny, is_fault, Took, TookAll, Stopped};
+ghost use Rattle.fd_program.specs.Found.{StoppedAs, IsNoMemory, Answers, is_fault, Took, TookAll, Stopped};
 ghost use Rattle.fd_key.specs.Keys.{key_of};
 ghost use Rattle.fd_sections.specs.Parts.{sections_of};
 
@@ -73,17 +73,21 @@ fn refusal_of(at: BadAt) -> Refusal
     }
 }
 
-/// The key of a message, or none where it has none.
-fn key_if_any(alloc: Global, message: &Message<'_>, given: &Given) -> Result<Option<Key>, NoMemory>
-    ensures { IfOk result (IsKeyIfAny (key_of (sections_of message.now) given.now)) }
+/// The key of a message, or why it has none. Want of memory stands apart.
+fn key_or_refusal(
+    alloc: Global,
+    message: &Message<'_>,
+    given: &Given,
+) -> Result<Result<Key, KeyFault>, NoMemory>
+    ensures { IfOk result (λ r. key_of (sections_of message.now) given.now ≡ r) }
 {
     match key_of(alloc, message, given) {
-        Ok(key) => Ok(Some(key)),
+        Ok(key) => Ok(Ok(key)),
         Err(KeyFault::NoMemory) => Err(NoMemory),
-        Err(KeyFault::Product(_)) => Ok(None),
-        Err(KeyFault::ProductLength { .. }) => Ok(None),
-        Err(KeyFault::BadDate) => Ok(None),
-        Err(KeyFault::KeyTooLong { .. }) => Ok(None),
+        Err(KeyFault::Product(number)) => Ok(Err(KeyFault::Product(number))),
+        Err(KeyFault::ProductLength { said }) => Ok(Err(KeyFault::ProductLength { said })),
+        Err(KeyFault::BadDate) => Ok(Err(KeyFault::BadDate)),
+        Err(KeyFault::KeyTooLong { len }) => Ok(Err(KeyFault::KeyTooLong { len })),
     }
 }
 
@@ -103,12 +107,12 @@ fn take_message<X>(
     let number = splitter.given() + 1;
     match splitter.next() {
         Ok(None) => Ok(false),
-        Ok(Some(message)) => match key_if_any(alloc, &message, given)? {
-            Some(key) => {
+        Ok(Some(message)) => match key_or_refusal(alloc, &message, given)? {
+            Ok(key) => {
                 last.consider(wanted, &key, message.bytes())?;
                 Ok(true)
             }
-            None => Err(Stop::Refused(Refusal::Key { number })),
+            Err(fault) => Err(Stop::Refused(Refusal::Key { number, fault })),
         },
         Err(at) => Err(Stop::Refused(refusal_of(at))),
     }

@@ -1,13 +1,14 @@
 // The lines on the report.
-ghost use Rattle.std.specs.Prelude.{◌≡◌, ◌++◌, codes};
+ghost use Rattle.std.specs.Prelude.{◌≡◌, ◌++◌, codes, string_bytes, IfOk};
 ghost use Rattle.std.specs.Fmt.{decimal};
-ghost use Rattle.fd_program.specs.Outcome.{line, refusal_line, refusal_status};
+ghost use Rattle.fd_program.specs.Outcome.{line, refusal_line, refusal_status, refused_key_line, key_fault_text};
 ghost use Rattle.fd_program.specs.Told.{Told, ToldOrNoMemory};
 
 use crate::refusal::Refusal;
 use crate::status::Status;
 use fd_io::{Sink, write_all};
-use std::alloc::Global;
+use fd_key::KeyFault;
+use std::alloc::{AllocError, Global};
 
 /// Writes the text that goes with a status. Where it can't be written, the status is that of a failed output.
 pub fn tell<X: Drop, E: Sink<X>>(report: &mut E, text: &str, status: Status) -> Status
@@ -24,6 +25,44 @@ pub fn tell_no_memory<X: Drop, E: Sink<X>>(report: &mut E) -> Status
     ensures { Told Status.NoMemory (line (codes "no memory")) result (E.taken report.old) (E.taken report.new) (E.faults report.old) (E.faults report.new) }
 {
     tell(report, "no memory\n", Status::NoMemory)
+}
+
+/// Writes the line of a message that has no key.
+fn tell_key_fault<X: Drop, E: Sink<X>>(
+    alloc: Global,
+    report: &mut E,
+    number: u64,
+    fault: KeyFault,
+) -> Status
+    ensures { ToldOrNoMemory Status.Refused (refused_key_line number fault) result (E.taken report.old) (E.taken report.new) (E.faults report.old) (E.faults report.new) }
+{
+    match key_fault_text(alloc, fault) {
+        Ok(kind) => tell_kind(alloc, report, number, kind.as_str()),
+        Err(_) => tell_no_memory(report),
+    }
+}
+
+/// Writes the line of a message that has no key, for the reason of this text.
+fn tell_kind<X: Drop, E: Sink<X>>(alloc: Global, report: &mut E, number: u64, kind: &str) -> Status
+    ensures { ToldOrNoMemory Status.Refused (line (codes "refused key " ++ decimal number ++ codes " " ++ kind.now)) result (E.taken report.old) (E.taken report.new) (E.faults report.old) (E.faults report.new) }
+{
+    match format!(in alloc; "refused key {number} {kind}\n") {
+        Ok(line) => tell(report, line.as_str(), Status::Refused),
+        Err(_) => tell_no_memory(report),
+    }
+}
+
+/// The kind of a fault and its number.
+fn key_fault_text(alloc: Global, fault: KeyFault) -> Result<String, AllocError>
+    ensures { IfOk result (λ text. string_bytes text ≡ key_fault_text fault) }
+{
+    match fault {
+        KeyFault::Product(template) => format!(in alloc; "Product {template}"),
+        KeyFault::ProductLength { said } => format!(in alloc; "ProductLength {said}"),
+        KeyFault::BadDate => String::from_str(alloc, "BadDate"),
+        KeyFault::KeyTooLong { len } => format!(in alloc; "KeyTooLong {len}"),
+        KeyFault::NoMemory => String::from_str(alloc, "NoMemory"),
+    }
 }
 
 /// Writes a text with a number at its end. Where there is no memory for it, the status and the line tell that.
@@ -50,9 +89,7 @@ pub fn tell_refusal<X: Drop, E: Sink<X>>(alloc: Global, report: &mut E, refusal:
         Refusal::Message { number } => {
             tell_number(alloc, report, "refused message ", number, Status::Refused)
         }
-        Refusal::Key { number } => {
-            tell_number(alloc, report, "refused key ", number, Status::Refused)
-        }
+        Refusal::Key { number, fault } => tell_key_fault(alloc, report, number, fault),
         Refusal::TooLong { len } => {
             tell_number(alloc, report, "limit TooLong ", len, Status::Limit)
         }

@@ -159,7 +159,13 @@ fn refuses_input(rt: HostRuntime) -> Result<(), Fail> {
     template[117] = 1;
     let mut other = Vec::from_slice(alloc, &FIELD)?;
     other.extend_from_slice(&template)?;
-    check_refused(&rt, alloc, &other, Status::Refused, "refused key 2\n")?;
+    check_refused(
+        &rt,
+        alloc,
+        &other,
+        Status::Refused,
+        "refused key 2 Product 1\n",
+    )?;
     let (cut, _) = FIELD.split_at(175);
     check_refused(&rt, alloc, cut, Status::Refused, "refused message 1\n")?;
     let mut long = FIELD;
