@@ -2,6 +2,7 @@ mod TableVectors
 pub mod Slots
 pub mod StandingLemmas
 pub mod Inverse
+mod Faults
 mod RunVectors
 mod SeenLemmas
 pub mod Reading

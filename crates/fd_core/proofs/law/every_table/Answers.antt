@@ -1,3 +1,4 @@
+use Rattle.fd_core.proofs.Faults.{fault_named, named_fault}
 use Rattle.fd_core.proofs.Inverse.{table_listed}
 use Rattle.fd_core.proofs.Slots.{listed_table}
 use Rattle.fd_core.proofs.TableVectors.{examples}
@@ -8,3 +9,6 @@ returns-clause-entries c = λ dataset bytes es short octets. ((λ is. table_list
 
 pub returns-clause-examples : goal.returns-clause-examples
 returns-clause-examples c = examples
+
+pub returns-clause-faults : goal.returns-clause-faults
+returns-clause-faults c = λ dataset bytes f short octets. ((λ is. fault_named dataset bytes f short octets is), (λ t. named_fault dataset bytes f short t))
