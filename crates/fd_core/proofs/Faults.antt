@@ -1,10 +1,10 @@
 -- The octet that is named is the first against the format.
-use Rattle.std.proofs.Common.{◌≡◌, ◌≢◌, ◌⊎◌, inl, inr, ℕ, zero, suc, ◌+◌, ◌*◌, ◌<◌, ◌≤◌, ◌==◌, Bool, true, false, if◌then◌else◌, List, [], ◌∷◌, ◌++◌, length, drop, refl, sym, ◌∙◌, ap, subst, arith, append_assoc, Option, Some, None, Result, Ok, Err}
-use Rattle.std.proofs.lemmas.Bool.Decides.{nat_tests, Decides-eqb}
+use Rattle.std.proofs.Common.{◌≡◌, ◌⊎◌, inl, inr, ℕ, zero, suc, ◌+◌, ◌≤◌, ◌==◌, Bool, true, if◌then◌else◌, List, [], ◌∷◌, ◌++◌, length, drop, refl, sym, ◌∙◌, ap, subst, arith, Option, Some, None, Result, Ok, Err}
+use Rattle.std.proofs.lemmas.Bool.Decides.{Decides-eqb}
 use Rattle.std.proofs.lemmas.List.{drop_at}
 use Rattle.fd_core.specs.declared.table.Entry.{Entry}
 use Rattle.fd_core.specs.declared.table.NotATable.{NotATable}
-use Rattle.fd_core.specs.Table.{AllFit, AreOctets, Fits, IsFirstFault, IsSlotFault, body_of, entry_fault, entry_in, fixed, gate_at, header, listed, mismatch, run_from, slots_of, unless_fault, with_entry}
+use Rattle.fd_core.specs.Table.{AllFit, AreOctets, IsFirstFault, IsSlotFault, body_of, entry_fault, entry_in, fixed, gate_at, header, listed, mismatch, run_from, slots_of, unless_fault, with_entry}
 use Rattle.fd_core.proofs.Inverse.{entry_is, front_is, is_or_not, octets_drop}
 use Rattle.fd_core.proofs.Slots.{entry_read, length-header, no_fault, no_mismatch}
 
@@ -41,12 +41,18 @@ fault_is zero i [] f all le is = no_gate i f (omega (arith, le)) is
 fault_is (suc room) i [] f all le is = no_gate i f (omega (arith, le)) is
 fault_is zero i (gate ∷ rest) f all le is = elim (is_or_not (gate == 79)) [
   | inl same ↦ record {
-      entries = []; rest = gate ∷ rest; n = i; count = omega arith; is = refl; fit = tt; few = omega (arith, le);
-      fault = (
-        (Decides-eqb gate 79).0 same,
-        inl (omega (arith, le), (let e : an_error (record { at = gate_at i; want = 0; found = Some gate }) ≡ Err f = sym (ap (λ (t : Bool). if t then an_error (record { at = gate_at i; want = 0; found = Some gate }) else no_entries) same) ∙ is in let g : record { at = gate_at i; want = 0; found = Some gate } ≡ f = cc e in sym g)),
-      );
-    }
+    entries = [];
+    rest = gate ∷ rest;
+    n = i;
+    count = omega arith;
+    is = refl;
+    fit = tt;
+    few = omega (arith, le);
+    fault = (
+      (Decides-eqb gate 79).0 same,
+      inl (omega (arith, le), (let e : an_error (record { at = gate_at i; want = 0; found = Some gate }) ≡ Err f = sym (ap (λ (t : Bool). if t then an_error (record { at = gate_at i; want = 0; found = Some gate }) else no_entries) same) ∙ is in let g : record { at = gate_at i; want = 0; found = Some gate } ≡ f = cc e in sym g)),
+    );
+  }
   | inr other ↦ absurd (let e : no_entries ≡ Err f = sym (ap (λ (t : Bool). if t then an_error (record { at = gate_at i; want = 0; found = Some gate }) else no_entries) other) ∙ is in cc e)
 ]
 fault_is (suc room) i (gate ∷ rest) f all le is =

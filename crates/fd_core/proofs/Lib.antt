@@ -3,6 +3,7 @@ pub mod Slots
 pub mod StandingLemmas
 pub mod Inverse
 mod Faults
+mod Octets
 mod RunVectors
 mod SeenLemmas
 pub mod Reading

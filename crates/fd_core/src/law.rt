@@ -1,6 +1,6 @@
 ghost use Rattle.fd_core.specs.Examples.{TableExamples};
 ghost use Rattle.fd_core.specs.Laws.{FetchesNewest, LeavesImages, OnlyGrows, OnlyPostLists, OnlyReopens, OverEveryRun, PostsItsPairs, SeesOnlyListed, SurvivesCrash};
-ghost use Rattle.fd_core.specs.Table.{ListsItsEntries, NamesFirstFault};
+ghost use Rattle.fd_core.specs.Table.{ListsItsEntries, NamesFirstFault, NamesFirstOctet};
 
 /// What holds over every interleaving of the steps, at each step: a fetch answers the newest bytes of its key among the
 /// batches that its reader has seen; the history only grows, and by nothing but a post or an opening; a post appends
@@ -22,5 +22,6 @@ pub fn every_run()
 pub fn every_table()
     ensures entries { ListsItsEntries }
     ensures faults { NamesFirstFault }
+    ensures octets { NamesFirstOctet }
     ensures examples { TableExamples }
 {}

@@ -1,5 +1,6 @@
 use Rattle.fd_core.proofs.Faults.{fault_named, named_fault}
 use Rattle.fd_core.proofs.Inverse.{table_listed}
+use Rattle.fd_core.proofs.Octets.{first_of, of_first}
 use Rattle.fd_core.proofs.Slots.{listed_table}
 use Rattle.fd_core.proofs.TableVectors.{examples}
 use Rattle.fd_core.proofs.law.every_table.Goals as goal
@@ -12,3 +13,6 @@ returns-clause-examples c = examples
 
 pub returns-clause-faults : goal.returns-clause-faults
 returns-clause-faults c = λ dataset bytes f short octets. ((λ is. fault_named dataset bytes f short octets is), (λ t. named_fault dataset bytes f short t))
+
+pub returns-clause-octets : goal.returns-clause-octets
+returns-clause-octets c = λ at pattern bytes f. ((λ is. first_of at pattern bytes f is), (λ r. of_first at pattern bytes f r))
