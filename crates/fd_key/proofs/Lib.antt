@@ -4,4 +4,5 @@ pub mod Zeros
 pub mod KeyLaws
 pub mod GivenLaws
 mod Rows
+pub mod ValueLaws
 pub mod PairLaws

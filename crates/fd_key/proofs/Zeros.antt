@@ -69,7 +69,7 @@ last_digits (b ∷ bs) h =
 abbrev nil : List ℕ
 nil = []
 
-first_shorter : (w : List ℕ) → length (without_first_zeros w) ≤ length w
+pub first_shorter : (w : List ℕ) → length (without_first_zeros w) ≤ length w
 first_shorter [] = omega arith
 first_shorter (b ∷ bs) = go (eqb b 48) (first_shorter bs)
   where
@@ -85,7 +85,7 @@ before_longer b [] = go (eqb b 48)
     go false = omega arith
 before_longer b (c ∷ cs) = omega arith
 
-last_shorter : (f : List ℕ) → length (without_last_zeros f) ≤ length f
+pub last_shorter : (f : List ℕ) → length (without_last_zeros f) ≤ length f
 last_shorter [] = omega arith
 last_shorter (b ∷ bs) = omega (arith, last_shorter bs, before_longer b (without_last_zeros bs))
 
@@ -93,7 +93,7 @@ or_zero_longer : (w : List ℕ) → length (or_zero w) ≤ length w + 1
 or_zero_longer [] = omega arith
 or_zero_longer (b ∷ bs) = omega arith
 
-point_longer : (f : List ℕ) → length (with_point f) ≤ length f + 1
+pub point_longer : (f : List ℕ) → length (with_point f) ≤ length f + 1
 point_longer [] = omega arith
 point_longer (b ∷ bs) = omega arith
 

@@ -1,9 +1,10 @@
 -- Levels: the types and values of the two fixed surfaces of a field (code table 4.5 of FM 92 GRIB).
-use Rattle.std.specs.Prelude.{ℕ, ℤ, ◌+◌, Bool, true, false, List, [], ◌∷◌, ◌++◌, length, take, drop, codes, replicate, unsigned_abs, Option, Some, None, not, ◌&&◌, ◌||◌, ◌==◌, if◌then◌else◌}
+use Rattle.std.specs.Prelude.{◌≡◌, ◌<◌, ◌≤◌, ℕ, ℤ, ◌+◌, Bool, true, false, List, [], ◌∷◌, ◌++◌, length, take, drop, codes, replicate, unsigned_abs, Option, Some, None, not, ◌&&◌, ◌||◌, ◌==◌, if◌then◌else◌}
 use Rattle.std.specs.List.{list_all}
 use Rattle.std.specs.Int.{is_negative}
 use Rattle.std.specs.Fmt.{decimal}
 use Rattle.fd_bytes.specs.Numbers.{octets, signed, is_missing}
+use Rattle.fd_key.specs.Names.{is_value_byte}
 use Rattle.fd_key.specs.Numerals.{number_up_to, cut, is_numeral, ◌>>=◌}
 
 -- the type of the first surface, and that of the second unless it is missing
@@ -57,6 +58,12 @@ unfoldable pub level_text : Bool → List ℕ → List ℕ → List ℕ
 level_text negative whole fraction =
     (if negative && not (is_zero whole && is_zero fraction) then 45 ∷ [] else [])
     ++ or_zero (without_first_zeros whole) ++ with_point (without_last_zeros fraction)
+
+-- a text of 1 to so many bytes of values
+pub record IsDecimal (most : ℕ) (text : List ℕ) : Type 0 where
+  pub bytes : list_all is_value_byte text ≡ true
+  pub some : 0 < length text
+  pub few : length text ≤ most
 
 -- digits, and a point with digits, which may be absent
 abbrev pub decimal_in : Bool → Option (List ℕ × List ℕ) → List ℕ → Option (List ℕ)

@@ -1,6 +1,7 @@
 // Civil dates and times of day.
-ghost use Rattle.std.specs.Prelude.{◌≡◌, ◌≤◌, ◌+◌, ◌%◌, ◌++◌, IfOk, OnOk, length, string_bytes};
+ghost use Rattle.std.specs.Prelude.{◌≡◌, ◌≤◌, ◌+◌, ◌%◌, ◌++◌, IfOk, OnOk, IsTrue, length, string_bytes};
 ghost use Rattle.fd_key.specs.Civil.{is_date, is_time, two_digits, date_text, time_text, date_in, date_spelling, time_in, time_spelling};
+ghost use Rattle.fd_key.specs.Names.{is_value};
 ghost use Rattle.fd_key.specs.Canonical.{GivesText};
 
 use crate::fault::ValueFault;
@@ -47,6 +48,7 @@ fn digit(number: u32) -> char
 pub(crate) fn date_text(alloc: Global, year: u32, month: u32, day: u32) -> Result<String, NoMemory>
     ensures text { IfOk result (λ s. string_bytes s ≡ date_text year month day) }
     ensures short { IfOk result (λ s. length (string_bytes s) ≤ 8) }
+    ensures value { IfOk result (λ s. IsTrue (is_value (string_bytes s))) }
 {
     let mut out = String::new(alloc);
     push_two_digits(&mut out, year / 100)?;
@@ -66,6 +68,7 @@ pub(crate) fn time_text(
 ) -> Result<String, NoMemory>
     ensures text { IfOk result (λ s. string_bytes s ≡ time_text hour minute second) }
     ensures short { IfOk result (λ s. length (string_bytes s) ≤ 6) }
+    ensures value { IfOk result (λ s. IsTrue (is_value (string_bytes s))) }
 {
     let mut out = String::new(alloc);
     push_two_digits(&mut out, hour)?;
@@ -80,7 +83,8 @@ pub(crate) fn time_text(
 /// The date whose year, month and day these digits write.
 #[tactic(auto, unfolding(crate::specs::Civil::date_in))]
 fn date_in(alloc: Global, year: &[u8], month: &[u8], day: &[u8]) -> Result<String, ValueFault>
-    ensures { GivesText result (date_in year.now month.now day.now) }
+    ensures text { GivesText result (date_in year.now month.now day.now) }
+    ensures value { IfOk result (λ s. IsTrue (is_value (string_bytes s))) }
 {
     let Some(y) = number_up_to(year, 9999) else {
         return Err(ValueFault::BadValue);
@@ -100,7 +104,8 @@ fn date_in(alloc: Global, year: &[u8], month: &[u8], day: &[u8]) -> Result<Strin
 /// A date in its one spelling, `YYYYMMDD`.
 #[tactic(auto, unfolding(crate::specs::Civil::date_spelling))]
 pub(crate) fn date_spelling(alloc: Global, text: &[u8]) -> Result<String, ValueFault>
-    ensures { GivesText result (date_spelling text.now) }
+    ensures text { GivesText result (date_spelling text.now) }
+    ensures value { IfOk result (λ s. IsTrue (is_value (string_bytes s))) }
 {
     match text {
         [a, b, c, d, m, n, e, f] => date_in(alloc, &[*a, *b, *c, *d], &[*m, *n], &[*e, *f]),
@@ -119,7 +124,8 @@ fn time_in(
     minutes: &[u8],
     seconds: &[u8],
 ) -> Result<String, ValueFault>
-    ensures { GivesText result (time_in hours.now minutes.now seconds.now) }
+    ensures text { GivesText result (time_in hours.now minutes.now seconds.now) }
+    ensures value { IfOk result (λ s. IsTrue (is_value (string_bytes s))) }
 {
     let Some(h) = number_up_to(hours, 23) else {
         return Err(ValueFault::BadValue);
@@ -136,7 +142,8 @@ fn time_in(
 /// A time of day in its one spelling.
 #[tactic(auto, unfolding(crate::specs::Civil::time_spelling))]
 pub(crate) fn time_spelling(alloc: Global, text: &[u8]) -> Result<String, ValueFault>
-    ensures { GivesText result (time_spelling text.now) }
+    ensures text { GivesText result (time_spelling text.now) }
+    ensures value { IfOk result (λ s. IsTrue (is_value (string_bytes s))) }
 {
     match text {
         [h] => time_in(alloc, &[*h], b"0", b"0"),

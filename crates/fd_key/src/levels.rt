@@ -1,8 +1,9 @@
 // Levels: the types and values of the two fixed surfaces of a field.
-ghost use Rattle.std.specs.Prelude.{◌≡◌, ◌≤◌, ◌<◌, ◌+◌, ◌++◌, ◌^◌, ◌==◌, ◌∷◌, [], ◌&&◌, not, if◌then◌else◌, true, IfOk, OnOk, Some, None, length, replicate, string_bytes};
+ghost use Rattle.std.specs.Prelude.{◌≡◌, ◌≤◌, ◌<◌, ◌+◌, ◌++◌, ◌^◌, ◌==◌, ◌∷◌, [], ◌&&◌, not, if◌then◌else◌, true, IfOk, OnOk, IsTrue, Some, None, length, replicate, string_bytes};
 ghost use Rattle.std.specs.List.{list_all};
 ghost use Rattle.std.specs.Char.{is_ascii_digit};
-ghost use Rattle.fd_key.specs.Names.{is_ascii};
+ghost use Rattle.fd_key.specs.Names.{is_ascii, is_value};
+ghost use Rattle.fd_key.specs.Levels.{IsDecimal};
 ghost use Rattle.fd_key.specs.Levels.{levtype_text, types_in, levtype_spelling, without_first_zeros, without_last_zeros, or_zero, with_point, is_zero, level_text, unsigned_level, level_spelling, levels_text, levelist_spelling, scaled_text, surface_text, levels_of};
 ghost use Rattle.std.specs.Prelude.{take, drop, unsigned_abs, option_map, IfSome};
 ghost use Rattle.std.specs.Fmt.{decimal};
@@ -20,6 +21,7 @@ use std::alloc::Global;
 pub(crate) fn levtype_text(alloc: Global, first: u8, second: u8) -> Result<String, NoMemory>
     ensures text { IfOk result (λ s. string_bytes s ≡ levtype_text first second) }
     ensures short { IfOk result (λ s. length (string_bytes s) ≤ 32) }
+    ensures value { IfOk result (λ s. IsTrue (is_value (string_bytes s))) }
 {
     if second == 255 {
         Ok(format!(in alloc; "{first}")?)
@@ -31,7 +33,8 @@ pub(crate) fn levtype_text(alloc: Global, first: u8, second: u8) -> Result<Strin
 /// The types that two texts write, in their one spelling.
 #[tactic(auto, unfolding(crate::specs::Levels::types_in))]
 fn types_in(alloc: Global, first: &[u8], second: &[u8]) -> Result<String, ValueFault>
-    ensures { GivesText result (types_in first.now second.now) }
+    ensures text { GivesText result (types_in first.now second.now) }
+    ensures value { IfOk result (λ s. IsTrue (is_value (string_bytes s))) }
 {
     let Some(first) = number_up_to(first, 255) else {
         return Err(ValueFault::BadValue);
@@ -45,7 +48,8 @@ fn types_in(alloc: Global, first: &[u8], second: &[u8]) -> Result<String, ValueF
 /// `t` or `t-u` in its one spelling.
 #[tactic(auto, unfolding(crate::specs::Levels::levtype_spelling))]
 pub(crate) fn levtype_spelling(alloc: Global, text: &[u8]) -> Result<String, ValueFault>
-    ensures { GivesText result (levtype_spelling text.now) }
+    ensures text { GivesText result (levtype_spelling text.now) }
+    ensures value { IfOk result (λ s. IsTrue (is_value (string_bytes s))) }
 {
     match cut(text, b'-') {
         Some((first, second)) => types_in(alloc, first, second),
@@ -142,7 +146,8 @@ fn level_text(
 /// Digits, and a point with digits or none, in their one spelling.
 #[tactic(auto, unfolding(crate::specs::Levels::unsigned_level))]
 fn unsigned_level(alloc: Global, negative: bool, text: &[u8]) -> Result<String, ValueFault>
-    ensures { GivesText result (unsigned_level negative text.now) }
+    ensures text { GivesText result (unsigned_level negative text.now) }
+    ensures decimal { IfOk result (λ s. IsDecimal (length text.now + (if negative then 1 else 0)) (string_bytes s)) }
 {
     match cut(text, b'.') {
         Some((whole, fraction)) => {
@@ -163,7 +168,8 @@ fn unsigned_level(alloc: Global, negative: bool, text: &[u8]) -> Result<String, 
 /// A decimal in its one spelling.
 #[tactic(auto, unfolding(crate::specs::Levels::level_spelling))]
 fn level_spelling(alloc: Global, text: &[u8]) -> Result<String, ValueFault>
-    ensures { GivesText result (level_spelling text.now) }
+    ensures text { GivesText result (level_spelling text.now) }
+    ensures decimal { IfOk result (λ s. IsDecimal (length text.now) (string_bytes s)) }
 {
     match text {
         [] => Err(ValueFault::BadValue),
@@ -175,7 +181,9 @@ fn level_spelling(alloc: Global, text: &[u8]) -> Result<String, ValueFault>
 /// `v`, `v_w` or `_w` in its one spelling.
 #[tactic(auto, unfolding(crate::specs::Levels::levelist_spelling))]
 pub(crate) fn levelist_spelling(alloc: Global, text: &[u8]) -> Result<String, ValueFault>
-    ensures { GivesText result (levelist_spelling text.now) }
+    requires { length text.now ≤ 255 }
+    ensures text { GivesText result (levelist_spelling text.now) }
+    ensures value { IfOk result (λ s. IsTrue (is_value (string_bytes s))) }
 {
     match cut(text, b'_') {
         None => level_spelling(alloc, text),

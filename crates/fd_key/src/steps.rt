@@ -1,7 +1,8 @@
 // Forecast times with their unit.
-ghost use Rattle.std.specs.Prelude.{◌≡◌, ◌≤◌, ◌<◌, ◌*◌, ◌^◌, IfOk, IfSome, length, string_bytes};
+ghost use Rattle.std.specs.Prelude.{◌≡◌, ◌≤◌, ◌<◌, ◌*◌, ◌^◌, IfOk, IsTrue, IfSome, length, string_bytes};
 ghost use Rattle.fd_key.specs.Steps.{unit_seconds, sign_text, seconds_text, magnitude_text, step_text, unit_of, unsigned_step, step_spelling, without_seconds};
 ghost use Rattle.fd_key.specs.Numerals.{number_up_to};
+ghost use Rattle.fd_key.specs.Names.{is_value};
 ghost use Rattle.fd_key.specs.Canonical.{GivesText};
 
 use crate::fault::ValueFault;
@@ -74,6 +75,7 @@ pub(crate) fn step_text(
     requires { number < 2 ^ 52 }
     ensures text { IfOk result (λ s. string_bytes s ≡ step_text negative number unit) }
     ensures short { IfOk result (λ s. length (string_bytes s) ≤ 24) }
+    ensures value { IfOk result (λ s. IsTrue (is_value (string_bytes s))) }
 {
     let sign = sign_text(negative, number);
     let text = magnitude_text(alloc, number, unit)?;
@@ -110,7 +112,8 @@ fn other_unit(number: &[u8]) -> Option<u8>
 /// 1 to 15 digits and a unit, in their one spelling.
 #[tactic(auto, unfolding(crate::specs::Steps::unsigned_step))]
 fn unsigned_step(alloc: Global, negative: bool, text: &[u8]) -> Result<String, ValueFault>
-    ensures { GivesText result (unsigned_step negative text.now) }
+    ensures text { GivesText result (unsigned_step negative text.now) }
+    ensures value { IfOk result (λ s. IsTrue (is_value (string_bytes s))) }
 {
     let count = digit_count(text);
     if count < 1 || 15 < count {
@@ -126,7 +129,8 @@ fn unsigned_step(alloc: Global, negative: bool, text: &[u8]) -> Result<String, V
 /// A step in its one spelling.
 #[tactic(auto, unfolding(crate::specs::Steps::step_spelling))]
 pub(crate) fn step_spelling(alloc: Global, text: &[u8]) -> Result<String, ValueFault>
-    ensures { GivesText result (step_spelling text.now) }
+    ensures text { GivesText result (step_spelling text.now) }
+    ensures value { IfOk result (λ s. IsTrue (is_value (string_bytes s))) }
 {
     match text {
         [] => Err(ValueFault::BadValue),

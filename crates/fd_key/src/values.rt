@@ -1,6 +1,7 @@
-ghost use Rattle.std.specs.Prelude.{◌≡◌, ◌≤◌, IfOk, IfSome, length, string_bytes, option_map};
+ghost use Rattle.std.specs.Prelude.{◌≡◌, ◌≤◌, IfOk, OnOk, IsTrue, IfSome, length, string_bytes, option_map};
 ghost use Rattle.std.specs.Fmt.{decimal};
 ghost use Rattle.fd_key.specs.Numerals.{number_up_to, cut};
+ghost use Rattle.fd_key.specs.Names.{lower, is_name, is_value};
 ghost use Rattle.fd_key.specs.Canonical.{GivesText, GivesPair, canonical, pair_of, param_text, param_of, param_numbers, spelling, is_text_of};
 
 use crate::civil::{date_spelling, time_spelling};
@@ -17,13 +18,15 @@ use std::alloc::Global;
 pub(crate) fn number_text(alloc: Global, number: u32) -> Result<String, NoMemory>
     ensures text { IfOk result (λ s. string_bytes s ≡ decimal number) }
     ensures short { IfOk result (λ s. length (string_bytes s) ≤ 10) }
+    ensures value { IfOk result (λ s. IsTrue (is_value (string_bytes s))) }
 {
     Ok(format!(in alloc; "{number}")?)
 }
 
 /// A number up to this one, without leading zeros.
 fn number_spelling(alloc: Global, text: &[u8], most: u32) -> Result<String, ValueFault>
-    ensures { GivesText result (option_map decimal (number_up_to most text.now)) }
+    ensures text { GivesText result (option_map decimal (number_up_to most text.now)) }
+    ensures value { IfOk result (λ s. IsTrue (is_value (string_bytes s))) }
 {
     let Some(number) = number_up_to(text, most) else {
         return Err(ValueFault::BadValue);
@@ -35,6 +38,7 @@ fn number_spelling(alloc: Global, text: &[u8], most: u32) -> Result<String, Valu
 pub(crate) fn param_text(alloc: Global, d: u8, c: u8, n: u8) -> Result<String, NoMemory>
     ensures text { IfOk result (λ s. string_bytes s ≡ param_text d c n) }
     ensures short { IfOk result (λ s. length (string_bytes s) ≤ 32) }
+    ensures value { IfOk result (λ s. IsTrue (is_value (string_bytes s))) }
 {
     Ok(format!(in alloc; "{d}.{c}.{n}")?)
 }
@@ -55,7 +59,8 @@ fn param_numbers(text: &[u8]) -> Option<(u32, u32, u32)>
 
 /// A parameter without leading zeros.
 fn param_spelling(alloc: Global, text: &[u8]) -> Result<String, ValueFault>
-    ensures { GivesText result (option_map param_of (param_numbers text.now)) }
+    ensures text { GivesText result (option_map param_of (param_numbers text.now)) }
+    ensures value { IfOk result (λ s. IsTrue (is_value (string_bytes s))) }
 {
     let Some((d, c, n)) = param_numbers(text) else {
         return Err(ValueFault::BadValue);
@@ -66,7 +71,9 @@ fn param_spelling(alloc: Global, text: &[u8]) -> Result<String, ValueFault>
 /// The one spelling of a text in lower case.
 #[tactic(auto, unfolding(crate::specs::Canonical::spelling))]
 fn spelling(alloc: Global, meaning: Meaning, text: &str) -> Result<String, ValueFault>
-    ensures { GivesText result (spelling meaning text.now) }
+    requires { IsTrue (is_text_of meaning text.now) }
+    ensures text { GivesText result (spelling meaning text.now) }
+    ensures value { IfOk result (λ s. IsTrue (is_value (string_bytes s))) }
 {
     let bytes = text.as_bytes();
     match meaning {
@@ -102,7 +109,9 @@ fn is_text_of(meaning: Meaning, text: &[u8]) -> bool
 /// `BadValue` exactly where the text is no value of the name.
 #[tactic(auto, unfolding(crate::specs::Canonical::canonical))]
 pub fn canonical(alloc: Global, name: &str, text: &str) -> Result<String, ValueFault>
-    ensures { GivesText result (canonical name.now text.now) }
+    ensures text { GivesText result (canonical name.now text.now) }
+    ensures name { OnOk result (IsTrue (is_name (lower name.now))) }
+    ensures value { IfOk result (λ s. IsTrue (is_value (string_bytes s))) }
 {
     let name = lower(alloc, name)?;
     let text = lower(alloc, text)?;
@@ -117,7 +126,9 @@ pub fn canonical(alloc: Global, name: &str, text: &str) -> Result<String, ValueF
 /// where it is none.
 #[tactic(auto, unfolding(crate::specs::Canonical::pair_of))]
 pub fn read_pair(alloc: Global, word: &str) -> Result<(String, String), ValueFault>
-    ensures { GivesPair result (pair_of word.now) }
+    ensures pair { GivesPair result (pair_of word.now) }
+    ensures name { IfOk result (λ p. IsTrue (is_name (string_bytes p.0))) }
+    ensures value { IfOk result (λ p. IsTrue (is_value (string_bytes p.1))) }
 {
     let Some((name, text)) = name_and_value(word) else {
         return Err(ValueFault::BadValue);
