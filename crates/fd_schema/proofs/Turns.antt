@@ -1,0 +1,97 @@
+-- One step of each reading.
+use Rattle.std.proofs.Common.{◌≡◌, ℕ, zero, suc, ◌+◌, ◌-◌, ◌<◌, ◌≤◌, Bool, true, false, List, [], ◌∷◌, ◌++◌, length, take, drop, get_or, Result, Ok, Err, refl, ap, subst, ◌∙◌, sym, arith}
+use Rattle.fd_schema.specs.declared.token.Token.{Token}
+use Rattle.fd_schema.specs.declared.fault.Refusal.{Refusal}
+use Rattle.fd_schema.specs.declared.fault.Refusal.TheVariants as refusals
+use Rattle.fd_schema.specs.Reading.{Fails}
+use Rattle.fd_schema.proofs.Cuts.{part_more, part_last}
+use Rattle.std.proofs.lemmas.List.{take_rest}
+use Rattle.fd_schema.specs.Tokens.{Piece, Part, is_token, parts, mark_place, view, views}
+use Rattle.fd_schema.specs.Rules.{Rule}
+use Rattle.fd_schema.specs.Grammar.{Fault, ◌>>=◌, wrong, Wrong, Byte, TooMany, each_of, rule_of, rules_of}
+
+-- What a turn over parts knows: where the part from a place on ends, and what the whole is.
+pub record Turn {A : Type 0} (read : List A → Part → Result A Fault) (mark : ℕ) (stop : Piece) (ts : List Token) (before : List A) (from end : ℕ) (total : Result (List A) Fault) : Type 0 where
+  pub place : end ≡ from + mark_place mark (views (drop from ts))
+  pub forward : from ≤ end
+  pub so_far : each_of read before (parts mark stop (views (drop from ts))) ≡ total
+
+goes : {A : Type 0} (read : List A → Part → Result A Fault) (before : List A) (p : Part) (ps : List Part) (x : A) → read before p ≡ Ok x → each_of read before (p ∷ ps) ≡ each_of read (before ++ x ∷ []) ps
+unfolding each_of
+goes read before p ps x e = rw e refl
+
+stops : {A : Type 0} (read : List A → Part → Result A Fault) (before : List A) (p : Part) (ps : List Part) (e : Refusal) → Fails e (read before p) → Fails e (each_of read before (p ∷ ps))
+unfolding each_of
+stops read before p ps (refusals.At at kind) h = rw h refl
+stops read before p ps refusals.NoMemory h = tt
+
+ends : {A : Type 0} (read : List A → Part → Result A Fault) (before : List A) → each_of read before [] ≡ Ok before
+unfolding each_of
+ends read before = refl
+
+abbrev pub part_to : List Token → ℕ → ℕ → Piece → Part
+part_to ts from end stop = record { tokens = views (take (end - from) (drop from ts)); stop = stop }
+
+pub last_goes : {A : Type 0} (read : List A → Part → Result A Fault) (mark : ℕ) (stop : Piece) (ts : List Token) (before : List A) (from end : ℕ) (total : Result (List A) Fault) (x : A)
+    → Turn read mark stop ts before from end total → end ≡ length ts → read before (part_to ts from end stop) ≡ Ok x → total ≡ Ok (before ++ x ∷ [])
+last_goes read mark stop ts before from end total x t all e =
+    sym t.so_far ∙ ap (each_of read before) (part_last mark stop ts from end t.place all t.forward) ∙ goes read before (part_to ts from end stop) [] x e ∙ ends read (before ++ x ∷ [])
+
+pub more_goes : {A : Type 0} (read : List A → Part → Result A Fault) (mark : ℕ) (stop : Piece) (ts : List Token) (before : List A) (from end : ℕ) (total : Result (List A) Fault) (x : A) (m : Token)
+    → Turn read mark stop ts before from end total → end < length ts → m ≡ get_or ts end m → read before (part_to ts from end (view m)) ≡ Ok x
+    → each_of read (before ++ x ∷ []) (parts mark stop (views (drop (end + 1) ts))) ≡ total
+more_goes read mark stop ts before from end total x m t lt is e =
+    sym (goes read before (part_to ts from end (view m)) (parts mark stop (views (drop (end + 1) ts))) x e)
+    ∙ ap (each_of read before) (sym (part_more mark stop ts from end m t.place lt is)) ∙ t.so_far
+
+pub last_stops : {A : Type 0} (read : List A → Part → Result A Fault) (mark : ℕ) (stop : Piece) (ts : List Token) (before : List A) (from end : ℕ) (total : Result (List A) Fault) (e : Refusal)
+    → Turn read mark stop ts before from end total → end ≡ length ts → Fails e (read before (part_to ts from end stop)) → Fails e total
+last_stops {A} read mark stop ts before from end total e t all h =
+    subst (λ (r : Result (List A) Fault). Fails e r) (ap (each_of read before) (sym (part_last mark stop ts from end t.place all t.forward)) ∙ t.so_far)
+    (stops read before (part_to ts from end stop) [] e h)
+
+pub more_stops : {A : Type 0} (read : List A → Part → Result A Fault) (mark : ℕ) (stop : Piece) (ts : List Token) (before : List A) (from end : ℕ) (total : Result (List A) Fault) (e : Refusal) (m : Token)
+    → Turn read mark stop ts before from end total → end < length ts → m ≡ get_or ts end m → Fails e (read before (part_to ts from end (view m))) → Fails e total
+more_stops {A} read mark stop ts before from end total e m t lt is h =
+    subst (λ (r : Result (List A) Fault). Fails e r) (ap (each_of read before) (sym (part_more mark stop ts from end m t.place lt is)) ∙ t.so_far)
+    (stops read before (part_to ts from end (view m)) (parts mark stop (views (drop (end + 1) ts))) e h)
+
+-- ---- rules
+
+pub rules_end : (left : ℕ) (end : Piece) (before : List Rule) → rules_of left end before [] ≡ Ok before
+unfolding rules_of
+rules_end zero end before = refl
+rules_end (suc left) end before = refl
+
+pub rules_byte : (left : ℕ) (end : Piece) (before : List Rule) (t : Piece) (ts : List Piece) → is_token 91 t ≡ false → rules_of left end before (t ∷ ts) ≡ wrong t.at Byte
+unfolding rules_of
+rules_byte zero end before t ts e = rw e refl
+rules_byte (suc left) end before t ts e = rw e refl
+
+pub rules_many : (end : Piece) (before : List Rule) (t : Piece) (ts : List Piece) → is_token 91 t ≡ true → rules_of 0 end before (t ∷ ts) ≡ wrong t.at (TooMany 257)
+unfolding rules_of
+rules_many end before t ts e = rw e refl
+
+one_rule : (left : ℕ) (end : Piece) (before : List Rule) (t : Piece) (ts : List Piece) → is_token 91 t ≡ true
+    → rules_of (suc left) end before (t ∷ ts) ≡ (rule_of end ts >>= λ r. rules_of left end (before ++ r.0 ∷ []) r.1)
+unfolding rules_of
+one_rule left end before t ts e = rw e refl
+
+pub rules_more : (n : ℕ) (end : Piece) (before : List Rule) (t : Piece) (ts : List Piece) → n < 256 → is_token 91 t ≡ true
+    → rules_of (256 - n) end before (t ∷ ts) ≡ (rule_of end ts >>= λ r. rules_of (256 - (n + 1)) end (before ++ r.0 ∷ []) r.1)
+rules_more n end before t ts lt e =
+    let k : 256 - n ≡ suc (256 - (n + 1)) = omega arith in
+    ap (λ left. rules_of left end before (t ∷ ts)) k ∙ one_rule (256 - (n + 1)) end before t ts e
+
+-- the first token and the others
+pub first_and : (ts : List Token) (m : Token) → 1 ≤ length ts → m ≡ get_or ts 0 m → views ts ≡ view m ∷ views (take (length ts - 1) (drop 1 ts))
+first_and [] m some is = absurd (omega arith)
+first_and (t ∷ ts) m some is = ap (λ (x : Token). view x ∷ views ts) (sym is) ∙ ap (λ (us : List Token). view m ∷ views us) (sym (take_rest (t ∷ ts) 1))
+
+pub nothing : (ts : List Token) → length ts < 1 → views ts ≡ []
+nothing [] none = refl
+nothing (t ∷ ts) none = absurd (omega arith)
+
+pub rule_stops : (e : Refusal) (n : ℕ) (end : Piece) (before : List Rule) (t : Piece) (ts : List Piece) → n < 256 → is_token 91 t ≡ true → Fails e (rule_of end ts) → Fails e (rules_of (256 - n) end before (t ∷ ts))
+rule_stops (refusals.At at kind) n end before t ts lt open_ h = rules_more n end before t ts lt open_ ∙ ap (λ r. r >>= λ r. rules_of (256 - (n + 1)) end (before ++ r.0 ∷ []) r.1) h
+rule_stops refusals.NoMemory n end before t ts lt open_ h = tt

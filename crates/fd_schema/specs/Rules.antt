@@ -1,0 +1,98 @@
+-- Rules of a schema: which keys each admits, and the three texts that it makes of a key.
+use Rattle.std.specs.Prelude.{ℕ, zero, suc, ◌+◌, Bool, true, false, not, ◌&&◌, ◌||◌, List, [], ◌∷◌, ◌++◌, map, codes, is_some, Option, Some, None, if◌then◌else◌}
+use Rattle.std.specs.List.{list_all, list_any}
+use Rattle.std.specs.Str.{bytes_eq}
+use Rattle.fd_key.specs.Pairs.{Pair, text_of, pair_text, key_text}
+use Rattle.fd_schema.specs.declared.rule.Level.{Level}
+use Rattle.fd_schema.specs.declared.rule.Level.TheVariants.{Dataset, Index, Datum}
+
+-- what a rule wants of a name: that a key has it, nothing, or that the key has it with one of these values
+pub data Want : Type 0 where
+  Needed : Want
+  Optional : Want
+  OneOf : (values : List (List ℕ)) → Want
+
+-- a name of a rule
+pub record Item : Type 0 where
+  pub level : Level
+  pub name : List ℕ
+  pub want : Want
+
+abbrev pub same_level : Level → Level → Bool
+same_level Dataset Dataset = true
+same_level Index Index = true
+same_level Datum Datum = true
+same_level a b = false
+
+-- a rule: its names from left to right, each with its level
+abbrev pub Rule : Type 0
+Rule = List Item
+
+-- ---- which keys a rule admits
+
+-- what the rule wants of a name goes with the text that the key has for it
+abbrev pub suits : Want → Option (List ℕ) → Bool
+suits Needed text = is_some text
+suits Optional text = true
+suits (OneOf values) None = false
+suits (OneOf values) (Some text) = list_any (bytes_eq text) values
+
+abbrev pub suits_key : List Pair → Item → Bool
+suits_key key item = suits item.want (text_of key item.name)
+
+-- the rule has the name
+abbrev pub has_name : List Item → List ℕ → Bool
+has_name items name = list_any (λ i. bytes_eq i.name name) items
+
+-- `number` and `stat` have no meaning yet, and no rule admits a key with either
+abbrev pub has_meaning : List ℕ → Bool
+has_meaning name = not (bytes_eq name (codes "number") || bytes_eq name (codes "stat"))
+
+-- a name of the key has a meaning, and is in the rule
+abbrev pub is_known : Rule → Pair → Bool
+is_known rule p = has_meaning p.0 && has_name rule p.0
+
+-- All required names are in the key, each restricted one has one of its values, and all names of the key are in the rule.
+abbrev pub admits : Rule → List Pair → Bool
+admits rule key = list_all (suits_key key) rule && list_all (is_known rule) key
+
+-- ---- the place of a key
+
+-- the pair of a name, if the key has it
+abbrev pub pair_if : List ℕ → Option (List ℕ) → List Pair
+pair_if name None = []
+pair_if name (Some text) = (name, text) ∷ []
+
+-- the pairs of one level that the key has, in the rule's order
+unfoldable pub level_pairs : Level → Rule → List Pair → List Pair
+level_pairs level [] key = []
+level_pairs level (i ∷ is) key = (if same_level i.level level then pair_if i.name (text_of key i.name) else []) ++ level_pairs level is key
+
+-- the text of one level: `name=value` pairs joined by commas
+abbrev pub level_text : Level → Rule → List Pair → List ℕ
+level_text level rule key = key_text (level_pairs level rule key)
+
+-- a pair behind the text of the pairs before it
+abbrev pub joined_behind : List ℕ → Pair → List ℕ
+joined_behind [] p = pair_text p
+joined_behind (b ∷ bs) p = (b ∷ bs) ++ 44 ∷ pair_text p
+
+-- a rule's number, from 0, and the texts of its three levels
+pub record Texts : Type 0 where
+  pub rule : ℕ
+  pub dataset : List ℕ
+  pub index : List ℕ
+  pub datum : List ℕ
+
+abbrev pub texts_of : ℕ → Rule → List Pair → Texts
+texts_of number rule key = record {
+  rule = number;
+  dataset = level_text Dataset rule key;
+  index = level_text Index rule key;
+  datum = level_text Datum rule key;
+}
+
+-- the place by the first rule that admits the key; the first of these rules has this number
+unfoldable pub place_from : ℕ → List Rule → List Pair → Option Texts
+place_from number [] key = None
+place_from number (r ∷ rs) key = if admits r key then Some (texts_of number r key) else place_from (number + 1) rs key

@@ -1,0 +1,235 @@
+// The items of a level.
+ghost use Rattle.std.specs.Prelude.{◌≡◌, ◌≤◌, ◌<◌, ℕ, List, [], ◌∷◌, IsTrue, length, take, string_bytes, IfOk};
+ghost use Rattle.std.specs.List.{list_all, prefix_len};
+ghost use Rattle.fd_key.specs.Names.{is_letter, is_name, is_name_byte};
+ghost use Rattle.fd_schema.specs.Tokens.{view, views, parts};
+ghost use Rattle.fd_schema.specs.Rules.{has_name};
+ghost use Rattle.fd_schema.specs.Grammar.{absent, name_of, want_of, item_of, items_of, level_of, is_bracket, bracket_place, behind, front};
+ghost use Rattle.fd_schema.specs.Seen.{seen_items, seen_item, seen_want};
+ghost use Rattle.fd_schema.specs.Reading.{Gives, Fails};
+
+use crate::fault::{Refusal, Wrong};
+use crate::rule::{Item, Level, Want};
+use crate::token::Token;
+use crate::tokens::{is_token, part_end};
+use crate::values::{absent, ascii_text, values};
+use fd_bytes::NoMemory;
+use std::alloc::Global;
+
+/// The most names of a rule.
+const NAMES: usize = 32;
+
+fn is_letter(b: u8) -> bool
+    ensures { result ≡ is_letter b }
+{
+    b'a' <= b && b <= b'z'
+}
+
+fn is_name_byte(b: u8) -> bool
+    ensures { result ≡ is_name_byte b }
+{
+    is_letter(b) || (b'0' <= b && b <= b'9') || b == b'_'
+}
+
+fn are_name_bytes(bytes: &[u8]) -> bool
+    ensures { result ≡ list_all is_name_byte bytes.now }
+{
+    bytes.iter().all(|b| is_name_byte(*b))
+}
+
+/// Tells that a text in lower case is a name: a letter, and up to 15 letters, digits and `_`.
+fn is_name(text: &[u8]) -> bool
+    ensures { result ≡ is_name text.now }
+{
+    let Some((first, others)) = text.split_first() else {
+        return false;
+    };
+    is_letter(*first) && others.len() <= 15 && are_name_bytes(others)
+}
+
+/// How many bytes of a name stand at the front.
+fn name_end(text: &[u8]) -> usize
+    ensures value { result ≡ prefix_len is_name_byte text.now }
+    ensures within { result ≤ length text.now }
+{
+    for (i, b) in text.iter().enumerate() {
+        if !is_name_byte(*b) {
+            return i;
+        }
+    }
+    text.len()
+}
+
+/// Tells that a rule has the name.
+pub(crate) fn has_name(items: &[Item], name: &str) -> bool
+    ensures { result ≡ has_name (seen_items items.now) name.now }
+{
+    for item in items {
+        if item.name.as_str() == name {
+            return true;
+        }
+    }
+    false
+}
+
+/// A name as a text.
+fn name_text(name: &[u8]) -> &str
+    requires { IsTrue (is_name name.now) }
+    ensures { result.now ≡ name.now }
+{
+    match ascii_text(name) {
+        Some(text) => text,
+        None => "",
+    }
+}
+
+/// The name that a token is, in a rule that has these items before it.
+#[tactic(auto, unfolding(crate::specs::Grammar::name_of))]
+fn name_of(alloc: Global, before: &[Item], token: &Token) -> Result<String, Refusal>
+    ensures { Gives string_bytes result (name_of (seen_items before.now) (view token.now)) }
+{
+    let end = name_end(token.text);
+    let (front, _) = token.text.split_at(end);
+    if end == 0 {
+        return Err(Refusal::At(token.at, Wrong::Byte));
+    }
+    if !is_name(front) {
+        return Err(Refusal::At(token.at, Wrong::Name));
+    }
+    let name = String::from_str(alloc, name_text(front))?;
+    if has_name(before, name.as_str()) {
+        return Err(Refusal::At(token.at, Wrong::Twice(name)));
+    }
+    if NAMES <= before.len() {
+        return Err(Refusal::At(token.at, Wrong::TooMany(33)));
+    }
+    if end < token.text.len() {
+        return Err(Refusal::At(token.at + end, Wrong::Byte));
+    }
+    Ok(name)
+}
+
+/// What stands behind a name.
+#[tactic(auto, unfolding(crate::specs::Grammar::want_of))]
+fn want_of(alloc: Global, name: &str, stop: &Token, tokens: &[Token]) -> Result<Want, Refusal>
+    ensures { Gives seen_want result (want_of name.now (view stop.now) (views tokens.now)) }
+{
+    let [first, others @ ..] = tokens else {
+        return Ok(Want::Needed);
+    };
+    if is_token(b'?', first) {
+        return match others {
+            [] => Ok(Want::Optional),
+            [next, ..] => Err(Refusal::At(next.at, Wrong::Byte)),
+        };
+    }
+    if !is_token(b'=', first) {
+        return Err(Refusal::At(first.at, Wrong::Byte));
+    }
+    Ok(Want::OneOf(values(alloc, name, stop, others)?))
+}
+
+/// An item of a level, in a rule that has these items before it.
+#[tactic(auto, unfolding(crate::specs::Grammar::item_of))]
+fn item_of(
+    alloc: Global,
+    level: Level,
+    before: &[Item],
+    stop: &Token,
+    tokens: &[Token],
+) -> Result<Item, Refusal>
+    ensures { Gives seen_item result (item_of level (seen_items before.now) (view stop.now) (views tokens.now)) }
+{
+    let [first, others @ ..] = tokens else {
+        return Err(absent(stop));
+    };
+    let name = name_of(alloc, before, first)?;
+    let want = want_of(alloc, name.as_str(), stop, others)?;
+    Ok(Item { level, name, want })
+}
+
+/// The items of a rule, and those of a level with commas between them.
+fn items_of(
+    alloc: Global,
+    level: Level,
+    before: Vec<Item>,
+    stop: &Token,
+    tokens: &[Token],
+) -> Result<Vec<Item>, Refusal>
+    ensures { Gives (λ v. seen_items v.items) result (items_of level (seen_items before.items) (view stop.now) (views tokens.now)) }
+{
+    let mut items = before;
+    let mut from = 0;
+    'parts: loop {
+        let end = part_end(b',', tokens, from);
+        let inside = &tokens[from..end];
+        if end == tokens.len() {
+            match item_of(alloc, level, &items, stop, inside) {
+                Ok(item) => items.push(item)?,
+                Err(refusal) => return Err(refusal),
+            }
+            return Ok(items);
+        }
+        match item_of(alloc, level, &items, &tokens[end], inside) {
+            Ok(item) => items.push(item)?,
+            Err(refusal) => return Err(refusal),
+        }
+        from = end + 1;
+    }
+}
+
+fn is_bracket(token: &Token) -> bool
+    ensures { result ≡ is_bracket (view token.now) }
+{
+    is_token(b'[', token) || is_token(b']', token)
+}
+
+/// How many tokens stand before the first bracket.
+fn bracket_place(tokens: &[Token]) -> usize
+    ensures value { result ≡ bracket_place (views tokens.now) }
+    ensures within { result ≤ length tokens.now }
+{
+    for (i, token) in tokens.iter().enumerate() {
+        if is_bracket(token) {
+            return i;
+        }
+    }
+    tokens.len()
+}
+
+/// The tokens from the first bracket on.
+pub(crate) fn behind<'s, 't>(tokens: &'s [Token<'t>]) -> &'s [Token<'t>]
+    ensures { views result.now ≡ behind (views tokens.now) }
+{
+    let (_, behind) = tokens.split_at(bracket_place(tokens));
+    behind
+}
+
+/// The first token, or the end.
+fn front<'s, 't>(tokens: &'s [Token<'t>], end: &'s Token<'t>) -> &'s Token<'t>
+    ensures { view result.now ≡ front (views tokens.now) (view end.now) }
+{
+    match tokens {
+        [] => end,
+        [first, ..] => first,
+    }
+}
+
+/// The items of a rule, and those of a level up to a bracket. A level of no items closes at once.
+#[tactic(auto, unfolding(crate::specs::Grammar::level_of))]
+pub(crate) fn level_of<'s, 't>(
+    alloc: Global,
+    level: Level,
+    before: Vec<Item>,
+    end: &'s Token<'t>,
+    tokens: &'s [Token<'t>],
+) -> Result<Vec<Item>, Refusal>
+    ensures { Gives (λ v. seen_items v.items) result (level_of level (seen_items before.items) (view end.now) (views tokens.now)) }
+{
+    let (inside, behind) = tokens.split_at(bracket_place(tokens));
+    let stop = front(behind, end);
+    if inside.is_empty() && is_token(b']', stop) {
+        return Ok(before);
+    }
+    items_of(alloc, level, before, stop, inside)
+}

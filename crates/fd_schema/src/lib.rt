@@ -1,0 +1,21 @@
+//! Schemas in the manner of FDB5: rules of three levels, which say to what dataset, index and datum a key belongs.
+#![tactic(auto)]
+
+mod fault;
+mod grammar;
+mod items;
+mod place;
+mod rule;
+mod schema;
+mod token;
+mod tokens;
+mod values;
+
+pub use fault::{PlaceFault, SchemaFault, SchemaKind};
+pub use place::Place;
+pub use schema::Schema;
+pub use token::Token;
+pub use tokens::tokens_of;
+
+#[cfg(test)]
+mod tests;

@@ -1,0 +1,148 @@
+// The place of a key: the first rule that admits it, and the three texts that the rule makes of it.
+ghost use Rattle.std.specs.Prelude.{◌≡◌, ◌≤◌, ◌++◌, ◌∷◌, [], ℕ, List, IfOk, OnOk, string_bytes, option_map, length};
+ghost use Rattle.std.specs.List.{list_all, list_any};
+ghost use Rattle.std.specs.Str.{bytes_eq};
+ghost use Rattle.std.specs.Option.{option_copied};
+ghost use Rattle.fd_schema.specs.Rules.{suits, suits_key, has_meaning, is_known, admits, joined_behind, level_text, place_from};
+ghost use Rattle.fd_schema.specs.Seen.{seen_items, seen_want, seen_rules, texts};
+ghost use Rattle.fd_schema.specs.Reading.{GivesPlace};
+
+use crate::fault::PlaceFault;
+use crate::grammar::same_level;
+use crate::items::has_name;
+use crate::rule::{Item, Level, Rule, Want};
+use fd_bytes::NoMemory;
+use fd_key::Key;
+use std::alloc::Global;
+
+/// Where a key belongs.
+#[derive(Debug, Drop)]
+pub struct Place {
+    /// The number of the rule that admits the key, from 0.
+    pub rule: u32,
+    /// The text of the rule's first level: the key's pairs as `name=value`, joined by commas.
+    pub dataset: String,
+    /// The text of its second level.
+    pub index: String,
+    /// The text of its third level.
+    pub datum: String,
+}
+
+/// Tells that one of the values is this text.
+fn is_one_of(values: &[String], text: &str) -> bool
+    ensures { result ≡ list_any (bytes_eq text.now) (texts values.now) }
+{
+    for value in values {
+        if text == value.as_str() {
+            return true;
+        }
+    }
+    false
+}
+
+/// Tells that what a rule wants of a name goes with the text that a key has for it.
+fn suits(want: &Want, text: Option<&str>) -> bool
+    ensures { result ≡ suits (seen_want want.now) (option_copied text.entry) }
+{
+    match want {
+        Want::Needed => text.is_some(),
+        Want::Optional => true,
+        Want::OneOf(values) => match text {
+            Some(text) => is_one_of(values, text),
+            None => false,
+        },
+    }
+}
+
+/// Tells that the key has what the rule wants of each name.
+fn suits_all(rule: &[Item], key: &Key) -> bool
+    ensures { result ≡ list_all (suits_key key.now) (seen_items rule.now) }
+{
+    for item in rule {
+        if !suits(&item.want, key.get(item.name.as_str())) {
+            return false;
+        }
+    }
+    true
+}
+
+fn has_meaning(name: &str) -> bool
+    ensures { result ≡ has_meaning name.now }
+{
+    !(name == "number" || name == "stat")
+}
+
+/// Tells that the rule has a name of the key, and that it has a meaning.
+fn is_known(rule: &[Item], name: &str) -> bool
+    ensures { (text : List ℕ) → result ≡ is_known (seen_items rule.now) (name.now, text) }
+{
+    has_meaning(name) && has_name(rule, name)
+}
+
+/// Tells that the rule has each name of the key, and that each has a meaning.
+fn are_known(rule: &[Item], key: &Key) -> bool
+    ensures { result ≡ list_all (is_known (seen_items rule.now)) key.now }
+{
+    for i in 0..key.len() {
+        let (name, _) = key.pair(i);
+        if !is_known(rule, name) {
+            return false;
+        }
+    }
+    true
+}
+
+/// Tells that the rule admits the key.
+fn admits(rule: &[Item], key: &Key) -> bool
+    ensures { result ≡ admits (seen_items rule.now) key.now }
+{
+    suits_all(rule, key) && are_known(rule, key)
+}
+
+/// Appends one pair, behind a comma where a pair stands before.
+fn push_pair(out: &mut String, name: &str, text: &str) -> Result<(), NoMemory>
+    ensures { OnOk result (string_bytes out.new ≡ joined_behind (string_bytes out.old) (name.now, text.now)) }
+{
+    if !out.is_empty() {
+        out.push(',')?;
+    }
+    out.push_str(name)?;
+    out.push('=')?;
+    out.push_str(text)?;
+    Ok(())
+}
+
+#[tactic(auto, unfolding(crate::specs::Rules::level_pairs), using(crate::proofs::Texts::one_more, crate::proofs::Texts::no_more))]
+/// The text of one level: the pairs that the key has, in the rule's order.
+fn level_text(alloc: Global, level: Level, rule: &[Item], key: &Key) -> Result<String, NoMemory>
+    ensures { IfOk result (λ s. string_bytes s ≡ level_text level (seen_items rule.now) key.now) }
+{
+    let mut out = String::new(alloc);
+    for item in rule {
+        if same_level(item.level, level) {
+            if let Some(text) = key.get(item.name.as_str()) {
+                push_pair(&mut out, item.name.as_str(), text)?;
+            }
+        }
+    }
+    Ok(out)
+}
+
+#[tactic(auto, unfolding(crate::specs::Rules::place_from))]
+/// The place of a key by the first rule that admits it.
+pub(crate) fn place_of(alloc: Global, rules: &[Rule], key: &Key) -> Result<Place, PlaceFault>
+    requires { length rules.now ≤ 256 }
+    ensures { GivesPlace result (place_from 0 (seen_rules rules.now) key.now) }
+{
+    for (i, rule) in rules.iter().enumerate() {
+        if admits(&rule.items, key) {
+            return Ok(Place {
+                rule: i as u32,
+                dataset: level_text(alloc, Level::Dataset, &rule.items, key)?,
+                index: level_text(alloc, Level::Index, &rule.items, key)?,
+                datum: level_text(alloc, Level::Datum, &rule.items, key)?,
+            });
+        }
+    }
+    Err(PlaceFault::NoRule)
+}

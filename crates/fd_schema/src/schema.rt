@@ -1,0 +1,145 @@
+ghost use Rattle.std.specs.Prelude.{◌≡◌, ◌≤◌, ◌+◌, ◌==◌, ℕ, List, [], IfOk, length, take, count_by, slice_index, string_bytes};
+ghost use Rattle.fd_schema.specs.Rules.{place_from};
+ghost use Rattle.fd_schema.specs.Grammar.{schema_of};
+ghost use Rattle.fd_schema.specs.Seen.{seen_rules};
+ghost use Rattle.fd_schema.specs.Reading.{Gives, GivesSchema, GivesPlace, Names, line_of, seen_wrong};
+
+use crate::fault::{PlaceFault, Refusal, SchemaFault, SchemaKind, Wrong};
+use crate::grammar::rules_of;
+use crate::place::{Place, place_of};
+use crate::rule::Rule;
+use crate::token::Token;
+use crate::tokens::{plain, tokens_of};
+use fd_key::Key;
+use std::alloc::Global;
+use std::marker::Model;
+
+/// The most bytes of a schema.
+const BYTES: usize = 65_536;
+
+/// Rules, each of three levels.
+#[derive(Debug, Drop)]
+pub struct Schema {
+    rules: Vec<Rule>,
+}
+
+impl Model for Schema {
+    ghost use Rattle.std.specs.Prelude.{List, ◌≤◌, length};
+    ghost use Rattle.fd_schema.specs.Rules as rules_seen;
+    ghost use Rattle.fd_schema.specs.Seen.{seen_rules};
+
+    ghost Value = { List rules_seen.Rule };
+
+    ghost view = { λ s. seen_rules s.rules.items };
+
+    ghost invariant = { λ s. length s.rules.items ≤ 256 };
+}
+
+/// What stands before a place.
+fn before(text: &[u8], at: usize) -> &[u8]
+    ensures { result.now ≡ take at text.now }
+{
+    if at < text.len() {
+        let (front, _) = text.split_at(at);
+        front
+    } else {
+        text
+    }
+}
+
+fn line_feeds(text: &[u8]) -> usize
+    ensures number { result ≡ count_by (λ b. b == 10) text.now }
+    ensures within { result ≤ length text.now }
+{
+    text.iter().filter(|b| **b == b'\n').count()
+}
+
+/// The line of a place, from 1.
+fn line_of(text: &[u8], at: usize) -> u32
+    requires { length text.now ≤ 65536 }
+    ensures { result ≡ line_of text.now at }
+{
+    1 + line_feeds(before(text, at)) as u32
+}
+
+/// The byte at a place, or 0.
+fn byte_at(text: &[u8], at: usize) -> u8
+    ensures { result ≡ slice_index text.now at }
+{
+    if at < text.len() { text[at] } else { 0 }
+}
+
+/// The kind that is named for what is wrong where this byte stands.
+fn kind_of(wrong: Wrong, byte: u8) -> SchemaKind
+    ensures { Names result byte (seen_wrong wrong) }
+{
+    match wrong {
+        Wrong::TooLong => SchemaKind::TooLong,
+        Wrong::Byte => SchemaKind::Byte(byte),
+        Wrong::Name => SchemaKind::Name,
+        Wrong::Value => SchemaKind::Value,
+        Wrong::Twice(name) => SchemaKind::Twice(name),
+        Wrong::Depth => SchemaKind::Depth,
+        Wrong::NoneRequired => SchemaKind::Level,
+        Wrong::TooMany(count) => SchemaKind::TooMany { count },
+        Wrong::End => SchemaKind::End,
+        Wrong::Empty => SchemaKind::Empty,
+    }
+}
+
+/// The rules of a text, or the first place that is wrong.
+#[tactic(auto, unfolding(crate::specs::Grammar::schema_of))]
+fn rules_in(alloc: Global, text: &[u8]) -> Result<Vec<Rule>, Refusal>
+    ensures rules { Gives (λ v. seen_rules v.items) result (schema_of text.now) }
+    ensures few { IfOk result (λ v. length v.items ≤ 256) }
+{
+    if BYTES < text.len() {
+        return Err(Refusal::At(0, Wrong::TooLong));
+    }
+    let shown = plain(alloc, text)?;
+    let tokens = tokens_of(alloc, &shown)?;
+    let end = Token {
+        at: text.len(),
+        text: b"",
+    };
+    let rules = rules_of(alloc, Vec::new(alloc), &end, &tokens)?;
+    if rules.is_empty() {
+        return Err(Refusal::At(text.len(), Wrong::Empty));
+    }
+    Ok(rules)
+}
+
+impl Schema {
+    /// Reads a schema: rules `[ items [ items [ items ]]]`, the items of a level joined by commas. An item is a name, or
+    /// `name?` where a key needn't have it, or `name=v/w` where its value is one of these. `#` begins a comment to the end
+    /// of its line. Spaces, tabs and line feeds stand anywhere between names, values and marks.
+    ///
+    /// The answer `At` names the first place that is wrong, by its line.
+    pub fn read(alloc: Global, text: &[u8]) -> Result<Schema, SchemaFault>
+        ensures { GivesSchema text.now result }
+    {
+        if BYTES < text.len() {
+            return Err(SchemaFault::At {
+                line: 1,
+                kind: SchemaKind::TooLong,
+            });
+        }
+        match rules_in(alloc, text) {
+            Ok(rules) => Ok(Schema { rules }),
+            Err(Refusal::At(at, wrong)) => Err(SchemaFault::At {
+                line: line_of(text, at),
+                kind: kind_of(wrong, byte_at(text, at)),
+            }),
+            Err(Refusal::NoMemory) => Err(SchemaFault::NoMemory),
+        }
+    }
+
+    /// The place of a key: the first rule that admits it, and the texts of the rule's levels. A rule admits a key that has
+    /// all its required names, none that the rule hasn't, and for each restricted name one of its values. `NoRule` exactly
+    /// where no rule admits the key.
+    pub fn place(&self, alloc: Global, key: &Key) -> Result<Place, PlaceFault>
+        ensures { GivesPlace result (place_from 0 self.now key.now) }
+    {
+        place_of(alloc, &self.rules, key)
+    }
+}
