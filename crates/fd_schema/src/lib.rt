@@ -5,6 +5,7 @@ mod fault;
 mod grammar;
 mod items;
 mod place;
+mod printed;
 mod rule;
 mod schema;
 mod token;

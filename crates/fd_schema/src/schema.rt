@@ -2,14 +2,17 @@ ghost use Rattle.std.specs.Prelude.{◌≡◌, ◌≤◌, ◌+◌, ◌==◌, ℕ
 ghost use Rattle.fd_schema.specs.Rules.{place_from};
 ghost use Rattle.fd_schema.specs.Grammar.{schema_of};
 ghost use Rattle.fd_schema.specs.Seen.{seen_rules};
+ghost use Rattle.fd_schema.specs.Printed.{schema_text};
 ghost use Rattle.fd_schema.specs.Reading.{Gives, GivesSchema, GivesPlace, Names, line_of, seen_wrong};
 
 use crate::fault::{PlaceFault, Refusal, SchemaFault, SchemaKind, Wrong};
 use crate::grammar::rules_of;
 use crate::place::{Place, place_of};
+use crate::printed::text_of;
 use crate::rule::Rule;
 use crate::token::Token;
 use crate::tokens::{plain, tokens_of};
+use fd_bytes::NoMemory;
 use fd_key::Key;
 use std::alloc::Global;
 use std::marker::Model;
@@ -141,5 +144,12 @@ impl Schema {
         ensures { GivesPlace result (place_from 0 self.now key.now) }
     {
         place_of(alloc, &self.rules, key)
+    }
+
+    /// The text of the schema: each rule on a line, as `[a, b [c=v/w [d, e?]]]`.
+    pub fn text(&self, alloc: Global) -> Result<String, NoMemory>
+        ensures { IfOk result (λ s. string_bytes s ≡ schema_text self.now) }
+    {
+        text_of(alloc, &self.rules)
     }
 }

@@ -2,50 +2,89 @@ use super::*;
 use fd_key::Key;
 use std::test::*;
 
-/// Tells that a text is refused at a line for a kind, which is printed.
-fn refusal(rt: &HostRuntime, text: &[u8]) -> Result<String, Fail> {
-    let kind = match Schema::read(rt.alloc(), text) {
-        Ok(_) => format!(in rt.alloc(); "read"),
-        Err(SchemaFault::At { line, kind }) => format!(in rt.alloc(); "{line} {kind:?}"),
-        Err(SchemaFault::NoMemory) => format!(in rt.alloc(); "no memory"),
-    };
-    let kind = kind.ok().ok_or("there is memory")?;
-    Ok(kind)
+/// The name of a kind, and its number, if it has one.
+fn kind_of(kind: &SchemaKind) -> (&'static str, u32) {
+    match kind {
+        SchemaKind::TooLong => ("TooLong", 0),
+        SchemaKind::Byte(byte) => ("Byte", u32::from(*byte)),
+        SchemaKind::Name => ("Name", 0),
+        SchemaKind::Value => ("Value", 0),
+        SchemaKind::Twice(_) => ("Twice", 0),
+        SchemaKind::Depth => ("Depth", 0),
+        SchemaKind::Level => ("Level", 0),
+        SchemaKind::TooMany { count } => ("TooMany", *count),
+        SchemaKind::End => ("End", 0),
+        SchemaKind::Empty => ("Empty", 0),
+    }
 }
 
 #[test]
-fn refusals_name_the_first_place(rt: HostRuntime) -> Result<(), Fail> {
+fn refusals_name_the_first_place(rt: HostRuntime) {
     let cases = [
-        ("[class [param]]", "1 Depth"),
-        ("", "1 Empty"),
-        ("# none\n\n", "3 Empty"),
-        ("[a", "1 End"),
-        ("[a [b\n[c]]", "2 End"),
-        ("[a [b [c]]]\n]", "2 Byte(93)"),
-        ("[a,,b [c [d]]]", "1 Byte(44)"),
-        ("[ [b [c]]]", "1 Byte(91)"),
-        ("[]", "1 Depth"),
-        ("[a [b []]]", "1 Level"),
-        ("[a? [b [c]\n]\n]", "3 Level"),
-        ("[a [b [c?]]]", "1 Level"),
-        ("[a [b?]]", "1 Depth"),
-        ("[a [b [c [d]]]]", "1 Depth"),
-        ("[a [b [c] [d]]]", "1 Byte(91)"),
-        ("[a.b [c [d]]]", "1 Byte(46)"),
-        ("[9x [c [d]]]", "1 Name"),
-        ("[abcdefghijklmnopq [c [d]]]", "1 Name"),
-        ("[a [b [\nA]]]", "2 Twice(\"a\")"),
-        ("[step=x:y [b [c]]]", "1 Value"),
-        ("[step= [b [c]]]", "1 Byte(91)"),
-        ("[step=0/, [b [c]]]", "1 Byte(44)"),
-        ("[a # \u{e9}\n [b [c]]]", "1 Byte(195)"),
-        ("[A b [c [d]]]", "1 Byte(98)"),
-        ("[a # ] [ ,\n [b [c]]]", "read"),
-        ("[a [b [c]]] [d [e [f?, g]]]", "read"),
-        ("[step=0/060m [b [c]]]", "read"),
+        ("[class [param]]", 1, "Depth", 0),
+        ("[]", 1, "Depth", 0),
+        ("[a [b?]]", 1, "Depth", 0),
+        ("[a [b [c [d]]]]", 1, "Depth", 0),
+        ("", 1, "Empty", 0),
+        ("# none\n\n", 3, "Empty", 0),
+        ("[a", 1, "End", 0),
+        ("[a [b\n[c]]", 2, "End", 0),
+        ("[a [b [c]]]\n]", 2, "Byte", 93),
+        ("[a,,b [c [d]]]", 1, "Byte", 44),
+        ("[ [b [c]]]", 1, "Byte", 91),
+        ("[a [b [c] [d]]]", 1, "Byte", 91),
+        ("[a.b [c [d]]]", 1, "Byte", 46),
+        ("[a # \u{e9}\n [b [c]]]", 1, "Byte", 195),
+        ("[A B [c [d]]]", 1, "Byte", 66),
+        ("[a [b []]]", 1, "Level", 0),
+        ("[a? [b [c]\n]\n]", 3, "Level", 0),
+        ("[9x [c [d]]]", 1, "Name", 0),
+        ("\n[abcdefghijklmnopq [c [d]]]", 2, "Name", 0),
+        ("[a [b [\nA]]]", 2, "Twice", 0),
+        ("[step=x:y [b [c]]]", 1, "Value", 0),
+        ("[step=0/\n- [b [c]]]", 2, "Value", 0),
+        ("[step= [b [c]]]", 1, "Byte", 91),
     ];
-    for (text, wanted) in cases {
-        assert_eq!(rt; refusal(&rt, text.as_bytes())?.as_str(), wanted);
+    for (text, line, name, number) in cases {
+        match Schema::read(rt.alloc(), text.as_bytes()) {
+            Err(SchemaFault::At { line: at, kind }) => {
+                let found = kind_of(&kind);
+                assert!(rt; at == line && found.0 == name && found.1 == number);
+            }
+            _ => assert!(rt; false),
+        }
     }
+}
+
+#[test]
+fn keys_have_the_place_of_the_first_rule(rt: HostRuntime) -> Result<(), Fail> {
+    let text = b"# S\n[a [step=0/060m [c?, d]]] [a, c? [step [d]]]";
+    let schema = Schema::read(rt.alloc(), text).ok().ok_or("a schema")?;
+    let printed = schema.text(rt.alloc()).ok().ok_or("there is memory")?;
+    assert_eq!(rt;
+        printed.as_str(),
+        "[a [step=0/1 [c?, d]]]\n[a, c? [step [d]]]\n"
+    );
+    let again = Schema::read(rt.alloc(), printed.as_bytes())
+        .ok()
+        .ok_or("a schema")?;
+    let mut key = Key::new(rt.alloc()).ok().ok_or("there is memory")?;
+    for (name, value) in [("d", "x"), ("step", "1"), ("a", "y")] {
+        key.set(rt.alloc(), name, value)
+            .ok()
+            .ok_or("there is memory")?;
+    }
+    let place = again.place(rt.alloc(), &key).ok().ok_or("a place")?;
+    assert_eq!(rt; place.rule, 0);
+    assert_eq!(rt; place.dataset.as_str(), "a=y");
+    assert_eq!(rt; place.index.as_str(), "step=1");
+    assert_eq!(rt; place.datum.as_str(), "d=x");
+    key.set(rt.alloc(), "step", "2")
+        .ok()
+        .ok_or("there is memory")?;
+    let second = schema.place(rt.alloc(), &key).ok().ok_or("a place")?;
+    assert_eq!(rt; second.rule, 1);
+    key.set(rt.alloc(), "e", "0").ok().ok_or("there is memory")?;
+    assert!(rt; matches!(schema.place(rt.alloc(), &key), Err(PlaceFault::NoRule)));
     Ok(())
 }

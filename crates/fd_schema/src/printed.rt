@@ -1,0 +1,93 @@
+// The text of a schema.
+ghost use Rattle.std.specs.Prelude.{◌≡◌, ◌++◌, IfOk, OnOk, true, string_bytes};
+ghost use Rattle.fd_schema.specs.Seen.{texts, seen_want, seen_item, seen_items, seen_rules};
+ghost use Rattle.fd_schema.specs.Printed.{values_text, want_text, item_text, level_items_text, rule_text, schema_text};
+
+use crate::grammar::same_level;
+use crate::rule::{Item, Level, Rule, Want};
+use fd_bytes::NoMemory;
+use std::alloc::Global;
+
+/// Appends values with slashes between them.
+#[tactic(auto, unfolding(crate::specs::Printed::values_text))]
+fn push_values(out: &mut String, values: &[String]) -> Result<(), NoMemory>
+    ensures { OnOk result (string_bytes out.new ≡ string_bytes out.old ++ values_text true (texts values.now)) }
+{
+    let mut first = true;
+    for value in values {
+        if !first {
+            out.push('/')?;
+        }
+        first = false;
+        out.push_str(value.as_str())?;
+    }
+    Ok(())
+}
+
+/// Appends what stands behind a name.
+fn push_want(out: &mut String, want: &Want) -> Result<(), NoMemory>
+    ensures { OnOk result (string_bytes out.new ≡ string_bytes out.old ++ want_text (seen_want want.now)) }
+{
+    match want {
+        Want::Needed => Ok(()),
+        Want::Optional => {
+            out.push('?')?;
+            Ok(())
+        }
+        Want::OneOf(values) => {
+            out.push('=')?;
+            push_values(out, values)
+        }
+    }
+}
+
+fn push_item(out: &mut String, item: &Item) -> Result<(), NoMemory>
+    ensures { OnOk result (string_bytes out.new ≡ string_bytes out.old ++ item_text (seen_item item.now)) }
+{
+    out.push_str(item.name.as_str())?;
+    push_want(out, &item.want)
+}
+
+/// Appends the items of a level with commas between them.
+#[tactic(auto, unfolding(crate::specs::Printed::level_items_text))]
+fn push_level(out: &mut String, level: Level, rule: &[Item]) -> Result<(), NoMemory>
+    ensures { OnOk result (string_bytes out.new ≡ string_bytes out.old ++ level_items_text true level (seen_items rule.now)) }
+{
+    let mut first = true;
+    for item in rule {
+        if same_level(item.level, level) {
+            if !first {
+                out.push_str(", ")?;
+            }
+            first = false;
+            push_item(out, item)?;
+        }
+    }
+    Ok(())
+}
+
+/// Appends a rule and a line feed.
+fn push_rule(out: &mut String, rule: &[Item]) -> Result<(), NoMemory>
+    ensures { OnOk result (string_bytes out.new ≡ string_bytes out.old ++ rule_text (seen_items rule.now)) }
+{
+    out.push('[')?;
+    push_level(out, Level::Dataset, rule)?;
+    out.push_str(" [")?;
+    push_level(out, Level::Index, rule)?;
+    out.push_str(" [")?;
+    push_level(out, Level::Datum, rule)?;
+    out.push_str("]]]\n")?;
+    Ok(())
+}
+
+/// The text of rules.
+#[tactic(auto, unfolding(crate::specs::Printed::schema_text))]
+pub(crate) fn text_of(alloc: Global, rules: &[Rule]) -> Result<String, NoMemory>
+    ensures { IfOk result (λ s. string_bytes s ≡ schema_text (seen_rules rules.now)) }
+{
+    let mut out = String::new(alloc);
+    for rule in rules {
+        push_rule(&mut out, &rule.items)?;
+    }
+    Ok(out)
+}
