@@ -3,7 +3,7 @@ use Rattle.std.proofs.Common.{◌≡◌, ℕ, zero, suc, ◌+◌, ◌-◌, ◌<�
 use Rattle.std.proofs.Math.Seq.{take-length}
 use Rattle.std.proofs.lemmas.List.{drop-drop}
 use Rattle.fd_schema.specs.declared.token.Token.{Token}
-use Rattle.fd_schema.specs.Tokens.{Piece, Part, is_token, onto, parts, mark_place, view, views}
+use Rattle.fd_schema.specs.Tokens.{Piece, is_token, onto, parts, mark_place, view, views}
 
 more_go : (mark : ℕ) (stop : Piece) (t : Token) (ts : List Token) (m : Token) (b : Bool)
     → (mark_place mark (views ts) < length ts → m ≡ get_or ts (mark_place mark (views ts)) m

@@ -1,5 +1,5 @@
 -- Texts of pairs, one pair at a time.
-use Rattle.std.proofs.Common.{◌≡◌, ℕ, List, [], ◌∷◌, ◌++◌, refl, append_assoc, ap, ◌∙◌, sym}
+use Rattle.std.proofs.Common.{◌≡◌, ℕ, List, [], ◌∷◌, ◌++◌, refl, append_assoc}
 use Rattle.std.proofs.lemmas.List.{append-nil}
 use Rattle.fd_key.specs.Pairs.{Pair, pair_text, rest_text, key_text}
 use Rattle.fd_schema.specs.Rules.{joined_behind}

@@ -1,5 +1,5 @@
 -- One step of each reading.
-use Rattle.std.proofs.Common.{◌≡◌, ℕ, zero, suc, ◌+◌, ◌-◌, ◌<◌, ◌≤◌, Bool, true, false, List, [], ◌∷◌, ◌++◌, length, take, drop, get_or, Result, Ok, Err, refl, ap, subst, ◌∙◌, sym, arith}
+use Rattle.std.proofs.Common.{◌≡◌, ℕ, zero, suc, ◌+◌, ◌-◌, ◌<◌, ◌≤◌, true, false, List, [], ◌∷◌, ◌++◌, length, take, drop, get_or, Result, Ok, refl, ap, subst, ◌∙◌, sym, arith}
 use Rattle.fd_schema.specs.declared.token.Token.{Token}
 use Rattle.fd_schema.specs.declared.fault.Refusal.{Refusal}
 use Rattle.fd_schema.specs.declared.fault.Refusal.TheVariants as refusals
@@ -8,7 +8,7 @@ use Rattle.fd_schema.proofs.Cuts.{part_more, part_last}
 use Rattle.std.proofs.lemmas.List.{take_rest}
 use Rattle.fd_schema.specs.Tokens.{Piece, Part, is_token, parts, mark_place, view, views}
 use Rattle.fd_schema.specs.Rules.{Rule}
-use Rattle.fd_schema.specs.Grammar.{Fault, ◌>>=◌, wrong, Wrong, Byte, TooMany, each_of, rule_of, rules_of}
+use Rattle.fd_schema.specs.Grammar.{Fault, ◌>>=◌, wrong, Byte, TooMany, each_of, rule_of, rules_of}
 
 -- What a turn over parts knows: where the part from a place on ends, and what the whole is.
 pub record Turn {A : Type 0} (read : List A → Part → Result A Fault) (mark : ℕ) (stop : Piece) (ts : List Token) (before : List A) (from end : ℕ) (total : Result (List A) Fault) : Type 0 where

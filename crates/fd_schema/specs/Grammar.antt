@@ -4,7 +4,7 @@
 --   rule   = "[" level "[" level "[" level "]" "]" "]"
 --   level  = item { "," item }
 --   item   = name | name "?" | name "=" value { "/" value }
-use Rattle.std.specs.Prelude.{ℕ, zero, suc, ◌+◌, Bool, false, not, ◌&&◌, ◌||◌, List, [], ◌∷◌, ◌++◌, length, take, drop, map, nat_lt, nat_le, ◌==◌, if◌then◌else◌, Option, Some, None, Result, Ok, Err}
+use Rattle.std.specs.Prelude.{ℕ, zero, suc, ◌+◌, Bool, false, not, ◌&&◌, ◌||◌, List, [], ◌∷◌, ◌++◌, length, take, drop, nat_lt, nat_le, ◌==◌, if◌then◌else◌, Option, Some, None, Result, Ok, Err}
 use Rattle.std.specs.List.{list_all, list_any, prefix_len}
 use Rattle.fd_key.specs.Names.{is_name, is_name_byte, is_value_byte}
 use Rattle.fd_key.specs.Canonical.{canonical}

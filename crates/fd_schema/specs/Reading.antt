@@ -1,5 +1,5 @@
 -- What the calls that read answer.
-use Rattle.std.specs.Prelude.{◌≡◌, ℕ, ◌+◌, List, length, take, count_by, ◌==◌, slice_index, Result, Ok, Err, Option, Some, None, string_bytes}
+use Rattle.std.specs.Prelude.{◌≡◌, ℕ, ◌+◌, List, take, count_by, ◌==◌, slice_index, Result, Ok, Err, Option, Some, None, string_bytes}
 use Rattle.fd_schema.specs.declared.fault.Wrong as code_wrong
 use Rattle.fd_schema.specs.declared.fault.Wrong.TheVariants as wrongs
 use Rattle.fd_schema.specs.declared.fault.Refusal.{Refusal}

@@ -1,5 +1,5 @@
 -- Texts as tokens with their places: marks, and the longest runs of other bytes. Blanks and line ends stand between them.
-use Rattle.std.specs.Prelude.{ℕ, ◌+◌, Bool, false, not, ◌&&◌, ◌||◌, List, [], ◌∷◌, map, nat_lt, ◌==◌, if◌then◌else◌, Option, Some, None, bytes_eq}
+use Rattle.std.specs.Prelude.{ℕ, ◌+◌, Bool, false, not, ◌&&◌, ◌||◌, List, [], ◌∷◌, map, nat_lt, ◌==◌, if◌then◌else◌, Option, Some, None}
 use Rattle.std.specs.List.{prefix_len}
 use Rattle.std.specs.Char.{to_ascii_lowercase}
 use Rattle.fd_schema.specs.declared.token.Token.{Token}

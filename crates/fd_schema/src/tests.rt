@@ -1,25 +1,38 @@
 use super::*;
 use fd_key::Key;
+use std::alloc::Global;
 use std::test::*;
 
 /// The name of a kind, and its number, if it has one.
-fn kind_of(kind: &SchemaKind) -> (&'static str, u32) {
+fn kind_of(kind: SchemaKind) -> (&'static str, u32) {
     match kind {
         SchemaKind::TooLong => ("TooLong", 0),
-        SchemaKind::Byte(byte) => ("Byte", u32::from(*byte)),
+        SchemaKind::Byte(byte) => ("Byte", u32::from(byte)),
         SchemaKind::Name => ("Name", 0),
         SchemaKind::Value => ("Value", 0),
         SchemaKind::Twice(_) => ("Twice", 0),
         SchemaKind::Depth => ("Depth", 0),
         SchemaKind::Level => ("Level", 0),
-        SchemaKind::TooMany { count } => ("TooMany", *count),
+        SchemaKind::TooMany { count } => ("TooMany", count),
         SchemaKind::End => ("End", 0),
         SchemaKind::Empty => ("Empty", 0),
     }
 }
 
+/// The line, the kind and its number, where a text is refused.
+fn refusal(alloc: Global, text: &[u8]) -> Option<(u32, &'static str, u32)> {
+    match Schema::read(alloc, text) {
+        Ok(_schema) => None,
+        Err(SchemaFault::NoMemory) => None,
+        Err(SchemaFault::At { line, kind }) => {
+            let (name, number) = kind_of(kind);
+            Some((line, name, number))
+        }
+    }
+}
+
 #[test]
-fn refusals_name_the_first_place(rt: HostRuntime) {
+fn refusals_name_the_first_place(rt: HostRuntime) -> Result<(), Fail> {
     let cases = [
         ("[class [param]]", 1, "Depth", 0),
         ("[]", 1, "Depth", 0),
@@ -41,19 +54,22 @@ fn refusals_name_the_first_place(rt: HostRuntime) {
         ("[9x [c [d]]]", 1, "Name", 0),
         ("\n[abcdefghijklmnopq [c [d]]]", 2, "Name", 0),
         ("[a [b [\nA]]]", 2, "Twice", 0),
+        ("[a, b # b\n, a [b [c]]]", 2, "Twice", 0),
+        (
+            "[n0,n1,n2,n3,n4,n5,n6,n7,n8,n9,n10,n11,n12,n13,n14,n15,n16\n,n17,n18,n19,n20,n21,n22,n23,n24,n25,n26,n27,n28,n29,n30,n31,n32 [b [c]]]",
+            2,
+            "TooMany",
+            33,
+        ),
         ("[step=x:y [b [c]]]", 1, "Value", 0),
         ("[step=0/\n- [b [c]]]", 2, "Value", 0),
         ("[step= [b [c]]]", 1, "Byte", 91),
     ];
     for (text, line, name, number) in cases {
-        match Schema::read(rt.alloc(), text.as_bytes()) {
-            Err(SchemaFault::At { line: at, kind }) => {
-                let found = kind_of(&kind);
-                assert!(rt; at == line && found.0 == name && found.1 == number);
-            }
-            _ => assert!(rt; false),
-        }
+        let found = refusal(rt.alloc(), text.as_bytes()).ok_or("it is refused")?;
+        assert!(rt; found.0 == line && found.1 == name && found.2 == number);
     }
+    Ok(())
 }
 
 #[test]
@@ -86,5 +102,21 @@ fn a_key_that_no_rule_admits_has_no_place(rt: HostRuntime) -> Result<(), Fail> {
         .ok()
         .ok_or("there is memory")?;
     assert!(rt; matches!(schema.place(rt.alloc(), &key), Err(PlaceFault::NoRule)));
+    Ok(())
+}
+
+#[test]
+fn texts_and_schemas_have_limits(rt: HostRuntime) -> Result<(), Fail> {
+    let mut text = String::new(rt.alloc());
+    for _ in 0..257 {
+        text.push_str("[a[b[c]]]\n").ok().ok_or("there is memory")?;
+    }
+    let many = refusal(rt.alloc(), text.as_bytes()).ok_or("it is refused")?;
+    assert!(rt; many.0 == 257 && many.1 == "TooMany" && many.2 == 257);
+    for _ in 0..6_297 {
+        text.push_str("#########\n").ok().ok_or("there is memory")?;
+    }
+    let long = refusal(rt.alloc(), text.as_bytes()).ok_or("it is refused")?;
+    assert!(rt; long.0 == 1 && long.1 == "TooLong");
     Ok(())
 }

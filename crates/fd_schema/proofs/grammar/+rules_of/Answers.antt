@@ -1,9 +1,8 @@
-use Rattle.std.proofs.Common.{◌≡◌, ◌<◌, ◌≤◌, ◌+◌, ◌-◌, ◌++◌, ◌∷◌, [], ◌∙◌, ap, sym, subst, arith, List, ℕ, Result, length, length-append, take, drop, true}
+use Rattle.std.proofs.Common.{◌≡◌, ◌<◌, ◌+◌, ◌-◌, ◌++◌, ◌∷◌, [], ◌∙◌, ap, sym, subst, arith, length, length-append, take, drop}
 use Rattle.std.proofs.lemmas.List.{map_push}
-use Rattle.fd_schema.specs.Tokens.{view, views, is_token}
-use Rattle.fd_schema.specs.Rules.{Rule}
-use Rattle.fd_schema.specs.Grammar.{Fault, ◌>>=◌, rules_of}
-use Rattle.fd_schema.specs.Reading.{Fails, Gives}
+use Rattle.fd_schema.specs.Tokens.{view, views}
+use Rattle.fd_schema.specs.Grammar.{◌>>=◌, rules_of}
+use Rattle.fd_schema.specs.Reading.{Fails}
 use Rattle.fd_schema.specs.Seen.{seen_rule, seen_rules}
 use Rattle.fd_schema.proofs.Turns.{rules_end, rules_byte, rules_many, rules_more, first_and, nothing, rule_stops}
 use Rattle.fd_schema.proofs.grammar.+rules_of.Goals as goal

@@ -1,4 +1,4 @@
-use Rattle.std.proofs.Common.{◌≡◌, ◌<◌, ◌≤◌, ◌+◌, ◌++◌, ◌∷◌, [], ◌∙◌, ap, sym, arith, List, ℕ, length, drop, string_bytes}
+use Rattle.std.proofs.Common.{◌≡◌, ◌<◌, ◌+◌, ◌++◌, ◌∷◌, [], ◌∙◌, ap, sym, arith, List, length, drop}
 use Rattle.std.proofs.lemmas.List.{map_push}
 use Rattle.std.proofs.Common.{Ok}
 use Rattle.fd_schema.specs.Tokens.{view, views, parts}

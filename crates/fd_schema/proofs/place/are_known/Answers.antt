@@ -1,4 +1,4 @@
-use Rattle.std.proofs.Common.{◌≡◌, ◌∙◌, ap, sym, Bool, List, drop, ◌+◌, ◌∷◌, true}
+use Rattle.std.proofs.Common.{◌≡◌, ◌∙◌, ap, sym, Bool, List, drop, ◌+◌, ◌∷◌}
 use Rattle.std.specs.Prelude.{◌&&◌}
 use Rattle.std.specs.List.{list_all}
 use Rattle.fd_key.specs.Pairs.{Pair}

@@ -1,6 +1,5 @@
-use Rattle.std.proofs.Common.{◌≡◌, refl, arith, length, nat_lt, true, Err}
-use Rattle.fd_schema.specs.Grammar.{Fault, TooLong, schema_of}
-use Rattle.fd_schema.specs.Reading.{IsFirst}
+use Rattle.std.proofs.Common.{refl, arith}
+use Rattle.fd_schema.specs.Grammar.{TooLong}
 use Rattle.fd_schema.proofs.Whole.{too_long}
 use Rattle.fd_schema.proofs.schema.Schema.read.Goals as goal
 
