@@ -1,0 +1,4 @@
+pub mod Lines
+pub mod Sinks
+pub mod Values
+pub mod Describe

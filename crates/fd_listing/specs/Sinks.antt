@@ -1,0 +1,28 @@
+-- What a sink has taken of a text, where it tells that, and what its faults are.
+use Rattle.std.specs.Prelude.{◌≡◌, ℕ, List, ◌++◌, Option, Result, Ok, Err}
+use Rattle.fd_bytes.specs.Causes.{Rose}
+use Rattle.fd_io.specs.Streams.{Takes}
+use Rattle.fd_listing.specs.declared.fault.TextFault.{TextFault}
+use Rattle.fd_listing.specs.declared.fault.TextFault.TheVariants.{Write, NoMemory}
+use Rattle.fd_listing.specs.declared.fault.ValuesFault.{ValuesFault}
+use Rattle.fd_listing.specs.declared.fault.ValuesFault.TheVariants as values
+
+-- A write failed only where the sink's count of faults rose.
+abbrev pub HasSinkCause : {A X : Type 0} → Result A (TextFault X) → ℕ → ℕ → Type 0
+HasSinkCause (Ok done) before now = Unit {0}
+HasSinkCause (Err (Write fault)) before now = Rose before now
+HasSinkCause (Err NoMemory) before now = Unit {0}
+
+-- the same of the values
+abbrev pub HasValuesCause : {A X : Type 0} → Result A (ValuesFault X) → ℕ → ℕ → Type 0
+HasValuesCause (Ok done) before now = Unit {0}
+HasValuesCause (Err (values.Field fault)) before now = Unit {0}
+HasValuesCause (Err (values.Points points)) before now = Unit {0}
+HasValuesCause (Err (values.Write fault)) before now = Rose before now
+HasValuesCause (Err values.NoMemory) before now = Unit {0}
+
+-- of a text all was taken but the rest
+pub record TakesAllBut (old new : Option (List ℕ)) (text rest : List ℕ) : Type 0 where
+  pub front : List ℕ
+  pub split : text ≡ front ++ rest
+  pub took : Takes old new front

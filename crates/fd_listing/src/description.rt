@@ -1,0 +1,301 @@
+ghost use Rattle.std.specs.Prelude.{◌≡◌, ◌≤◌, ◌++◌, [], length, codes, IfOk, OnOk, OnErr, string_bytes};
+ghost use Rattle.std.specs.Fmt.{decimal};
+ghost use Rattle.fd_sections.specs.Parts.{sections_of};
+ghost use Rattle.fd_templates.specs.Identification.{identification_of};
+ghost use Rattle.fd_templates.specs.Grid.{grid_is};
+ghost use Rattle.fd_templates.specs.Product.{product_is};
+ghost use Rattle.fd_templates.specs.Simple.{simple_is};
+ghost use Rattle.fd_key.specs.Given.{given_of};
+ghost use Rattle.fd_key.specs.Keys.{key_of};
+ghost use Rattle.fd_io.specs.Streams.{Takes, TakesFront};
+ghost use Rattle.fd_listing.specs.Sinks.{HasSinkCause};
+ghost use Rattle.fd_listing.specs.Lines.{blank, line};
+ghost use Rattle.fd_listing.specs.Describe.{ident_numbers, grid_numbers, grid_text, product_numbers, product_text, formula_text, packing_text, template_line, message_line, ident_line, grid_line, product_line, packing_line, map_line, key_line, key_line_text, key_fault_text, describe_text};
+
+use crate::fault::TextFault;
+use crate::lines::write_text;
+use crate::numbers::{plain, plain_if, push_named, push_numbers, signed, signed_if};
+use fd_bytes::{NoMemory, be_u64};
+use fd_io::Sink;
+use fd_key::{Given, GivenFault, KeyFault, key_of};
+use fd_sections::Message;
+use fd_templates::{Ident, LatLon, Product, Simple, TemplateFault};
+use std::alloc::Global;
+
+/// The line of section 0.
+fn push_message(out: &mut String, number: u64, indicator: &[u8]) -> Result<(), NoMemory>
+    requires { length indicator.now ≡ 16 }
+    ensures { OnOk result (string_bytes out.new ≡ string_bytes out.old ++ message_line number indicator.now) }
+{
+    let (_, total) = indicator.split_at(8);
+    let length = be_u64(total);
+    write!(out, "message {number} length {length}\n")?;
+    Ok(())
+}
+
+/// The numbers of section 1.
+#[tactic(auto, unfolding(crate::specs::Describe::ident_numbers))]
+fn ident_numbers(ident: &Ident) -> [Option<i64>; 13]
+    ensures { result ≡ ident_numbers ident.now }
+{
+    [
+        plain(u32::from(ident.centre)),
+        plain(u32::from(ident.sub_centre)),
+        plain(u32::from(ident.master_tables_version)),
+        plain(u32::from(ident.local_tables_version)),
+        plain(u32::from(ident.reference_time_significance)),
+        plain(u32::from(ident.year)),
+        plain(u32::from(ident.month)),
+        plain(u32::from(ident.day)),
+        plain(u32::from(ident.hour)),
+        plain(u32::from(ident.minute)),
+        plain(u32::from(ident.second)),
+        plain(u32::from(ident.production_status)),
+        plain(u32::from(ident.data_type)),
+    ]
+}
+
+/// The line of section 1.
+fn push_ident(out: &mut String, message: &Message<'_>) -> Result<(), NoMemory>
+    ensures { OnOk result (string_bytes out.new ≡ string_bytes out.old ++ ident_line (sections_of message.now).identification) }
+{
+    let ident = Ident::read(message);
+    out.push_str("ident")?;
+    push_numbers(out, &ident_numbers(&ident))?;
+    out.push('\n')?;
+    Ok(())
+}
+
+/// The line of a section whose template is not read.
+fn push_unread(out: &mut String, name: &str, fault: TemplateFault) -> Result<(), NoMemory>
+    ensures { OnOk result (string_bytes out.new ≡ string_bytes out.old ++ template_line name.now (Err fault)) }
+{
+    match fault {
+        TemplateFault::Other(template) => write!(out, "{name} {template} unread\n")?,
+        TemplateFault::BadLength { said: _ } => write!(out, "{name} 0 short\n")?,
+    }
+    Ok(())
+}
+
+/// The numbers of section 3.
+#[tactic(auto, unfolding(crate::specs::Describe::grid_numbers))]
+fn grid_numbers(grid: &LatLon) -> [Option<i64>; 20]
+    ensures { result ≡ grid_numbers grid.now }
+{
+    [
+        plain(grid.points),
+        plain(u32::from(grid.earth_shape)),
+        signed_if(grid.radius_factor),
+        signed_if(grid.radius),
+        signed_if(grid.major_axis_factor),
+        signed_if(grid.major_axis),
+        signed_if(grid.minor_axis_factor),
+        signed_if(grid.minor_axis),
+        plain(grid.ni),
+        plain(grid.nj),
+        plain(grid.basic_angle),
+        plain_if(grid.subdivisions),
+        signed(&grid.la1),
+        signed(&grid.lo1),
+        plain(u32::from(grid.resolution_flags)),
+        signed(&grid.la2),
+        signed(&grid.lo2),
+        plain(grid.di),
+        plain(grid.dj),
+        plain(u32::from(grid.scanning_mode)),
+    ]
+}
+
+/// The line of section 3.
+fn push_grid(out: &mut String, message: &Message<'_>) -> Result<(), NoMemory>
+    ensures { OnOk result (string_bytes out.new ≡ string_bytes out.old ++ grid_line (sections_of message.now).grid) }
+{
+    match LatLon::read(message) {
+        Ok(grid) => {
+            out.push_str("grid 0 points")?;
+            push_numbers(out, &grid_numbers(&grid))?;
+            out.push('\n')?;
+            Ok(())
+        }
+        Err(fault) => push_unread(out, "grid", fault),
+    }
+}
+
+/// The numbers of section 4.
+#[tactic(auto, unfolding(crate::specs::Describe::product_numbers))]
+fn product_numbers(product: &Product) -> [Option<i64>; 15]
+    ensures { result ≡ product_numbers product.now }
+{
+    [
+        plain(u32::from(product.category)),
+        plain(u32::from(product.parameter)),
+        plain(u32::from(product.generating_process_type)),
+        plain(u32::from(product.background_process)),
+        plain(u32::from(product.process_identifier)),
+        plain(u32::from(product.cutoff_hours)),
+        plain(u32::from(product.cutoff_minutes)),
+        plain(u32::from(product.time_unit)),
+        signed(&product.forecast_time),
+        plain(u32::from(product.first_surface_type)),
+        signed_if(product.first_surface_factor),
+        signed_if(product.first_surface_value),
+        plain(u32::from(product.second_surface_type)),
+        signed_if(product.second_surface_factor),
+        signed_if(product.second_surface_value),
+    ]
+}
+
+/// The line of section 4.
+fn push_product(out: &mut String, message: &Message<'_>) -> Result<(), NoMemory>
+    ensures { OnOk result (string_bytes out.new ≡ string_bytes out.old ++ product_line (sections_of message.now).product) }
+{
+    match Product::read(message) {
+        Ok(product) => {
+            out.push_str("product 0")?;
+            push_numbers(out, &product_numbers(&product))?;
+            out.push('\n')?;
+            Ok(())
+        }
+        Err(fault) => push_unread(out, "product", fault),
+    }
+}
+
+/// What the values of section 7 are made of.
+#[tactic(auto, unfolding(crate::specs::Describe::formula_text))]
+fn push_formula(out: &mut String, simple: &Simple) -> Result<(), NoMemory>
+    ensures { OnOk result (string_bytes out.new ≡ string_bytes out.old ++ formula_text simple.now) }
+{
+    push_named(out, "reference", plain(simple.reference))?;
+    push_named(out, "binary", signed(&simple.binary_scale))?;
+    push_named(out, "decimal", signed(&simple.decimal_scale))?;
+    Ok(())
+}
+
+/// The numbers of section 5.
+#[tactic(auto, unfolding(crate::specs::Describe::packing_text))]
+fn push_simple(out: &mut String, simple: &Simple) -> Result<(), NoMemory>
+    ensures { OnOk result (string_bytes out.new ≡ string_bytes out.old ++ packing_text simple.now) }
+{
+    push_named(out, "coded", plain(simple.coded))?;
+    push_formula(out, simple)?;
+    push_named(out, "bits", plain(u32::from(simple.bits)))?;
+    push_named(out, "original", plain(u32::from(simple.original_type)))?;
+    Ok(())
+}
+
+/// The line of section 5.
+fn push_packing(out: &mut String, message: &Message<'_>) -> Result<(), NoMemory>
+    ensures { OnOk result (string_bytes out.new ≡ string_bytes out.old ++ packing_line (sections_of message.now).representation) }
+{
+    match Simple::read(message) {
+        Ok(simple) => {
+            out.push_str("packing 0")?;
+            push_simple(out, &simple)?;
+            out.push('\n')?;
+            Ok(())
+        }
+        Err(fault) => push_unread(out, "packing", fault),
+    }
+}
+
+/// The line of section 6.
+fn push_map(out: &mut String, bit_map: &[u8]) -> Result<(), NoMemory>
+    requires { 6 ≤ length bit_map.now }
+    ensures { OnOk result (string_bytes out.new ≡ string_bytes out.old ++ map_line bit_map.now) }
+{
+    let indicator = bit_map[5];
+    write!(out, "map {indicator}\n")?;
+    Ok(())
+}
+
+/// No pairs.
+fn none_given(alloc: Global) -> Result<Given, NoMemory>
+    ensures { IfOk result (λ g. g ≡ []) }
+{
+    match Given::read(alloc, "") {
+        Ok(given) => Ok(given),
+        Err(_) => Err(NoMemory),
+    }
+}
+
+/// The kind of a fault and its number.
+fn push_key_fault(out: &mut String, fault: KeyFault) -> Result<(), NoMemory>
+    ensures { OnOk result (string_bytes out.new ≡ string_bytes out.old ++ key_fault_text fault) }
+{
+    match fault {
+        KeyFault::Product(template) => write!(out, "Product {template}")?,
+        KeyFault::ProductLength { said } => write!(out, "ProductLength {said}")?,
+        KeyFault::BadDate => out.push_str("BadDate")?,
+        KeyFault::KeyTooLong { len } => write!(out, "KeyTooLong {len}")?,
+        KeyFault::NoMemory => out.push_str("NoMemory")?,
+    }
+    Ok(())
+}
+
+/// The key, or why there is none.
+fn push_key_text(alloc: Global, out: &mut String, message: &Message<'_>) -> Result<(), NoMemory>
+    ensures { OnOk result (string_bytes out.new ≡ string_bytes out.old ++ key_line_text (key_of (sections_of message.now) [])) }
+{
+    let given = none_given(alloc)?;
+    match key_of(alloc, message, &given) {
+        Ok(key) => {
+            let text = key.text(alloc)?;
+            out.push_str(text.as_str())?;
+            Ok(())
+        }
+        Err(KeyFault::NoMemory) => Err(NoMemory),
+        Err(fault) => {
+            out.push_str("refused ")?;
+            push_key_fault(out, fault)
+        }
+    }
+}
+
+/// The line of the key.
+fn push_key(alloc: Global, out: &mut String, message: &Message<'_>) -> Result<(), NoMemory>
+    ensures { OnOk result (string_bytes out.new ≡ string_bytes out.old ++ key_line (sections_of message.now)) }
+{
+    out.push_str("key ")?;
+    push_key_text(alloc, out, message)?;
+    out.push('\n')?;
+    Ok(())
+}
+
+/// The lines of a message.
+#[tactic(auto, unfolding(crate::specs::Describe::describe_text))]
+fn description(alloc: Global, number: u64, message: &Message<'_>) -> Result<String, NoMemory>
+    ensures { IfOk result (λ t. string_bytes t ≡ describe_text number (sections_of message.now)) }
+{
+    let mut out = String::new(alloc);
+    push_message(&mut out, number, message.indicator())?;
+    push_ident(&mut out, message)?;
+    push_grid(&mut out, message)?;
+    push_product(&mut out, message)?;
+    push_packing(&mut out, message)?;
+    push_map(&mut out, message.bit_map())?;
+    push_key(alloc, &mut out, message)?;
+    Ok(out)
+}
+
+/// Writes what a message holds, in seven lines: its number and its length, the numbers of sections 1, 3, 4 and 5, the bit
+/// map indicator of section 6, and its key. A number that is missing is written as `-`. A section with a template that
+/// isn't known has `unread` in place of its numbers, one that is shorter than its template `short`, and a message without
+/// a key the cause of that.
+///
+/// `Write` comes where a write failed, after which a front of the lines was taken.
+pub fn describe<X, K: Sink<X>>(
+    alloc: Global,
+    number: u64,
+    message: &Message<'_>,
+    sink: &mut K,
+) -> Result<(), TextFault<X>>
+    ensures took { OnOk result (Takes (K.taken sink.old) (K.taken sink.new) (describe_text number (sections_of message.now))) }
+    ensures front { OnErr result (TakesFront (K.taken sink.old) (K.taken sink.new) (describe_text number (sections_of message.now))) }
+    ensures count { K.faults sink.old ≤ K.faults sink.new }
+    ensures cause { HasSinkCause result (K.faults sink.old) (K.faults sink.new) }
+{
+    match description(alloc, number, message) {
+        Ok(text) => write_text(sink, text.as_str()),
+        Err(NoMemory) => Err(TextFault::NoMemory),
+    }
+}

@@ -1,0 +1,14 @@
+//! What messages hold, as lines of text.
+#![tactic(auto)]
+
+mod description;
+mod fault;
+mod lines;
+mod numbers;
+mod point_values;
+#[cfg(test)]
+mod tests;
+
+pub use description::describe;
+pub use fault::{TextFault, ValuesFault};
+pub use point_values::values;

@@ -1,0 +1,155 @@
+ghost use Rattle.std.specs.Prelude.{◌≡◌, ◌≤◌, IfOk, IfSome, OnOk, OnErr, string_bytes};
+ghost use Rattle.fd_sections.specs.Parts.{sections_of};
+ghost use Rattle.fd_packing.specs.Field.{field_of};
+ghost use Rattle.fd_packing.specs.Value.{values_of};
+ghost use Rattle.fd_io.specs.Streams.{Takes, TakesFront};
+ghost use Rattle.fd_listing.specs.Sinks.{HasSinkCause, HasValuesCause};
+ghost use Rattle.fd_listing.specs.Values.{number_text, value_text, value_line, values_text, message_values, most_points, AnswersField};
+
+use crate::fault::{TextFault, ValuesFault};
+use crate::lines::write_text;
+use fd_bytes::NoMemory;
+use fd_io::Sink;
+use fd_packing::{Field, FieldFault};
+use fd_scaled::{DecimalFault, Scaled};
+use fd_sections::Message;
+use std::alloc::Global;
+
+/// How many points a field may have.
+const MOST_POINTS: u64 = 134_217_728;
+
+/// The text of a value.
+fn number_text(alloc: Global, value: &Scaled, decimals: Option<u8>) -> Result<String, NoMemory>
+    requires { IfSome decimals (λ d. d ≤ 30) }
+    ensures { IfOk result (λ t. string_bytes t ≡ number_text decimals value.now) }
+{
+    let Some(d) = decimals else {
+        return value.text(alloc);
+    };
+    match value.decimals(alloc, d) {
+        Ok(text) => Ok(text),
+        Err(DecimalFault::TooWide) => value.text(alloc),
+        Err(DecimalFault::NoMemory) => Err(NoMemory),
+    }
+}
+
+/// The text of a point's value.
+fn value_text(
+    alloc: Global,
+    value: Option<Scaled>,
+    decimals: Option<u8>,
+) -> Result<String, NoMemory>
+    requires { IfSome decimals (λ d. d ≤ 30) }
+    ensures { IfOk result (λ t. string_bytes t ≡ value_text decimals value) }
+{
+    match value {
+        Some(value) => number_text(alloc, &value, decimals),
+        None => Ok(String::from_str(alloc, "-")?),
+    }
+}
+
+/// The line of a text for a point.
+fn value_line(alloc: Global, number: u64, point: u64, value: &str) -> Result<String, NoMemory>
+    ensures { IfOk result (λ t. string_bytes t ≡ value_line number point value.now) }
+{
+    Ok(format!(in alloc; "{number} {point} {value}\n")?)
+}
+
+/// The line of a point.
+fn point_text(
+    alloc: Global,
+    number: u64,
+    point: u64,
+    value: Option<Scaled>,
+    decimals: Option<u8>,
+) -> Result<String, NoMemory>
+    requires { IfSome decimals (λ d. d ≤ 30) }
+    ensures { IfOk result (λ t. string_bytes t ≡ value_line number point (value_text decimals value)) }
+{
+    let text = value_text(alloc, value, decimals)?;
+    value_line(alloc, number, point, text.as_str())
+}
+
+/// Writes the line of a point.
+fn write_value<X, K: Sink<X>>(
+    alloc: Global,
+    number: u64,
+    point: u64,
+    value: Option<Scaled>,
+    decimals: Option<u8>,
+    sink: &mut K,
+) -> Result<(), TextFault<X>>
+    requires { IfSome decimals (λ d. d ≤ 30) }
+    ensures took { OnOk result (Takes (K.taken sink.old) (K.taken sink.new) (value_line number point (value_text decimals value))) }
+    ensures front { OnErr result (TakesFront (K.taken sink.old) (K.taken sink.new) (value_line number point (value_text decimals value))) }
+    ensures count { K.faults sink.old ≤ K.faults sink.new }
+    ensures cause { HasSinkCause result (K.faults sink.old) (K.faults sink.new) }
+{
+    match point_text(alloc, number, point, value, decimals) {
+        Ok(line) => write_text(sink, line.as_str()),
+        Err(NoMemory) => Err(TextFault::NoMemory),
+    }
+}
+
+/// Writes the lines of all points.
+fn write_values<X, K: Sink<X>>(
+    alloc: Global,
+    number: u64,
+    field: &Field<'_>,
+    decimals: Option<u8>,
+    sink: &mut K,
+) -> Result<(), TextFault<X>>
+    requires decimals { IfSome decimals (λ d. d ≤ 30) }
+    requires few { field.now.points ≤ most_points }
+    ensures took { OnOk result (Takes (K.taken sink.old) (K.taken sink.new) (values_text number decimals (values_of field.now))) }
+    ensures front { OnErr result (TakesFront (K.taken sink.old) (K.taken sink.new) (values_text number decimals (values_of field.now))) }
+    ensures count { K.faults sink.old ≤ K.faults sink.new }
+    ensures cause { HasSinkCause result (K.faults sink.old) (K.faults sink.new) }
+{
+    let mut points = field.values();
+    let mut point = 0;
+    'points: while let Some(value) = points.next() {
+        match write_value(alloc, number, point, value, decimals, sink) {
+            Ok(()) => {}
+            Err(fault) => return Err(fault),
+        }
+        point += 1;
+    }
+    Ok(())
+}
+
+/// Writes the values of a message, a line `MESSAGE POINT VALUE` for each point of its grid: the number of the message,
+/// that of the point, from 0, and the value, exactly, or with so many decimals where it isn't too wide for them. A point
+/// that the bit map leaves out has `-`.
+///
+/// `Field` comes exactly where the field is not read, and else `Points` exactly where it has more than 134,217,728
+/// points; nothing was written then. `Write` comes where a write failed, after which a front of the lines was taken.
+pub fn values<X, K: Sink<X>>(
+    alloc: Global,
+    number: u64,
+    message: &Message<'_>,
+    decimals: Option<u8>,
+    sink: &mut K,
+) -> Result<(), ValuesFault<X>>
+    requires { IfSome decimals (λ d. d ≤ 30) }
+    ensures took { OnOk result (Takes (K.taken sink.old) (K.taken sink.new) (message_values number decimals (sections_of message.now))) }
+    ensures front { OnErr result (TakesFront (K.taken sink.old) (K.taken sink.new) (message_values number decimals (sections_of message.now))) }
+    // The field's faults come exactly where it is refused.
+    ensures field { AnswersField result (field_of (sections_of message.now)) }
+    ensures count { K.faults sink.old ≤ K.faults sink.new }
+    ensures cause { HasValuesCause result (K.faults sink.old) (K.faults sink.new) }
+{
+    let field = match Field::read(alloc, message) {
+        Ok(field) => field,
+        Err(fault) => return Err(ValuesFault::Field(fault)),
+    };
+    let points = field.points();
+    if points > MOST_POINTS {
+        return Err(ValuesFault::Points(points));
+    }
+    match write_values(alloc, number, &field, decimals, sink) {
+        Ok(()) => Ok(()),
+        Err(TextFault::Write(fault)) => Err(ValuesFault::Write(fault)),
+        Err(TextFault::NoMemory) => Err(ValuesFault::NoMemory),
+    }
+}
