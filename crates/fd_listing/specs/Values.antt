@@ -1,11 +1,12 @@
 -- The values of a field, a line for each point.
-use Rattle.std.specs.Prelude.{◌≡◌, ◌≤◌, ◌<◌, ◌+◌, ℕ, List, [], ◌∷◌, ◌++◌, codes, nat_lt, if◌then◌else◌, Option, Some, None, Result, Ok, Err}
+use Rattle.std.specs.Prelude.{◌≡◌, ◌≢◌, ◌≤◌, ◌<◌, ◌+◌, ℕ, List, [], ◌∷◌, ◌++◌, codes, nat_lt, if◌then◌else◌, Option, Some, None, Result, Ok, Err}
 use Rattle.std.specs.Fmt.{decimal}
 use Rattle.fd_sections.specs.Message.{Sections}
 use Rattle.fd_scaled.specs.declared.Scaled.{Scaled}
 use Rattle.fd_scaled.specs.Decimal.{is_too_wide, rounded_text}
 use Rattle.fd_scaled.specs.Text.{exact_text}
 use Rattle.fd_packing.specs.declared.fault.FieldFault.{FieldFault}
+use Rattle.fd_packing.specs.declared.fault.FieldFault.TheVariants as fields
 use Rattle.fd_packing.specs.Packed.{Packed}
 use Rattle.fd_packing.specs.Field.{field_of}
 use Rattle.fd_packing.specs.Value.{values_of}
@@ -65,3 +66,11 @@ AnswersField (Err (Field fault)) field = field ≡ Err fault
 AnswersField (Err (Points points)) field = IsTooLarge field points
 AnswersField (Err (Write fault)) field = IsListed field
 AnswersField (Err NoMemory) field = IsListed field
+
+-- No fault of the field is want of memory.
+abbrev pub HoldsNoWant : {A X : Type 0} → Result A (ValuesFault X) → Type 0
+HoldsNoWant (Ok done) = Unit {0}
+HoldsNoWant (Err (Field fault)) = fault ≢ fields.NoMemory
+HoldsNoWant (Err (Points points)) = Unit {0}
+HoldsNoWant (Err (Write fault)) = Unit {0}
+HoldsNoWant (Err NoMemory) = Unit {0}

@@ -1,23 +1,16 @@
-ghost use Rattle.std.specs.Prelude.{◌≡◌, ◌≤◌, ◌++◌, [], length, codes, IfOk, OnOk, OnErr, string_bytes};
-ghost use Rattle.std.specs.Fmt.{decimal};
+ghost use Rattle.std.specs.Prelude.{◌≡◌, ◌≤◌, ◌++◌, [], length, IfOk, OnOk, OnErr, string_bytes};
 ghost use Rattle.fd_sections.specs.Parts.{sections_of};
-ghost use Rattle.fd_templates.specs.Identification.{identification_of};
-ghost use Rattle.fd_templates.specs.Grid.{grid_is};
-ghost use Rattle.fd_templates.specs.Product.{product_is};
-ghost use Rattle.fd_templates.specs.Simple.{simple_is};
-ghost use Rattle.fd_key.specs.Given.{given_of};
 ghost use Rattle.fd_key.specs.Keys.{key_of};
 ghost use Rattle.fd_io.specs.Streams.{Takes, TakesFront};
 ghost use Rattle.fd_listing.specs.Sinks.{HasSinkCause};
-ghost use Rattle.fd_listing.specs.Lines.{blank, line};
-ghost use Rattle.fd_listing.specs.Describe.{ident_numbers, grid_numbers, grid_text, product_numbers, product_text, formula_text, packing_text, template_line, message_line, ident_line, grid_line, product_line, packing_line, map_line, key_line, key_line_text, key_fault_text, describe_text};
+ghost use Rattle.fd_listing.specs.Describe.{ident_numbers, grid_numbers, product_numbers, formula_text, packing_text, template_line, message_line, ident_line, grid_line, product_line, packing_line, map_line, key_line, key_line_text, key_fault_text, describe_text};
 
 use crate::fault::TextFault;
 use crate::lines::write_text;
 use crate::numbers::{plain, plain_if, push_named, push_numbers, signed, signed_if};
 use fd_bytes::{NoMemory, be_u64};
 use fd_io::Sink;
-use fd_key::{Given, GivenFault, KeyFault, key_of};
+use fd_key::{Given, KeyFault, key_of};
 use fd_sections::Message;
 use fd_templates::{Ident, LatLon, Product, Simple, TemplateFault};
 use std::alloc::Global;

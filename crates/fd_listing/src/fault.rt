@@ -3,7 +3,6 @@ ghost use Rattle.fd_listing.specs.declared.fault.TextFault.TheVariants as text;
 
 use fd_bytes::NoMemory;
 use fd_packing::FieldFault;
-use std::alloc::AllocError;
 
 /// Why a text was not written whole.
 #[derive(Drop)]

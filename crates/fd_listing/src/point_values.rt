@@ -4,13 +4,13 @@ ghost use Rattle.fd_packing.specs.Field.{field_of};
 ghost use Rattle.fd_packing.specs.Value.{values_of};
 ghost use Rattle.fd_io.specs.Streams.{Takes, TakesFront};
 ghost use Rattle.fd_listing.specs.Sinks.{HasSinkCause, HasValuesCause};
-ghost use Rattle.fd_listing.specs.Values.{number_text, value_text, value_line, values_text, message_values, most_points, AnswersField};
+ghost use Rattle.fd_listing.specs.Values.{number_text, value_text, value_line, values_text, message_values, most_points, AnswersField, HoldsNoWant};
 
 use crate::fault::{TextFault, ValuesFault};
 use crate::lines::write_text;
 use fd_bytes::NoMemory;
 use fd_io::Sink;
-use fd_packing::{Field, FieldFault};
+use fd_packing::Field;
 use fd_scaled::{DecimalFault, Scaled};
 use fd_sections::Message;
 use std::alloc::Global;
@@ -136,6 +136,8 @@ pub fn values<X, K: Sink<X>>(
     ensures front { OnErr result (TakesFront (K.taken sink.old) (K.taken sink.new) (message_values number decimals (sections_of message.now))) }
     // The field's faults come exactly where it is refused.
     ensures field { AnswersField result (field_of (sections_of message.now)) }
+    // Want of memory is an answer of its own, and never a fault of the field.
+    ensures memory { HoldsNoWant result }
     ensures count { K.faults sink.old ≤ K.faults sink.new }
     ensures cause { HasValuesCause result (K.faults sink.old) (K.faults sink.new) }
 {
