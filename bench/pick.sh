@@ -1,6 +1,7 @@
 #!/usr/bin/env bash
 # Throughput and peak memory of `fdb pick`, and beside it of ecCodes' `grib_copy -w` where it is installed, over a
-# stream of at least 256 MB that repeats the samples. No part of the gate.
+# stream of at least 256 MB that repeats the samples, then `fdb pick` alone over twice that stream and over streams with
+# junk between the messages. No part of the gate.
 set -eu
 top=$(cd "$(dirname "$0")/.." && pwd)
 work=$(mktemp -d)
@@ -30,6 +31,19 @@ PY
 export STREAM=$stream OUT=$work/out
 run fdb "$top/fdb" pick step=6
 ls -l "$work/out" | awk '{print "  wrote", $5, "octets"}'
+
+# Linear time: twice the input is to take at most 2.3 times as long, also with junk between the messages.
+{ cat "$stream"; cat "$stream"; } > "$work/twice"
+STREAM=$work/twice run twice "$top/fdb" pick step=6
+rm "$work/twice"
+{ cat "$top/samples/forecast.grib2"; head -c 4096 /dev/zero | tr '\0' 'G'; } > "$work/one"
+for _ in $(seq 64); do cat "$work/one"; done > "$work/part"
+for _ in $(seq $((times / 64 + 1))); do cat "$work/part"; done > "$work/junk"
+STREAM=$work/junk run junk "$top/fdb" pick step=6
+{ cat "$work/junk"; cat "$work/junk"; } > "$work/twice"
+STREAM=$work/twice run "twice junk" "$top/fdb" pick step=6
+rm "$work/twice" "$work/junk"
+
 if command -v grib_copy > /dev/null; then
   run grib_copy grib_copy -w stepRange=6 "$stream" "$work/copied"
 else
