@@ -1,2 +1,3 @@
 pub mod ImageLemmas
 pub mod NameLemmas
+pub mod MomentLemmas

@@ -1,8 +1,13 @@
-//! A file on a disk that may crash: what a read gives, what is firm, and what a crash may leave of it.
+//! What the store asks of a disk: files, shelves, folders and stores, what a read gives of them, what is firm, and what a
+//! crash may leave of them.
 #![tactic(auto)]
 
 mod file;
 mod folders;
+mod shelves;
+mod traits;
 
 pub use file::{File, Range, Ranges};
 pub use folders::{FileKind, FileName};
+pub use shelves::{Folder, Shelf, Store};
+pub use traits::{Disk, Down, Reader, Sealed};
