@@ -17,12 +17,12 @@ use Rattle.fd_turn.proofs.Totals.{total_two, total_alone}
 none_in : (xs : List Listing) (l : Listing) → xs ≡ [] → Contains xs l → ⊥
 none_in xs l is c = let here = c.1 in let none : length xs ≡ 0 = ap length is in omega arith
 
-module _ (X Y : Type 0) (vlist : X → List Listing) (wlist : Y → List Listing) (wdoubt : Y → Option Listing) where
+module _ (X Y : Type 0) (vlist : X → List Listing) (vsubject : X → List ℕ) (wlist : Y → List Listing) (wdoubt : Y → Option Listing) (wsubject : Y → List ℕ) where
   abbrev St : Type 0
   St = State (Slot X Y) SeatView
 
   abbrev Rule : St → Type 0
-  Rule = IsKept vlist wlist wdoubt
+  Rule = IsKept vlist vsubject wlist wdoubt wsubject
 
   -- every other seat has no parts, where one has all of them
   pub others_spent : (s : St) (r : Rule s) (id j : ℕ) (v u : SeatView) → j ≢ id → get_elem? s.views id ≡ maybe.some v → get_elem? s.views j ≡ maybe.some u → v.parts ≡ all_parts → u.parts ≡ 0

@@ -17,22 +17,25 @@ use Rattle.fd_turn.specs.Steps.{Accounts}
 use Rattle.fd_turn.proofs.Totals.{total_alone}
 use Rattle.fd_turn.proofs.Prefixes.{prefix_self}
 use Rattle.fd_turn.proofs.Accounting.{all_accounts, others_spent}
+use Rattle.fd_turn.proofs.Turns.{slot_value}
+use Rattle.fd_turn.proofs.Locks.{slot_state}
 
-module _ (X Y : Type 0) (vlist : X → List Listing) (wlist : Y → List Listing) (wdoubt : Y → Option Listing) where
+module _ (X Y : Type 0) (vlist : X → List Listing) (vsubject : X → List ℕ) (wlist : Y → List Listing) (wdoubt : Y → Option Listing) (wsubject : Y → List ℕ) where
   abbrev St : Type 0
   St = State (Slot X Y) SeatView
 
   abbrev Rule : St → Type 0
-  Rule = IsKept vlist wlist wdoubt
+  Rule = IsKept vlist vsubject wlist wdoubt wsubject
 
-  only_first : (xs : List Listing) (j : ℕ) (u : SeatView) → get_elem? (first_seat xs ∷ []) j ≡ maybe.some u → first_seat xs ≡ u
-  only_first xs zero u e = maybe.some-injective (first_seat xs) u e
-  only_first xs (suc j) u e = absurd (maybe.some-ne-none u (sym e))
+  only_first : (v : SeatView) (j : ℕ) (u : SeatView) → get_elem? (v ∷ []) j ≡ maybe.some u → v ≡ u
+  only_first v zero u e = maybe.some-injective v u e
+  only_first v (suc j) u e = absurd (maybe.some-ne-none u (sym e))
 
-  pub starts : (x : X) (y : Y) → vlist x ≡ wlist y → wdoubt y ≡ None → Rule (opening (0 ∷ 0 ∷ 0 ∷ []) (Value x ∷ Locked y ∷ []) (first_seat (vlist x)))
-  starts x y same sure = record {
+  pub starts : (x : X) (y : Y) → vlist x ≡ wlist y → vsubject x ≡ wsubject y → wdoubt y ≡ None → Rule (opening (0 ∷ 0 ∷ 0 ∷ []) (Value x ∷ Locked y ∷ []) (first_seat (vsubject x) (vlist x)))
+  starts x y same about sure = record {
     whole = vlist x;
     opening = length (vlist x);
+    subject = vsubject x;
     posts = 0;
     value = maybe.some (Value x);
     state = maybe.some (Locked y);
@@ -40,21 +43,24 @@ module _ (X Y : Type 0) (vlist : X → List Listing) (wlist : Y → List Listing
     homes = refl;
     value_is = inl (refl, x, refl, refl);
     state_is = inl (refl, y, refl, sym same, λ l is. absurd (cc (sure, is)));
+    value_about = λ z e. ap (λ (b : Slot X Y). vsubject (slot_value x b)) (sym (maybe.some-injective (Value x) (Value z) e));
+    state_about = λ z e. ap (λ (b : Slot X Y). wsubject (slot_state y b)) (sym (maybe.some-injective (Locked y) (Locked z) e)) ∙ sym about;
     counted = omega arith;
     amounts = refl;
     parts = refl;
-    seats = λ j u e. subst (Knows (vlist x) (length (vlist x)) (first_seat (vlist x) ∷ [])) (only_first (vlist x) j u e) record {
+    seats = λ j u e. subst (Knows (vlist x) (length (vlist x)) (vsubject x) (first_seat (vsubject x) (vlist x) ∷ [])) (only_first (first_seat (vsubject x) (vlist x)) j u e) record {
       seen = prefix_self (vlist x);
       heard = (vlist x, refl);
       opened = λ z. refl;
+      about = λ z. refl;
       turn = tt;
       lock = tt;
       spent = λ z. absurd (omega arith);
     };
   }
 
-  pub starts_as : (x : X) (y : Y) (slots : List (Slot X Y)) (about : X) → slots ≡ Value x ∷ Locked y ∷ [] → about ≡ x → vlist x ≡ wlist y → wdoubt y ≡ None → Rule (opening (0 ∷ 0 ∷ 0 ∷ []) slots (first_seat (vlist about)))
-  starts_as x y slots about is told same sure = subst (λ (z : List (Slot X Y) × X). Rule (opening (0 ∷ 0 ∷ 0 ∷ []) z.0 (first_seat (vlist z.1)))) (λ i. (sym is i, sym told i)) (starts x y same sure)
+  pub starts_as : (x : X) (y : Y) (slots : List (Slot X Y)) (key : X) → slots ≡ Value x ∷ Locked y ∷ [] → key ≡ x → vlist x ≡ wlist y → vsubject x ≡ wsubject y → wdoubt y ≡ None → Rule (opening (0 ∷ 0 ∷ 0 ∷ []) slots (first_seat (vsubject key) (vlist key)))
+  starts_as x y slots key is told same about sure = subst (λ (z : List (Slot X Y) × X). Rule (opening (0 ∷ 0 ∷ 0 ∷ []) z.0 (first_seat (vsubject z.1) (vlist z.1)))) (λ i. (sym is i, sym told i)) (starts x y same about sure)
 
   -- what the last pass gets
   pub record Ended (v : SeatView) (slots : List (Slot X Y)) : Type 0 where
@@ -63,6 +69,8 @@ module _ (X Y : Type 0) (vlist : X → List Listing) (wlist : Y → List Listing
     pub value_at : get_elem? slots 0 ≡ maybe.some (Value value)
     pub state_at : get_elem? slots 1 ≡ maybe.some (Locked state)
     pub same : vlist value ≡ wlist state
+    pub value_about : vsubject value ≡ v.subject
+    pub state_about : wsubject state ≡ v.subject
     pub seen : IsPrefix v.history (vlist value)
     pub accounts : Accounts v (vlist value) (wdoubt state)
 
@@ -71,7 +79,7 @@ module _ (X Y : Type 0) (vlist : X → List Listing) (wlist : Y → List Listing
       let k = r.seats id v at in
       let some_parts : 0 < v.parts = omega (arith, all) in
       let spent : (j : ℕ) (u : SeatView) → j ≢ id → get_elem? s.views j ≡ maybe.some u → IsSpent u =
-      λ j u n e. (r.seats j u e).spent (others_spent X Y vlist wlist wdoubt s r id j v u n at e all) in
+      λ j u n e. (r.seats j u e).spent (others_spent X Y vlist vsubject wlist wdoubt wsubject s r id j v u n at e all) in
       let no_turn : holder_count s.views ≡ 0 = total_alone (λ (z : SeatView). in_turn z.turn) s.views id v at (λ j u n e. ap in_turn (spent j u n e).away) ∙ ap in_turn away in
       let no_lock : owner_count s.views ≡ 0 = total_alone (λ (z : SeatView). in_lock z.lock) s.views id v at (λ j u n e. ap in_lock (spent j u n e).free) ∙ ap in_lock free in
       ⊎_elim
@@ -82,8 +90,10 @@ module _ (X Y : Type 0) (vlist : X → List Listing) (wlist : Y → List Listing
         value_at = home 0 (Value t.1) (ap (λ hs. get_elem? hs 0) r.homes ∙ ap maybe.some t.2);
         state_at = home 1 (Locked q.1) (ap (λ hs. get_elem? hs 1) r.homes ∙ ap maybe.some q.2);
         same = t.3 ∙ sym q.3;
+        value_about = r.value_about t.1 t.2 ∙ sym (k.about some_parts);
+        state_about = r.state_about q.1 q.2 ∙ sym (k.about some_parts);
         seen = subst (IsPrefix v.history) (sym t.3) k.seen;
-        accounts = subst (λ (xs : List Listing). Accounts v xs (wdoubt q.1)) (sym t.3) (all_accounts X Y vlist wlist wdoubt s r id v (wdoubt q.1) at some_parts q.4);
+        accounts = subst (λ (xs : List Listing). Accounts v xs (wdoubt q.1)) (sym t.3) (all_accounts X Y vlist vsubject wlist wdoubt wsubject s r id v (wdoubt q.1) at some_parts q.4);
       })
       (λ (q : (owner_count s.views ≡ 1) × (r.state ≡ maybe.none)). let one = q.0 in absurd (omega arith))
       r.state_is)
@@ -91,7 +101,7 @@ module _ (X Y : Type 0) (vlist : X → List Listing) (wlist : Y → List Listing
       r.value_is
 
   abbrev pub EndsAs : SeatView → Slot X Y → Slot X Y → Type 0
-  EndsAs v a b = (x : X) × (y : Y) × (a ≡ Value x) × (b ≡ Locked y) × (vlist x ≡ wlist y) × IsPrefix v.history (vlist x) × Accounts v (vlist x) (wdoubt y)
+  EndsAs v a b = (x : X) × (y : Y) × (a ≡ Value x) × (b ≡ Locked y) × (vlist x ≡ wlist y) × IsPrefix v.history (vlist x) × Accounts v (vlist x) (wdoubt y) × (vsubject x ≡ v.subject) × (wsubject y ≡ v.subject)
 
   pub ended_as : (v : SeatView) (slots : List (Slot X Y)) (a b : Slot X Y) → Ended v slots → get_elem? slots 0 ≡ maybe.some a → get_elem? slots 1 ≡ maybe.some b → EndsAs v a b
-  ended_as v slots a b e p q = (e.value, e.state, maybe.some-injective a (Value e.value) (sym p ∙ e.value_at), maybe.some-injective b (Locked e.state) (sym q ∙ e.state_at), e.same, e.seen, e.accounts)
+  ended_as v slots a b e p q = (e.value, e.state, maybe.some-injective a (Value e.value) (sym p ∙ e.value_at), maybe.some-injective b (Locked e.state) (sym q ∙ e.state_at), e.same, e.seen, e.accounts, e.value_about, e.state_about)

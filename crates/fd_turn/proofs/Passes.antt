@@ -51,12 +51,12 @@ begins false xs ys p = (prefix_self xs, p)
 pub both_begin : (xs ys : List Listing) → IsPrefix (shorter xs ys) (longer xs ys) → IsPrefix xs (longer xs ys) × IsPrefix ys (longer xs ys)
 both_begin xs ys p = begins (nat_lt (length xs) (length ys)) xs ys p
 
-module _ (X Y : Type 0) (vlist : X → List Listing) (wlist : Y → List Listing) (wdoubt : Y → Option Listing) where
+module _ (X Y : Type 0) (vlist : X → List Listing) (vsubject : X → List ℕ) (wlist : Y → List Listing) (wdoubt : Y → Option Listing) (wsubject : Y → List ℕ) where
   abbrev St : Type 0
   St = State (Slot X Y) SeatView
 
   abbrev Rule : St → Type 0
-  Rule = IsKept vlist wlist wdoubt
+  Rule = IsKept vlist vsubject wlist wdoubt wsubject
 
   pub splits : (id : ℕ) (v : SeatView) → 1 < v.parts → Splits Rule id v (donor_seat v) (recipient_seat v)
   splits id v enough s r at =
@@ -66,7 +66,7 @@ module _ (X Y : Type 0) (vlist : X → List Listing) (wlist : Y → List Listing
       let first : Covers s.views some_vs = covers_set s.views id v l at (λ x c. c) in
       let next : Covers some_vs vs = covers_more some_vs (w ∷ []) in
       let more : Covers s.views vs = λ x d. next x (first x d) in
-      let k' = still_knows r.whole r.opening s.views vs v more k in
+      let k' = still_knows r.whole r.opening r.subject s.views vs v more k in
       let hold : holder_count vs ≡ holder_count s.views =
       (let p = total_snoc (λ (z : SeatView). in_turn z.turn) some_vs w in let q = total_same (λ (z : SeatView). in_turn z.turn) s.views id v l at refl in omega arith) in
       let own : owner_count vs ≡ owner_count s.views =
@@ -75,18 +75,20 @@ module _ (X Y : Type 0) (vlist : X → List Listing) (wlist : Y → List Listing
       let sum = total_set (λ (z : SeatView). z.parts) s.views id v l at in
       let sum' = total_snoc (λ (z : SeatView). z.parts) some_vs w in
       let all = r.parts in
-      let left : Knows r.whole r.opening vs l = record {
+      let left : Knows r.whole r.opening r.subject vs l = record {
         seen = k'.seen;
         heard = k'.heard;
         opened = λ z. k'.opened (omega arith);
+        about = λ z. k'.about (omega arith);
         turn = k'.turn;
         lock = k'.lock;
         spent = λ z. absurd (omega arith);
       } in
-      let right : Knows r.whole r.opening vs w = record {
+      let right : Knows r.whole r.opening r.subject vs w = record {
         seen = k.seen;
         heard = (r.whole, refl);
         opened = λ z. k.opened (omega arith);
+        about = λ z. k.about (omega arith);
         turn = tt;
         lock = tt;
         spent = λ z. absurd (omega arith);
@@ -94,6 +96,7 @@ module _ (X Y : Type 0) (vlist : X → List Listing) (wlist : Y → List Listing
       record {
         whole = r.whole;
         opening = r.opening;
+        subject = r.subject;
         posts = r.posts;
         value = r.value;
         state = r.state;
@@ -101,12 +104,14 @@ module _ (X Y : Type 0) (vlist : X → List Listing) (wlist : Y → List Listing
         homes = r.homes;
         value_is = value_stays vlist r.whole (holder_count s.views) (holder_count vs) r.value hold r.value_is;
         state_is = state_stays wlist wdoubt r.whole s.views vs (owner_count s.views) (owner_count vs) r.state own more r.state_is;
+        value_about = r.value_about;
+        state_about = r.state_about;
         counted = r.counted;
         amounts = (let p = total_snoc (λ (z : SeatView). z.amount) some_vs w in let q = total_same (λ (z : SeatView). z.amount) s.views id v l at refl in omega arith);
         parts = omega arith;
         seats = λ j u e. ⊎_elim
-            (seats_stay (Knows r.whole r.opening vs) s.views id l left (λ i z n h. still_knows r.whole r.opening s.views vs z more (r.seats i z h)) j u)
-            (λ (t : w ≡ u). subst (Knows r.whole r.opening vs) t right)
+            (seats_stay (Knows r.whole r.opening r.subject vs) s.views id l left (λ i z n h. still_knows r.whole r.opening r.subject s.views vs z more (r.seats i z h)) j u)
+            (λ (t : w ≡ u). subst (Knows r.whole r.opening r.subject vs) t right)
             (at_snoc some_vs w u j e);
       }
 
@@ -139,18 +144,20 @@ module _ (X Y : Type 0) (vlist : X → List Listing) (wlist : Y → List Listing
       (let p = total_set (λ (z : SeatView). in_lock z.lock) s.views id v b at in let q = total_set (λ (z : SeatView). in_lock z.lock) mid other w spent_seat late in omega arith) in
       let amount = r.amounts in
       let all = r.parts in
-      let joint : Knows r.whole r.opening vs b = record {
+      let joint : Knows r.whole r.opening r.subject vs b = record {
         seen = pick (λ (xs : List Listing). IsPrefix xs r.whole) (nat_lt (length v.history) (length w.history)) w.history v.history k'.seen k.seen;
         heard = pick (λ (xs : List Listing). IsPrefix xs r.whole) (nat_lt (length v.history) (length w.history)) v.history w.history k.seen k'.seen;
         opened = λ z. k.opened some_parts;
+        about = λ z. k.about some_parts;
         turn = subst (KnowsTurn r.whole v.lock) (sym away) tt;
         lock = subst (KnowsLock r.whole vs b.history) (sym free) tt;
         spent = λ z. absurd (omega arith);
       } in
-      let gone : Knows r.whole r.opening vs spent_seat = record {
+      let gone : Knows r.whole r.opening r.subject vs spent_seat = record {
         seen = (r.whole, refl);
         heard = (r.whole, refl);
         opened = λ z. absurd (omega arith);
+        about = λ z. absurd (omega arith);
         turn = tt;
         lock = tt;
         spent = λ z. record { history = refl; told = refl; amount = refl; doubts = refl; away = refl; free = refl };
@@ -158,6 +165,7 @@ module _ (X Y : Type 0) (vlist : X → List Listing) (wlist : Y → List Listing
       record {
         whole = r.whole;
         opening = r.opening;
+        subject = r.subject;
         posts = r.posts;
         value = r.value;
         state = r.state;
@@ -165,11 +173,13 @@ module _ (X Y : Type 0) (vlist : X → List Listing) (wlist : Y → List Listing
         homes = r.homes;
         value_is = value_stays vlist r.whole (holder_count s.views) (holder_count vs) r.value hold r.value_is;
         state_is = state_stays wlist wdoubt r.whole s.views vs (owner_count s.views) (owner_count vs) r.state own more r.state_is;
+        value_about = r.value_about;
+        state_about = r.state_about;
         counted = r.counted;
         amounts = (let p = total_set (λ (z : SeatView). z.amount) s.views id v b at in let q = total_set (λ (z : SeatView). z.amount) mid other w spent_seat late in omega arith);
         parts = (let p = total_set (λ (z : SeatView). z.parts) s.views id v b at in let q = total_set (λ (z : SeatView). z.parts) mid other w spent_seat late in omega arith);
-        seats = seats_stay (Knows r.whole r.opening vs) mid other spent_seat gone
-            (λ j u _ e. seats_stay (Knows r.whole r.opening vs) s.views id b joint (λ i z _ h. still_knows r.whole r.opening s.views vs z more (r.seats i z h)) j u e);
+        seats = seats_stay (Knows r.whole r.opening r.subject vs) mid other spent_seat gone
+            (λ j u _ e. seats_stay (Knows r.whole r.opening r.subject vs) s.views id b joint (λ i z _ h. still_knows r.whole r.opening r.subject s.views vs z more (r.seats i z h)) j u e);
       }
 
   pub compares : (slots id : ℕ) (m : Me (Slot X Y) SeatView) → Allows Rule slots id m 0 (λ n. n) (compared (step slots 0 0 0 maybe.none) m)
@@ -177,7 +187,7 @@ module _ (X Y : Type 0) (vlist : X → List Listing) (wlist : Y → List Listing
       let v : SeatView = m.0 in let w : SeatView = record v { told = [] } in let vs : List SeatView = set s.views id w in
       let k = r.seats id v at in
       let more : Covers s.views vs = covers_set s.views id v w at (λ l c. c) in
-      let k' = still_knows r.whole r.opening s.views vs v more k in
+      let k' = still_knows r.whole r.opening r.subject s.views vs v more k in
       let hold : holder_count vs ≡ holder_count s.views = total_same (λ (z : SeatView). in_turn z.turn) s.views id v w at refl in
       let own : owner_count vs ≡ owner_count s.views = total_same (λ (z : SeatView). in_lock z.lock) s.views id v w at refl in (
         w,
@@ -186,6 +196,7 @@ module _ (X Y : Type 0) (vlist : X → List Listing) (wlist : Y → List Listing
         subst (λ (ws : List ℕ). Rule record { words = ws; homes = s.homes; views = vs }) (sym (set-get_or s.words 0 0)) record {
           whole = r.whole;
           opening = r.opening;
+          subject = r.subject;
           posts = r.posts;
           value = r.value;
           state = r.state;
@@ -193,13 +204,16 @@ module _ (X Y : Type 0) (vlist : X → List Listing) (wlist : Y → List Listing
           homes = r.homes;
           value_is = value_stays vlist r.whole (holder_count s.views) (holder_count vs) r.value hold r.value_is;
           state_is = state_stays wlist wdoubt r.whole s.views vs (owner_count s.views) (owner_count vs) r.state own more r.state_is;
+          value_about = r.value_about;
+          state_about = r.state_about;
           counted = r.counted;
           amounts = total_same (λ (z : SeatView). z.amount) s.views id v w at refl ∙ r.amounts;
           parts = total_same (λ (z : SeatView). z.parts) s.views id v w at refl ∙ r.parts;
-          seats = seats_set r.whole r.opening s.views id w more record {
+          seats = seats_set r.whole r.opening r.subject s.views id w more record {
             seen = k'.seen;
             heard = (r.whole, refl);
             opened = k'.opened;
+            about = k'.about;
             turn = k'.turn;
             lock = k'.lock;
             spent = λ z. let i = k'.spent z in record { history = i.history; told = refl; amount = i.amount; doubts = i.doubts; away = i.away; free = i.free };

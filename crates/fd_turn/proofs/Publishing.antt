@@ -17,12 +17,7 @@ use Rattle.fd_turn.proofs.Totals.{total_set, total_same, total_one}
 use Rattle.fd_turn.proofs.Prefixes.{prefix_self, prefix_more}
 use Rattle.fd_turn.proofs.Doubts.{Covers, covers_set, covered_by}
 use Rattle.fd_turn.proofs.Seats.{knows_more, seats_stay, others_away, others_free, holders_most, owners_most}
-use Rattle.fd_turn.proofs.Turns.{kept_is, owner_sees}
-
--- the value of a slot, or x
-abbrev slot_value : {X Y : Type 0} → X → Slot X Y → X
-slot_value x (Value z) = z
-slot_value x _ = x
+use Rattle.fd_turn.proofs.Turns.{slot_value, kept_is, owner_sees}
 
 abbrev value_of : {X Y : Type 0} → X → List (ℕ × Slot X Y) → X
 value_of x [] = x
@@ -44,7 +39,7 @@ counted_up opening posts len sum small = omega arith
 owner_more : (whole : List Listing) (views : List SeatView) (d : Option Listing) (t : Lock) → t ≡ Owner d → IsCovered views d → KnowsLock whole views whole t
 owner_more whole views d t is cover = subst (KnowsLock whole views whole) (sym is) (refl, cover)
 
-module _ (X Y : Type 0) (vlist : X → List Listing) (wlist : Y → List Listing) (wdoubt : Y → Option Listing) where
+module _ (X Y : Type 0) (vlist : X → List Listing) (vsubject : X → List ℕ) (wlist : Y → List Listing) (wdoubt : Y → Option Listing) (wsubject : Y → List ℕ) where
   abbrev St : Type 0
   St = State (Slot X Y) SeatView
 
@@ -52,7 +47,7 @@ module _ (X Y : Type 0) (vlist : X → List Listing) (wlist : Y → List Listing
   Seated = Me (Slot X Y) SeatView
 
   abbrev Rule : St → Type 0
-  Rule = IsKept vlist wlist wdoubt
+  Rule = IsKept vlist vsubject wlist wdoubt wsubject
 
   pub publishes : (slots id : ℕ) (m : Seated) (x : X) (kept : List Listing) (d : Option Listing) (e : Listing) → m.0.turn ≡ Holder kept false → m.0.lock ≡ Owner d → 0 < m.0.parts → m.1 ≡ (0, Value x) ∷ rest m.1
       → length m.0.history < 2 ^ 32 → vlist x ≡ m.0.history ++ e ∷ [] → Allows Rule slots id m 1 (λ n. (n + 1) % 2 ^ 64) (published vlist (step slots 1 1 0 maybe.none) m)
@@ -88,6 +83,7 @@ module _ (X Y : Type 0) (vlist : X → List Listing) (wlist : Y → List Listing
         record {
           whole = whole;
           opening = r.opening;
+          subject = r.subject;
           posts = r.posts + 1;
           value = r.value;
           state = r.state;
@@ -95,17 +91,20 @@ module _ (X Y : Type 0) (vlist : X → List Listing) (wlist : Y → List Listing
           homes = r.homes;
           value_is = inr (hold ∙ out.0, out.1);
           state_is = inr (held ∙ out'.0, out'.1);
+          value_about = r.value_about;
+          state_about = r.state_about;
           counted = omega arith;
           amounts = omega arith;
           parts = total_same (λ (z : SeatView). z.parts) s.views id v w at refl ∙ r.parts;
-          seats = seats_stay (Knows whole r.opening vs) s.views id w record {
+          seats = seats_stay (Knows whole r.opening r.subject vs) s.views id w record {
             seen = subst (λ (xs : List Listing). IsPrefix xs whole) (sym is) (prefix_self whole);
             heard = prefix_more v.told r.whole (e ∷ []) k.heard;
             opened = k.opened;
+            about = k.about;
             turn = (own, (e, ap (λ xs. xs ++ e ∷ []) (sym kept_whole)));
             lock = subst (λ (xs : List Listing). KnowsLock whole vs xs v.lock) (sym is) (owner_more whole vs d v.lock owns (covered_by s.views vs d more owner.1));
             spent = λ z. absurd (omega arith);
-          } (λ j u not h. knows_more r.whole (e ∷ []) r.opening s.views vs u
+          } (λ j u not h. knows_more r.whole (e ∷ []) r.opening r.subject s.views vs u
               (others_away s.views id j v u not at h has (holders_most vlist r.whole (holder_count s.views) r.value r.value_is))
               (others_free s.views id j v u not at h own (owners_most wlist wdoubt r.whole s.views (owner_count s.views) r.state r.state_is)) (r.seats j u h));
         },

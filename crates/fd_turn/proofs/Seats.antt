@@ -28,22 +28,24 @@ pub lock_covered : (whole : List Listing) (views views' : List SeatView) (h : Li
 lock_covered whole views views' h more Free k = tt
 lock_covered whole views views' h more (Owner found) k = (k.0, covered_by views views' found more k.1)
 
-pub still_knows : (whole : List Listing) (opening : ℕ) (views views' : List SeatView) (u : SeatView) → Covers views views' → Knows whole opening views u → Knows whole opening views' u
-still_knows whole opening views views' u more k = record {
+pub still_knows : (whole : List Listing) (opening : ℕ) (subject : List ℕ) (views views' : List SeatView) (u : SeatView) → Covers views views' → Knows whole opening subject views u → Knows whole opening subject views' u
+still_knows whole opening subject views views' u more k = record {
   seen = k.seen;
   heard = k.heard;
   opened = k.opened;
+  about = k.about;
   turn = k.turn;
   lock = lock_covered whole views views' u.history more u.lock k.lock;
   spent = k.spent;
 }
 
 -- a pass that is neither holder nor owner, where the whole history grows
-pub knows_more : (whole more : List Listing) (opening : ℕ) (views views' : List SeatView) (u : SeatView) → u.turn ≡ Away → u.lock ≡ Free → Knows whole opening views u → Knows (whole ++ more) opening views' u
-knows_more whole more opening views views' u away free k = record {
+pub knows_more : (whole more : List Listing) (opening : ℕ) (subject : List ℕ) (views views' : List SeatView) (u : SeatView) → u.turn ≡ Away → u.lock ≡ Free → Knows whole opening subject views u → Knows (whole ++ more) opening subject views' u
+knows_more whole more opening subject views views' u away free k = record {
   seen = prefix_more u.history whole more k.seen;
   heard = prefix_more u.told whole more k.heard;
   opened = k.opened;
+  about = k.about;
   turn = subst (KnowsTurn (whole ++ more) u.lock) (sym away) tt;
   lock = subst (KnowsLock (whole ++ more) views' u.history) (sym free) tt;
   spent = k.spent;
@@ -54,10 +56,10 @@ pub seats_stay : (P : SeatView → Type 0) (views : List SeatView) (id : ℕ) (w
 seats_stay P views id w mine others j u e = ⊎_elim (λ (t : (j ≡ id) × (w ≡ u)). subst P t.1 mine) (λ (t : (j ≢ id) × (get_elem? views j ≡ maybe.some u)). others j u t.0 t.1) (at_set views id j w u e)
 
 -- one pass gets a new view, and the whole history stays
-pub seats_set : (whole : List Listing) (opening : ℕ) (views : List SeatView) (id : ℕ) (w : SeatView) → Covers views (set views id w) → Knows whole opening (set views id w) w
-    → ((j : ℕ) (u : SeatView) → get_elem? views j ≡ maybe.some u → Knows whole opening views u)
-    → (j : ℕ) (u : SeatView) → get_elem? (set views id w) j ≡ maybe.some u → Knows whole opening (set views id w) u
-seats_set whole opening views id w more mine all = seats_stay (Knows whole opening (set views id w)) views id w mine (λ j u n e. still_knows whole opening views (set views id w) u more (all j u e))
+pub seats_set : (whole : List Listing) (opening : ℕ) (subject : List ℕ) (views : List SeatView) (id : ℕ) (w : SeatView) → Covers views (set views id w) → Knows whole opening subject (set views id w) w
+    → ((j : ℕ) (u : SeatView) → get_elem? views j ≡ maybe.some u → Knows whole opening subject views u)
+    → (j : ℕ) (u : SeatView) → get_elem? (set views id w) j ≡ maybe.some u → Knows whole opening subject (set views id w) u
+seats_set whole opening subject views id w more mine all = seats_stay (Knows whole opening subject (set views id w)) views id w mine (λ j u n e. still_knows whole opening subject views (set views id w) u more (all j u e))
 
 module _ {X Y : Type 0} where
   pub holders_most : (list : X → List Listing) (whole : List Listing) (n : ℕ) (slot : maybe.Option (Slot X Y)) → ValueIs list whole n slot → n ≤ 1

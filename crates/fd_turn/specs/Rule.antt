@@ -67,11 +67,12 @@ pub record IsSpent (v : SeatView) : Type 0 where
   pub away : v.turn ≡ Away
   pub free : v.lock ≡ Free
 
--- what is true of each seat: its histories begin the whole one, its opening is the board's where it has parts, and it knows its turn, its lock, and nothing where it has no parts
-pub record Knows (whole : List Listing) (opening : ℕ) (views : List SeatView) (v : SeatView) : Type 0 where
+-- what is true of each seat: its histories begin the whole one, its opening and its subject are the board's where it has parts, and it knows its turn, its lock, and nothing where it has no parts
+pub record Knows (whole : List Listing) (opening : ℕ) (subject : List ℕ) (views : List SeatView) (v : SeatView) : Type 0 where
   pub seen : IsPrefix v.history whole
   pub heard : IsPrefix v.told whole
   pub opened : 0 < v.parts → v.opening ≡ opening
+  pub about : 0 < v.parts → v.subject ≡ subject
   pub turn : KnowsTurn whole v.lock v.turn
   pub lock : KnowsLock whole views v.history v.lock
   pub spent : v.parts ≡ 0 → IsSpent v
@@ -85,10 +86,11 @@ module _ {X Y : Type 0} where
   abbrev pub StateIs : (Y → List Listing) → (Y → Option Listing) → List Listing → List SeatView → ℕ → maybe.Option (Slot X Y) → Type 0
   StateIs list doubt whole views owners slot = ((owners ≡ 0) × (y : Y) × (slot ≡ maybe.some (Locked y)) × (list y ≡ whole) × IsCovered views (doubt y)) ⊎ ((owners ≡ 1) × (slot ≡ maybe.none))
 
-  -- the rule: there are a whole history, an opening length and a number of posts, and what the two slots have at home, for which all of this holds
-  pub record IsKept (value_list : X → List Listing) (state_list : Y → List Listing) (doubt : Y → Option Listing) (s : State (Slot X Y) SeatView) : Type 0 where
+  -- the rule: there are a whole history, an opening length, a subject and a number of posts, and what the two slots have at home, for which all of this holds
+  pub record IsKept (value_list : X → List Listing) (value_subject : X → List ℕ) (state_list : Y → List Listing) (doubt : Y → Option Listing) (state_subject : Y → List ℕ) (s : State (Slot X Y) SeatView) : Type 0 where
     pub whole : List Listing
     pub opening : ℕ
+    pub subject : List ℕ
     pub posts : ℕ
     pub value : maybe.Option (Slot X Y)
     pub state : maybe.Option (Slot X Y)
@@ -98,8 +100,11 @@ module _ {X Y : Type 0} where
     -- there is one holder and one owner at most, and each slot is at home exactly where there is none
     pub value_is : ValueIs value_list whole (holder_count s.views) value
     pub state_is : StateIs state_list doubt whole s.views (owner_count s.views) state
+    -- a value at home and a state at home are about the subject
+    pub value_about : (x : X) → value ≡ maybe.some (Value x) → value_subject x ≡ subject
+    pub state_about : (y : Y) → state ≡ maybe.some (Locked y) → state_subject y ≡ subject
     -- the posts are what the whole history has beyond the opening, and the amounts of all seats
     pub counted : opening + posts ≡ length whole
     pub amounts : total (λ v. v.amount) s.views ≡ posts
     pub parts : total (λ v. v.parts) s.views ≡ all_parts
-    pub seats : (i : ℕ) (v : SeatView) → get_elem? s.views i ≡ maybe.some v → Knows whole opening s.views v
+    pub seats : (i : ℕ) (v : SeatView) → get_elem? s.views i ≡ maybe.some v → Knows whole opening subject s.views v

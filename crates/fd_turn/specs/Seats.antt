@@ -1,5 +1,5 @@
 -- What a seat of the table knows: what contracts see of its pass, the turn for the value, and a second history while a join compares two. And what each step makes of it.
-use Rattle.std.specs.Prelude.{◌+◌, ◌-◌, List, [], ◌++◌, length, Option, cond, nat_lt}
+use Rattle.std.specs.Prelude.{ℕ, ◌+◌, ◌-◌, List, [], ◌++◌, length, Option, cond, nat_lt}
 use Rattle.fd_core.specs.declared.batch.Listing.{Listing}
 use Rattle.fd_turn.specs.declared.view.SeatView.{SeatView}
 use Rattle.fd_turn.specs.declared.view.Turn.{Turn}
@@ -9,18 +9,18 @@ use Rattle.fd_turn.specs.Views.{View, all_parts, longer}
 
 -- what contracts see of it
 abbrev pub view_of : SeatView → View
-view_of v = record { history = v.history; parts = v.parts; amount = v.amount; doubts = v.doubts; opening = v.opening; lock = v.lock }
+view_of v = record { history = v.history; parts = v.parts; amount = v.amount; doubts = v.doubts; opening = v.opening; subject = v.subject; lock = v.lock }
 
--- the first seat of a board over this list
-abbrev pub first_seat : List Listing → SeatView
-first_seat xs = record { history = xs; told = []; parts = all_parts; amount = 0; doubts = []; opening = length xs; turn = Away; lock = Free }
+-- the first seat of a board about this subject, over this list
+abbrev pub first_seat : List ℕ → List Listing → SeatView
+first_seat subject xs = record { history = xs; told = []; parts = all_parts; amount = 0; doubts = []; opening = length xs; subject = subject; turn = Away; lock = Free }
 
 -- a split: the seat that has one part fewer, and the seat that gets it
 abbrev pub donor_seat : SeatView → SeatView
 donor_seat v = record v { parts = v.parts - 1 }
 
 abbrev pub recipient_seat : SeatView → SeatView
-recipient_seat v = record { history = v.history; told = []; parts = 1; amount = 0; doubts = []; opening = v.opening; turn = Away; lock = Free }
+recipient_seat v = record { history = v.history; told = []; parts = 1; amount = 0; doubts = []; opening = v.opening; subject = v.subject; turn = Away; lock = Free }
 
 -- the shorter of two lists, and the second where neither is shorter
 abbrev pub shorter : List Listing → List Listing → List Listing
@@ -28,10 +28,10 @@ shorter xs ys = cond (nat_lt (length xs) (length ys)) xs ys
 
 -- a join: the seat that is kept, whose two histories are not compared yet, and the seat that is spent
 abbrev pub merged_seat : SeatView → SeatView → SeatView
-merged_seat v w = record { history = longer v.history w.history; told = shorter v.history w.history; parts = v.parts + w.parts; amount = v.amount + w.amount; doubts = v.doubts ++ w.doubts; opening = v.opening; turn = v.turn; lock = v.lock }
+merged_seat v w = record { history = longer v.history w.history; told = shorter v.history w.history; parts = v.parts + w.parts; amount = v.amount + w.amount; doubts = v.doubts ++ w.doubts; opening = v.opening; subject = v.subject; turn = v.turn; lock = v.lock }
 
 abbrev pub spent_seat : SeatView
-spent_seat = record { history = []; told = []; parts = 0; amount = 0; doubts = []; opening = 0; turn = Away; lock = Free }
+spent_seat = record { history = []; told = []; parts = 0; amount = 0; doubts = []; opening = 0; subject = []; turn = Away; lock = Free }
 
 -- the two histories are compared
 abbrev pub compared_seat : SeatView → SeatView

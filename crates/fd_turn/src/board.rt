@@ -31,7 +31,7 @@ pub struct Board<V: Handed, W: Guarded> {
 /// A caller's place at a board.
 ///
 /// Contracts see what it knows: a history, parts, an amount, doubts, the length of the list that the board began with,
-/// and whether it is the owner. All passes of a board have 2^32 parts together, and each has one at least. A pass that
+/// the board's subject, and whether it is the owner. All passes of a board have 2^32 parts together, and each has one at least. A pass that
 /// is dropped takes its parts with it, and then none has every part any more; a dropped owner leaves the lock taken.
 #[derive(Drop)]
 pub struct Pass<V, W> {
@@ -55,17 +55,19 @@ impl<V: Handed, W: Guarded> Board<V, W> {
     ghost use Rattle.fd_turn.specs.Views.{first_view};
     ghost use Rattle.fd_turn.specs.Passes.{view, identity, IsOf};
 
-    /// A board with this value and this state, and its one pass: it has the value's list as its history, every part,
-    /// the amount 0 and no doubts. Where there is no memory, both come back.
+    /// A board with this value and this state, which are about one subject, and its one pass: it has the value's list as
+    /// its history, the value's subject, every part, the amount 0 and no doubts. Where there is no memory, both come
+    /// back.
     pub fn start(
         alloc: Global,
         first: V,
         state: W,
     ) -> Result<(Board<V, W>, Pass<V, W>), (V, W, NoMemory)>
         requires same { V.list first ≡ W.list state }
+        requires subject { V.subject first ≡ W.subject state }
         requires sure { W.doubt state ≡ None }
         ensures own { IfOk result (λ r. IsOf (identity r.0) r.1) }
-        ensures view { IfOk result (λ r. view r.1 ≡ first_view (V.list first)) }
+        ensures view { IfOk result (λ r. view r.1 ≡ first_view (V.subject first) (V.list first)) }
         ensures back { IfErr result (λ e. (e.0 ≡ first) × (e.1 ≡ state)) }
     {
         let about = Snapshot::of(&first);
@@ -78,7 +80,7 @@ impl<V: Handed, W: Guarded> Board<V, W> {
 
     /// Ends the board, by a pass that has every part, and hands the value and the state back. Both have one list. It
     /// begins with the pass's history, and has as many listings as the board began with and the pass's amount
-    /// together. A listing in doubt of the state is among the pass's doubts.
+    /// together. A listing in doubt of the state is among the pass's doubts. Both are about the pass's subject.
     pub fn close(self, pass: Pass<V, W>) -> (V, W)
         requires own { IsOf (identity self) pass }
         requires free { (view pass).lock ≡ Free }
@@ -87,6 +89,7 @@ impl<V: Handed, W: Guarded> Board<V, W> {
         ensures seen { IsPrefix (view pass).history (V.list result.0) }
         ensures count { length (V.list result.0) ≡ (view pass).opening + (view pass).amount }
         ensures doubt { (l : Listing) → W.doubt result.1 ≡ Some l → Contains (view pass).doubts l }
+        ensures subject { (V.subject result.0 ≡ (view pass).subject) × (W.subject result.1 ≡ (view pass).subject) }
     {
         let Board { table } = self;
         let Pass { seat } = pass;
@@ -110,7 +113,7 @@ fn last_slots<V: Handed, W: Guarded>(
     requires own { seat.table_id ≡ table.shared.table_id }
     requires rests { (seat.me.0.turn ≡ Away) × (seat.me.0.lock ≡ Free) }
     requires all { seat.me.0.parts ≡ all_parts }
-    ensures { (x : V) × (y : W) × (result.0 ≡ Slot.Value x) × (result.1 ≡ Slot.Locked y) × (V.list x ≡ W.list y) × IsPrefix seat.me.0.history (V.list x) × Accounts seat.me.0 (V.list x) (W.doubt y) }
+    ensures { (x : V) × (y : W) × (result.0 ≡ Slot.Value x) × (result.1 ≡ Slot.Locked y) × (V.list x ≡ W.list y) × IsPrefix seat.me.0.history (V.list x) × Accounts seat.me.0 (V.list x) (W.doubt y) × (V.subject x ≡ seat.me.0.subject) × (W.subject y ≡ seat.me.0.subject) }
 {
     let mut closed = table.close_with(seat);
     let value = closed.take(0);

@@ -15,14 +15,15 @@ pub enum Slot<V, W> {
     Empty,
 }
 
-/// The rule over the words, the slots and what all seats know. The first seat knows the list of the first value.
+/// The rule over the words, the slots and what all seats know. The first seat knows the list and the subject of the first
+/// value.
 pub struct BoardRule;
 
 impl<V: Handed, W: Guarded> TableRule<Slot<V, W>, SeatView, Snapshot<V>> for BoardRule {
     ghost use Rattle.fd_turn.specs.Rule.{IsKept};
     ghost use Rattle.fd_turn.specs.Seats.{first_seat};
 
-    ghost holds = { λ _. IsKept V.list W.list W.doubt };
+    ghost holds = { λ _. IsKept V.list V.subject W.list W.doubt W.subject };
 
-    ghost first = { λ key. first_seat (V.list key.value) };
+    ghost first = { λ key. first_seat (V.subject key.value) (V.list key.value) };
 }

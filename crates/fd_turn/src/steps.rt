@@ -10,7 +10,7 @@ pub(crate) struct TakeTurn;
 impl<V: Handed, W> Play<Slot<V, W>, SeatView> for TakeTurn {
     ghost use Rattle.fd_turn.specs.Steps.{took_turn};
 
-    ghost then = { took_turn V.list };
+    ghost then = { took_turn V.list V.subject };
 }
 
 /// The holder's load of word 1, by which it has seen the list of the value.
@@ -46,7 +46,7 @@ pub(crate) struct TakeLock;
 impl<V, W: Guarded> Play<Slot<V, W>, SeatView> for TakeLock {
     ghost use Rattle.fd_turn.specs.Steps.{took_lock};
 
-    ghost then = { took_lock W.list W.doubt };
+    ghost then = { took_lock W.list W.doubt W.subject };
 }
 
 /// The owner's store of 0 in word 2, which gives the state back.

@@ -15,25 +15,32 @@ use std::test::Fail;
 use std::thread;
 use std::thread::Threads;
 
-/// A value: the entries that readers see.
+/// A value: the entries that readers see, and the number of what they are about.
 #[derive(Drop)]
 struct Row {
+    about: u8,
     entries: Vec<Entry>,
 }
 
 impl Handed for Row {
     ghost list = { λ r. all_untold r.entries.items };
 
+    ghost subject = { λ r. r.about ∷ [] };
+
     fn again(&self, alloc: Global) -> Result<Row, NoMemory> {
         let mut entries = Vec::new(alloc);
         entries.extend_from_slice(self.entries.as_slice())?;
-        Ok(Row { entries })
+        Ok(Row {
+            about: self.about,
+            entries,
+        })
     }
 }
 
-/// A state: the entries, and the one in doubt.
+/// A state: the entries, the one in doubt, and the number of what they are about.
 #[derive(Drop)]
 struct Desk {
+    about: u8,
     entries: Vec<Entry>,
     doubt: Option<Entry>,
 }
@@ -42,6 +49,8 @@ impl Guarded for Desk {
     ghost list = { λ d. all_untold d.entries.items };
 
     ghost doubt = { λ d. untold_doubt d.doubt };
+
+    ghost subject = { λ d. d.about ∷ [] };
 }
 
 fn entry(seq: u32) -> Entry
@@ -66,15 +75,17 @@ fn longer(alloc: Global, entries: &Vec<Entry>, entry: Entry) -> Result<Vec<Entry
     Ok(all)
 }
 
-// A board of two empty lists.
+// A board of two empty lists about 29.
 fn empty_board(rt: &impl Abort, alloc: Global) -> (Board<Row, Desk>, Pass<Row, Desk>)
     ensures own { IsOf (identity result.0) result.1 }
-    ensures view { view result.1 ≡ first_view [] }
+    ensures view { view result.1 ≡ first_view (29 ∷ []) [] }
 {
     let first = Row {
+        about: 29,
         entries: Vec::new(alloc),
     };
     let state = Desk {
+        about: 29,
         entries: Vec::new(alloc),
         doubt: None,
     };
@@ -93,6 +104,15 @@ fn has_posted_one(pass: &Pass<Row, Desk>, entry: Entry)
     let _entry = entry;
 }
 
+// Takes a value and a state about 29.
+fn are_about_it(row: &Row, desk: &Desk)
+    requires value { row.now.about ≡ 29 }
+    requires state { desk.now.about ≡ 29 }
+{
+    let _row = row;
+    let _desk = desk;
+}
+
 #[test]
 fn a_post_is_seen_by_a_look_and_at_the_close(rt: HostRuntime) -> Result<(), Fail> {
     let alloc = rt.alloc();
@@ -102,7 +122,11 @@ fn a_post_is_seen_by_a_look_and_at_the_close(rt: HostRuntime) -> Result<(), Fail
     assert!(rt; desk.entries.is_empty() && desk.doubt.is_none());
     let next = longer(alloc, &desk.entries, entry(7))?;
     desk.entries = longer(alloc, &desk.entries, entry(7))?;
-    board.post(&rt, &mut q, Row { entries: next });
+    let next = Row {
+        about: desk.about,
+        entries: next,
+    };
+    board.post(&rt, &mut q, next);
     board.unlock(&mut q, desk);
     let seen = board.look(&rt, alloc, &mut p)?;
     assert_eq!(rt; seen.entries.as_slice(), [entry(7)].as_slice());
@@ -112,6 +136,7 @@ fn a_post_is_seen_by_a_look_and_at_the_close(rt: HostRuntime) -> Result<(), Fail
     assert_eq!(rt; desk.entries.as_slice(), [entry(7)].as_slice());
     board.unlock(&mut p, desk);
     let (row, desk) = board.close(p);
+    are_about_it(&row, &desk);
     assert_eq!(rt; row.entries.as_slice(), [entry(7)].as_slice());
     assert_eq!(rt; desk.entries.as_slice(), [entry(7)].as_slice());
     Ok(())
@@ -155,7 +180,11 @@ fn list_one<R: Wait>(
         return;
     };
     desk.entries = own;
-    board.post(rt, pass, Row { entries: next });
+    let next = Row {
+        about: desk.about,
+        entries: next,
+    };
+    board.post(rt, pass, next);
     board.unlock(pass, desk);
 }
 

@@ -32,6 +32,8 @@ pub struct SeatView {
     pub doubts: LinkedList<Listing>,
     /// The length of the list that the board began with.
     pub opening: u64,
+    /// What the board's values and its state are about, in octets.
+    pub subject: LinkedList<u8>,
     /// Whether it has the turn.
     pub turn: Turn,
     /// Whether it has the lock.

@@ -22,7 +22,7 @@ impl<V: Handed, W: Guarded> Board<V, W> {
         requires own { seat.old.table_id ≡ self.now.table.shared.table_id }
         requires free { (seat.old.me.0.lock ≡ Free) × (0 < seat.old.me.0.parts) }
         ensures own { seat.new.table_id ≡ seat.old.table_id }
-        ensures taken { (y : _) × (seat.new.me ≡ (owner_seat seat.old.me.0 (W.list y) (W.doubt y), (1, Slot.Locked y) ∷ seat.old.me.1)) × IsPrefix seat.old.me.0.history (W.list y) × Accounts seat.old.me.0 (W.list y) (W.doubt y) }
+        ensures taken { (y : _) × (seat.new.me ≡ (owner_seat seat.old.me.0 (W.list y) (W.doubt y), (1, Slot.Locked y) ∷ seat.old.me.1)) × IsPrefix seat.old.me.0.history (W.list y) × Accounts seat.old.me.0 (W.list y) (W.doubt y) × (W.subject y ≡ seat.old.me.0.subject) }
     {
         for _ in rt.forever() {
             if self
@@ -39,7 +39,8 @@ impl<V: Handed, W: Guarded> Board<V, W> {
 
     /// Waits for the lock, hands the state out and makes the pass the owner. The pass's history becomes the state's
     /// list, which its old history begins. Where the pass has every part, its amount is the number of listings after
-    /// those that the board began with, and a listing in doubt of the state is among its doubts.
+    /// those that the board began with, and a listing in doubt of the state is among its doubts. The state is about the
+    /// pass's subject.
     ///
     /// Give each `lock` its `unlock`: until then all others wait.
     pub fn lock<R: Wait>(&self, rt: &R, pass: &mut Pass<V, W>) -> W
@@ -50,6 +51,7 @@ impl<V: Handed, W: Guarded> Board<V, W> {
         ensures seen { IsPrefix (view pass.old).history (W.list result) }
         ensures count { (view pass.old).parts ≡ all_parts → (view pass.old).opening + (view pass.old).amount ≡ length (W.list result) }
         ensures doubt { (view pass.old).parts ≡ all_parts → (l : Listing) → W.doubt result ≡ Some l → Contains (view pass.old).doubts l }
+        ensures subject { W.subject result ≡ (view pass.old).subject }
     {
         self.take_lock(rt, &mut pass.seat);
         let slot = self.table.shared.exchange(&mut pass.seat, 1, Slot::Empty);
@@ -59,13 +61,14 @@ impl<V: Handed, W: Guarded> Board<V, W> {
         state
     }
 
-    /// Gives back a state whose list is the owner's history, and frees the lock. The pass is no owner then. Its doubts
-    /// become none where the state has no listing in doubt, stay where the state has the one that `lock` found, and
-    /// else become the state's alone.
+    /// Gives back a state whose list is the owner's history and which is about the owner's subject, and frees the lock.
+    /// The pass is no owner then. Its doubts become none where the state has no listing in doubt, stay where the state
+    /// has the one that `lock` found, and else become the state's alone.
     pub fn unlock(&self, pass: &mut Pass<V, W>, state: W)
         requires own { IsOf (identity self.now) pass.old }
         requires owner { IsOwner (view pass.old).lock }
         requires whole { W.list state ≡ (view pass.old).history }
+        requires subject { W.subject state ≡ (view pass.old).subject }
         ensures own { IsSame pass.old pass.new }
         ensures view { view pass.new ≡ record (view pass.old) { doubts = (view pass.new).doubts; lock = Free } }
         ensures doubts { Settles (view pass.old).lock (view pass.old).doubts (W.doubt state) (view pass.new).doubts }

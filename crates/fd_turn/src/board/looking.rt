@@ -24,7 +24,7 @@ impl<V: Handed, W: Guarded> Board<V, W> {
         requires own { seat.old.table_id ≡ self.now.table.shared.table_id }
         requires away { (seat.old.me.0.turn ≡ Away) × (0 < seat.old.me.0.parts) }
         ensures own { seat.new.table_id ≡ seat.old.table_id }
-        ensures taken { (x : _) × (seat.new.me ≡ (with_turn seat.old.me.0 (Holder (V.list x) false), (0, Slot.Value x) ∷ seat.old.me.1)) × ((d : Option Listing) → seat.old.me.0.lock ≡ Owner d → V.list x ≡ seat.old.me.0.history) }
+        ensures taken { (x : _) × (seat.new.me ≡ (with_turn seat.old.me.0 (Holder (V.list x) false), (0, Slot.Value x) ∷ seat.old.me.1)) × ((d : Option Listing) → seat.old.me.0.lock ≡ Owner d → V.list x ≡ seat.old.me.0.history) × (V.subject x ≡ seat.old.me.0.subject) }
     {
         for _ in rt.forever() {
             if self
@@ -41,7 +41,7 @@ impl<V: Handed, W: Guarded> Board<V, W> {
 
     /// Waits for the turn, and makes a value that is equal to the board's. Its list is the pass's history then, and the
     /// old history begins it. Where the pass has every part, its amount is the number of listings after those that the
-    /// board began with. After `NoMemory` the pass is as before.
+    /// board began with. The value is about the pass's subject. After `NoMemory` the pass is as before.
     pub fn look<R: Wait>(&self, rt: &R, alloc: Global, pass: &mut Pass<V, W>) -> Result<V, NoMemory>
         requires own { IsOf (identity self.now) pass.old }
         requires free { (view pass.old).lock ≡ Free }
@@ -49,6 +49,7 @@ impl<V: Handed, W: Guarded> Board<V, W> {
         ensures ok { IfOk result (λ x. view pass.new ≡ record (view pass.old) { history = V.list x }) }
         ensures seen { IfOk result (λ x. IsPrefix (view pass.old).history (V.list x)) }
         ensures count { IfOk result (λ x. (view pass.old).parts ≡ all_parts → (view pass.old).opening + (view pass.old).amount ≡ length (V.list x)) }
+        ensures subject { IfOk result (λ x. V.subject x ≡ (view pass.old).subject) }
         ensures err { OnErr result (view pass.new ≡ view pass.old) }
     {
         self.take_turn(rt, &mut pass.seat);
@@ -76,13 +77,14 @@ impl<V: Handed, W: Guarded> Board<V, W> {
     }
 
     /// Waits for the turn, and puts the next value in place of the last one, which is dropped. The pass is the owner,
-    /// its history has fewer than 2^32 listings, and the next value's list is that history and one listing more. That
-    /// list is the pass's history then, and its amount has risen by one.
+    /// its history has fewer than 2^32 listings, and the next value is about its subject, with that history and one
+    /// listing more as its list. That list is the pass's history then, and its amount has risen by one.
     pub fn post<R: Wait>(&self, rt: &R, pass: &mut Pass<V, W>, next: V)
         requires own { IsOf (identity self.now) pass.old }
         requires owner { IsOwner (view pass.old).lock }
         requires room { length (view pass.old).history < 2 ^ 32 }
         requires next { (l : Listing) × (V.list next ≡ (view pass.old).history ++ l ∷ []) }
+        requires subject { V.subject next ≡ (view pass.old).subject }
         ensures own { IsSame pass.old pass.new }
         ensures view { view pass.new ≡ record (view pass.old) { history = V.list next; amount = (view pass.old).amount + 1 } }
     {

@@ -11,7 +11,7 @@ use crate::steps::{Compare, Cut, Merge};
 
 impl<V: Handed, W: Guarded> Board<V, W> {
     /// A pass for another caller. It gets one of this pass's parts, of which there are two at least, and the same
-    /// history. Its amount is 0, and it has no doubts.
+    /// history and subject. Its amount is 0, and it has no doubts.
     pub fn split(&self, pass: &mut Pass<V, W>) -> Pass<V, W>
         requires own { IsOf (identity self.now) pass.old }
         requires free { (view pass.old).lock ≡ Free }
