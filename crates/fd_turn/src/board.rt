@@ -31,8 +31,9 @@ pub struct Board<V: Handed, W: Guarded> {
 /// A caller's place at a board.
 ///
 /// Contracts see what it knows: a history, parts, an amount, doubts, the length of the list that the board began with,
-/// the board's subject, and whether it is the owner. All passes of a board have 2^32 parts together, and each has one at least. A pass that
-/// is dropped takes its parts with it, and then none has every part any more; a dropped owner leaves the lock taken.
+/// the board's subject, and whether it is the owner. All passes of a board have 2^32 parts together, and each has one
+/// at least. A pass that is dropped takes its parts with it, and then none has every part any more; a dropped owner
+/// leaves the lock taken.
 #[derive(Drop)]
 pub struct Pass<V, W> {
     seat: Seat<Slot<V, W>, SeatView>,
