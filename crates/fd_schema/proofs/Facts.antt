@@ -1,10 +1,10 @@
 -- What holds of rules that were read.
-use Rattle.std.proofs.Common.{◌≡◌, ◌<◌, ◌≤◌, ◌+◌, ◌∙◌, ℕ, zero, suc, Bool, true, false, cond, not, List, [], ◌∷◌, ◌++◌, length, take, eqb, ltb, leb, Option, Some, None, Result, Ok, Err, refl, sym, ap, subst, append_assoc, length-append, arith}
+use Rattle.std.proofs.Common.{◌≡◌, ◌<◌, ◌≤◌, ◌+◌, ◌∙◌, ℕ, zero, suc, Bool, true, false, cond, not, List, [], ◌∷◌, ◌++◌, length, take, eqb, ltb, leb, Option, Some, None, Result, Ok, Err, refl, sym, ap, subst, append_assoc, arith}
 use Rattle.std.specs.Prelude.{◌&&◌}
-use Rattle.std.specs.List.{list_all, prefix_len}
-use Rattle.std.proofs.lemmas.Bool.{and_parts, and_from, cond-true, ltb-true, leb-false, not-false}
+use Rattle.std.specs.List.{prefix_len}
+use Rattle.std.proofs.lemmas.Bool.{cond-true, leb-false, not-false}
 use Rattle.std.proofs.lemmas.List.{append-nil}
-use Rattle.fd_key.specs.Names.{is_name, is_name_byte, is_value, is_value_byte}
+use Rattle.fd_key.specs.Names.{is_name, is_name_byte, is_value}
 use Rattle.fd_key.specs.Canonical.{canonical}
 use Rattle.fd_key.proofs.NameLaws.{value_is_ascii}
 use Rattle.fd_key.proofs.Spelled.{spelled_again}

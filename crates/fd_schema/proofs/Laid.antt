@@ -1,15 +1,14 @@
 -- The tokens of printed texts.
-use Rattle.std.proofs.Common.{◌≡◌, ◌<◌, ◌≤◌, ◌+◌, ◌∙◌, ℕ, zero, suc, Bool, true, false, cond, not, List, [], ◌∷◌, ◌++◌, length, take, drop, eqb, ltb, leb, Result, Ok, Err, refl, sym, ap, subst, append_assoc, length-append, arith}
-use Rattle.std.specs.Prelude.{◌&&◌, ◌||◌, codes}
-use Rattle.std.specs.List.{list_all, prefix_len}
+use Rattle.std.proofs.Common.{◌≡◌, ◌<◌, ◌+◌, ◌∙◌, ℕ, Bool, true, false, cond, not, List, [], ◌∷◌, ◌++◌, length, take, drop, eqb, ltb, leb, Result, Ok, refl, sym, ap, append_assoc, length-append, arith}
+use Rattle.std.specs.Prelude.{◌&&◌, ◌||◌}
+use Rattle.std.specs.List.{list_all}
 use Rattle.std.specs.Char.{to_ascii_lowercase}
-use Rattle.std.proofs.lemmas.Bool.{and_parts, and_from, cond-true, cond-false, eqb-true, ltb-true}
+use Rattle.std.proofs.lemmas.Bool.{and_parts, and_from, eqb-true, ltb-true}
 use Rattle.std.proofs.lemmas.Bool.Decides.{nat_tests}
-use Rattle.std.proofs.lemmas.List.{append-nil}
 use Rattle.std.proofs.Math.Seq.{take-append_seam, drop-append_seam}
 use Rattle.fd_key.specs.Names.{is_name, is_name_byte, is_letter, is_value, is_value_byte}
-use Rattle.fd_schema.specs.Tokens.{in_comment, shown, plain, is_blank, is_mark, is_word, word_len, Piece, Part, begins_word, one, glue, tokens, is_one, is_token, onto, parts}
-use Rattle.fd_schema.specs.Grammar.{Fault, ◌>>=◌, each_of, is_bracket}
+use Rattle.fd_schema.specs.Tokens.{in_comment, shown, plain, is_blank, is_word, word_len, Piece, Part, begins_word, one, glue, tokens, is_token, onto, parts}
+use Rattle.fd_schema.specs.Grammar.{Fault, ◌>>=◌, each_of}
 use Rattle.fd_schema.proofs.Words.{words}
 use Rattle.fd_schema.proofs.Facts.{Follow}
 

@@ -1,20 +1,20 @@
 -- A printed schema reads as the same schema.
-use Rattle.std.proofs.Common.{◌≡◌, ◌<◌, ◌≤◌, ◌+◌, ◌∙◌, ℕ, zero, suc, Bool, true, false, cond, not, List, [], ◌∷◌, ◌++◌, length, take, drop, eqb, ltb, leb, Option, Some, None, Result, Ok, Err, refl, sym, ap, subst, append_assoc, length-append, arith}
+use Rattle.std.proofs.Common.{◌≡◌, ◌<◌, ◌≤◌, ◌+◌, ◌∙◌, ℕ, zero, suc, Bool, true, false, cond, not, List, [], ◌∷◌, ◌++◌, length, take, drop, eqb, ltb, leb, Result, Ok, Err, refl, sym, ap, subst, append_assoc, arith}
 use Rattle.std.specs.Prelude.{◌&&◌, ◌||◌, codes, IfOk, String, string_bytes}
 use Rattle.std.specs.declared.alloc.Global.{Global}
-use Rattle.std.specs.List.{list_all, list_any, prefix_len}
-use Rattle.std.proofs.lemmas.Bool.{and_parts, and_from, cond-true, cond-false, lt-ltb, le-ltb, lt-leb, eqb-true, ne_eqb, not_from_false}
+use Rattle.std.specs.List.{list_all, prefix_len}
+use Rattle.std.proofs.lemmas.Bool.{and_parts, and_from, cond-true, cond-false, le-ltb, lt-leb, ne_eqb, not_from_false}
 use Rattle.std.proofs.lemmas.List.{append-nil}
 use Rattle.std.proofs.Math.Seq.{take-append_seam, drop-append_seam, take-length}
-use Rattle.fd_key.specs.Names.{is_name, is_name_byte, is_value, is_value_byte}
+use Rattle.fd_key.specs.Names.{is_name_byte, is_value, is_value_byte}
 use Rattle.fd_schema.specs.declared.rule.Level.{Level}
 use Rattle.fd_schema.specs.declared.rule.Level.TheVariants.{Dataset, Index, Datum}
-use Rattle.fd_schema.specs.Tokens.{plain, is_word, Piece, Part, begins_word, one, tokens, is_token, parts}
-use Rattle.fd_schema.specs.Rules.{Want, Needed, Optional, OneOf, Item, same_level, has_name, Rule}
-use Rattle.fd_schema.specs.Grammar.{Fault, Byte, Name, Twice, TooMany, Depth, wrong, ◌>>=◌, each_of, begins_value, spelled, value_or, value_of, value_in, values_of, name_of, nothing_behind, want_of, item_of, item_in, items_of, is_bracket, bracket_place, inside, behind, front, level_of, opened, is_required, has_required, closed, Wrong, rule_of, rules_of, some_rule, schema_of, IsSchema}
+use Rattle.fd_schema.specs.Tokens.{plain, Piece, begins_word, one, tokens, is_token}
+use Rattle.fd_schema.specs.Rules.{Want, Needed, Optional, OneOf, Item, same_level, Rule}
+use Rattle.fd_schema.specs.Grammar.{Byte, Depth, wrong, ◌>>=◌, begins_value, spelled, value_or, value_of, value_in, name_of, want_of, item_of, item_in, items_of, is_bracket, bracket_place, inside, behind, front, level_of, opened, is_required, has_required, closed, Wrong, rule_of, rules_of, some_rule, schema_of, IsSchema}
 use Rattle.fd_schema.specs.Printed.{values_text, want_text, item_text, level_items_text, rule_text, schema_text}
 use Rattle.fd_schema.proofs.Facts.{Follow, IsValueOf, IsWantOf, IsNew, IsItem, IsRule, AreRules, are_rules}
-use Rattle.fd_schema.proofs.Laid.{are_kept, plain_kept, kept_joined, are_word, IsWord, name_bytes, name_some, name_is_word, value_is_word, piece, word_token, mark_token, blank_token, word_is_no_mark, IsPart, AreParts, Last, More, parts_read, parts_some, Laid, IsSeparator, joined_text, are_clean, clean_joined, PartsOf, PartOf, Lays, joined_laid, joined_kept}
+use Rattle.fd_schema.proofs.Laid.{are_kept, plain_kept, kept_joined, are_word, IsWord, name_bytes, name_some, name_is_word, value_is_word, piece, word_token, mark_token, blank_token, word_is_no_mark, parts_read, parts_some, Laid, IsSeparator, joined_text, are_clean, PartsOf, PartOf, Lays, joined_laid, joined_kept}
 use Rattle.fd_schema.proofs.Turns.{rules_end}
 
 -- ---- values
@@ -341,9 +341,6 @@ rule_reads r before is end ts more k = go
 
     whole : List Piece
     whole = k.first ++ k.open_index ∷ middle
-
-    step : (us : List Piece) → Result (Rule × List Piece) Fault
-    step us = rule_of end us
 
     one_level : level_of Dataset [] end whole ≡ Ok is.dataset
     one_level = level_reads Dataset [] is.dataset end k.first k.open_index middle k.first_is (opening k.open_index k.opens_index)
