@@ -6,3 +6,8 @@ pub mod GivenLaws
 mod Rows
 pub mod ValueLaws
 pub mod PairLaws
+pub mod Again
+pub mod AgainTimes
+pub mod AgainLevels
+pub mod AgainSteps
+pub mod Spelled

@@ -1,4 +1,4 @@
-ghost use Rattle.std.specs.Prelude.{◌≡◌, ◌≤◌, IfOk, OnOk, IsTrue, IfSome, length, string_bytes, option_map};
+ghost use Rattle.std.specs.Prelude.{◌≡◌, ◌≤◌, IfOk, OnOk, IsTrue, IfSome, Some, length, string_bytes, option_map};
 ghost use Rattle.std.specs.Fmt.{decimal};
 ghost use Rattle.fd_key.specs.Numerals.{number_up_to, cut};
 ghost use Rattle.fd_key.specs.Names.{lower, is_name, is_value};
@@ -106,10 +106,11 @@ fn is_text_of(meaning: Meaning, text: &[u8]) -> bool
 }
 
 /// The one spelling of the text as a value of the name; upper-case letters are read as lower-case ones in both.
-/// `BadValue` exactly where the text is no value of the name.
+/// `BadValue` exactly where the text is no value of the name. A spelled value is spelled as itself.
 #[tactic(auto, unfolding(crate::specs::Canonical::canonical))]
 pub fn canonical(alloc: Global, name: &str, text: &str) -> Result<String, ValueFault>
     ensures text { GivesText result (canonical name.now text.now) }
+    ensures again { IfOk result (λ s. canonical name.now (string_bytes s) ≡ Some (string_bytes s)) }
     ensures name { OnOk result (IsTrue (is_name (lower name.now))) }
     ensures value { IfOk result (λ s. IsTrue (is_value (string_bytes s))) }
 {

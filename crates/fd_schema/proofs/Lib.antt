@@ -4,3 +4,6 @@ pub mod Cuts
 pub mod Turns
 pub mod Ascii
 pub mod Whole
+pub mod Facts
+pub mod Laid
+pub mod ReadsBack

@@ -4,7 +4,7 @@
 --   rule   = "[" level "[" level "[" level "]" "]" "]"
 --   level  = item { "," item }
 --   item   = name | name "?" | name "=" value { "/" value }
-use Rattle.std.specs.Prelude.{ℕ, zero, suc, ◌+◌, Bool, false, not, ◌&&◌, ◌||◌, List, [], ◌∷◌, ◌++◌, length, take, drop, nat_lt, nat_le, ◌==◌, if◌then◌else◌, Option, Some, None, Result, Ok, Err}
+use Rattle.std.specs.Prelude.{◌≡◌, ℕ, zero, suc, ◌+◌, Bool, false, not, ◌&&◌, ◌||◌, List, [], ◌∷◌, ◌++◌, length, take, drop, nat_lt, nat_le, ◌==◌, if◌then◌else◌, Option, Some, None, Result, Ok, Err}
 use Rattle.std.specs.List.{list_all, list_any, prefix_len}
 use Rattle.fd_key.specs.Names.{is_name, is_name_byte, is_value_byte}
 use Rattle.fd_key.specs.Canonical.{canonical}
@@ -200,3 +200,7 @@ unfoldable pub schema_of : List ℕ → Result (List Rule) Fault
 schema_of text =
     if nat_lt 65536 (length text) then wrong 0 TooLong
     else (rules_of 256 (record { at = length text; text = [] }) [] (tokens 0 (plain false text)) >>= λ rs. some_rule (length text) rs)
+
+-- some text reads as these rules
+abbrev pub IsSchema : List Rule → Type 0
+IsSchema rules = (text : List ℕ) × (schema_of text ≡ Ok rules)

@@ -1,4 +1,4 @@
-ghost use Rattle.std.specs.Prelude.{◌≡◌, ◌≤◌, ◌+◌, ◌==◌, ℕ, List, [], IfOk, length, take, count_by, slice_index, string_bytes};
+ghost use Rattle.std.specs.Prelude.{◌≡◌, ◌≤◌, ◌+◌, ◌==◌, ℕ, List, [], IfOk, Ok, length, take, count_by, slice_index, string_bytes};
 ghost use Rattle.fd_schema.specs.Rules.{place_from};
 ghost use Rattle.fd_schema.specs.Grammar.{schema_of};
 ghost use Rattle.fd_schema.specs.Seen.{seen_rules};
@@ -29,13 +29,14 @@ pub struct Schema {
 impl Model for Schema {
     ghost use Rattle.std.specs.Prelude.{List, ◌≤◌, length};
     ghost use Rattle.fd_schema.specs.Rules as rules_seen;
+    ghost use Rattle.fd_schema.specs.Grammar.{IsSchema};
     ghost use Rattle.fd_schema.specs.Seen.{seen_rules};
 
     ghost Value = { List rules_seen.Rule };
 
     ghost view = { λ s. seen_rules s.rules.items };
 
-    ghost invariant = { λ s. length s.rules.items ≤ 256 };
+    ghost invariant = { λ s. (length s.rules.items ≤ 256) × IsSchema (seen_rules s.rules.items) };
 }
 
 /// What stands before a place.
@@ -146,9 +147,11 @@ impl Schema {
         place_of(alloc, &self.rules, key)
     }
 
-    /// The text of the schema: each rule on a line, as `[a, b [c=v/w [d, e?]]]`.
+    /// The text of the schema: each rule on a line, as `[a, b [c=v/w [d, e?]]]`. A text that isn't too long for a schema
+    /// reads as the same schema.
     pub fn text(&self, alloc: Global) -> Result<String, NoMemory>
-        ensures { IfOk result (λ s. string_bytes s ≡ schema_text self.now) }
+        ensures text { IfOk result (λ s. string_bytes s ≡ schema_text self.now) }
+        ensures reads_back { IfOk result (λ s. length (string_bytes s) ≤ 65536 → schema_of (string_bytes s) ≡ Ok self.now) }
     {
         text_of(alloc, &self.rules)
     }
