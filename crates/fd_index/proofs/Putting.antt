@@ -174,6 +174,7 @@ put_made old new k key v was is_new items entries ordered was_is len is =
     one_more : (n : ℕ) (held is_new : Bool) → held ≡ not is_new → n + (if held then 0 else 1) ≡ n + (if is_new then 1 else 0)
     one_more n held true h = ap (λ b. n + (if b then 0 else 1)) h
     one_more n held false h = ap (λ b. n + (if b then 0 else 1)) h
+
     not_not : (b : Bool) → b ≡ not (not b)
     not_not true = refl
     not_not false = refl
@@ -223,3 +224,6 @@ sound_with b c p is_new s put fits room keys_same bytes_same left = record {
     few : (is_new : Bool) → length c.places.entries ≡ length b.places.entries + (if is_new then 1 else 0) → is_new ≡ not (is_some (place_of p.key (records_of b.places.entries))) → length c.places.entries ≤ c.keys
     few true count new = omega (arith, count, keys_same, length-map b.places.entries record_of, (new_has_room (held_of b) p.key room new).0)
     few false count new = omega (arith, count, keys_same, s.few)
+
+pub some_records : (es : List (Vec ℕ × (ℕ × ℕ))) → 0 < length es → 0 < length (records_of es)
+some_records es h = omega (arith, h, length-map es record_of)

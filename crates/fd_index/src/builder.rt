@@ -5,6 +5,7 @@ ghost use Rattle.fd_index.specs.Pages.{IsIndex};
 ghost use Rattle.fd_index.specs.Seen.{IsPut};
 
 use crate::fault::{Full, IndexPut};
+use crate::pages::file_of;
 use fd_bytes::NoMemory;
 use std::alloc::Global;
 use std::collections::BTreeMap;
@@ -132,7 +133,6 @@ impl IndexBuilder {
     pub fn bytes(&self, alloc: Global) -> Result<Vec<u8>, NoMemory>
         ensures { IfOk result (λ v. IsIndex self.now.records v.items) }
     {
-        let _ = alloc;
-        Err(NoMemory)
+        file_of(alloc, &self.places)
     }
 }

@@ -5,6 +5,7 @@
 mod builder;
 mod fault;
 mod index;
+mod pages;
 mod stored;
 
 pub use builder::IndexBuilder;
