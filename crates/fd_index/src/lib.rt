@@ -6,6 +6,7 @@ mod builder;
 mod fault;
 mod index;
 mod pages;
+mod reader;
 mod stored;
 
 pub use builder::IndexBuilder;
