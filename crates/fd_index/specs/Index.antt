@@ -27,6 +27,11 @@ abbrev pub PutsPage : Result (List Record × ℕ) ℕ → List Record → Result
 PutsPage reading new (Ok room) = reading ≡ Ok (new, room)
 PutsPage reading new (Err e) = Fails e reading
 
+-- and of one that returns nothing
+abbrev pub PutsAll : Result (List Record) ℕ → List Record → Result (Unit {0}) IndexFault → Type 0
+PutsAll reading new (Ok done) = reading ≡ Ok new
+PutsAll reading new (Err e) = Fails e reading
+
 abbrev pub ReadsAs : Result (List Record) ℕ → Result (List Record) IndexFault → Type 0
 ReadsAs reading result = Gives (λ records. records) reading result
 

@@ -81,10 +81,10 @@ pages_at (suc p) end room before bytes = do
   page ← page_at (end - length (drop 4096 bytes)) room before (take 4096 bytes)
   pages_at p end page.1 page.0 (drop 4096 bytes)
 
--- the sum of the counts of so many pages, by their places alone
+-- the sum of the counts of so many pages
 unfoldable pub counts_of : ℕ → List ℕ → ℕ
 counts_of zero bytes = 0
-counts_of (suc p) bytes = number_2 bytes + counts_of p (drop 4096 bytes)
+counts_of (suc p) bytes = number_2 (take 4096 bytes) + counts_of p (drop 4096 bytes)
 
 -- ---- The file
 

@@ -1,8 +1,8 @@
-ghost use Rattle.std.specs.Prelude.{◌≡◌, ◌+◌, ◌-◌, ◌*◌, ◌<◌, ◌≤◌, ◌^◌, length, take, drop, IfOk};
+ghost use Rattle.std.specs.Prelude.{◌≡◌, ◌==◌, ◌&&◌, nat_lt, ◌+◌, ◌-◌, ◌*◌, ◌<◌, ◌≤◌, ◌^◌, length, take, drop, IfOk};
 ghost use Rattle.std.specs.Int.{w16, w32, w64, from_be_bytes};
 ghost use Rattle.fd_index.specs.StoredRecords.{records_of};
 ghost use Rattle.fd_index.specs.Reading.{counts_of, index_at, is_above, key_len_at, number_2, number_4, number_8, page_at, pages_at, record_at, records_at, record_of, zeros_at};
-ghost use Rattle.fd_index.specs.Index.{Gives, PutsInto, PutsPage};
+ghost use Rattle.fd_index.specs.Index.{Gives, PutsAll, PutsInto, PutsPage};
 ghost use Rattle.fd_index.specs.StoredRecords.{record_of as kept};
 
 use crate::fault::IndexFault;
@@ -145,4 +145,117 @@ fn push_records<'a>(
         };
     }
     Ok(left)
+}
+
+/// Reads a page that ends at this place, behind the records before it; the page before has this room. The room that its
+/// records leave.
+#[tactic(auto, unfolding(crate::specs::Reading::page_at))]
+fn push_page(
+    alloc: Global,
+    records: &mut Vec<Stored>,
+    end: u64,
+    room: usize,
+    page: &[u8],
+) -> Result<usize, IndexFault>
+    requires whole { length page.now ≡ 4096 }
+    requires place { 4096 ≤ end }
+    ensures { PutsPage (page_at end room (records_of records.old.items) page.now) (records_of records.new.items) result }
+{
+    let count = number_2(page);
+    if count == 0 {
+        return Err(IndexFault::BadIndex { at: end - 4096 });
+    }
+    let (_, text) = page.split_at(2);
+    let len = key_len_of(end, text)?;
+    if 18 + len <= room {
+        return Err(IndexFault::BadIndex { at: end - 4094 });
+    }
+    let left = push_records(alloc, records, count, end, text)?;
+    zeros_of(end, left)?;
+    Ok(left.len())
+}
+
+/// Reads so many pages, of which the last ends at this place.
+fn push_pages(
+    alloc: Global,
+    records: &mut Vec<Stored>,
+    count: usize,
+    end: u64,
+    pages: &[u8],
+) -> Result<(), IndexFault>
+    requires whole { length pages.now ≡ 4096 * count }
+    requires place { length pages.now ≤ end }
+    ensures { PutsAll (pages_at count end 0 (records_of records.old.items) pages.now) (records_of records.new.items) result }
+{
+    let mut left = pages;
+    let mut room = 0;
+    for _ in 0..count {
+        let (page, rest) = left.split_at(PAGE);
+        room = match push_page(alloc, records, end - rest.len() as u64, room, page) {
+            Ok(after) => after,
+            Err(fault) => return Err(fault),
+        };
+        left = rest;
+    }
+    Ok(())
+}
+
+/// The sum of the counts of so many pages.
+fn sum_of_counts(count: usize, pages: &[u8]) -> u128
+    requires { length pages.now ≡ 4096 * count }
+    ensures { result ≡ counts_of count pages.now }
+{
+    let mut left = pages;
+    let mut sum = 0;
+    for _ in 0..count {
+        let (page, rest) = left.split_at(PAGE);
+        sum += u128::from(number_2(page));
+        left = rest;
+    }
+    sum
+}
+
+/// Tells that the number of records in the footer is the sum of the pages' counts, and below 2^32.
+fn is_count(number: u64, sum: u128) -> bool
+    ensures { result ≡ (number == sum && nat_lt sum (2 ^ 32)) }
+{
+    u128::from(number) == sum && sum < 1 << 32
+}
+
+/// The records of an index file.
+#[tactic(auto, unfolding(crate::specs::Reading::index_at))]
+pub(crate) fn read_records(alloc: Global, bytes: &[u8]) -> Result<Vec<Stored>, IndexFault>
+    ensures { Gives (λ v. records_of v.items) (index_at bytes.now) result }
+{
+    let len = bytes.len();
+    if len < 24 || (len - 24) % PAGE != 0 {
+        return Err(IndexFault::BadIndex { at: 0 });
+    }
+    let (head, behind) = bytes.split_at(8);
+    if head != b"FDIDX001".as_slice() {
+        return Err(IndexFault::BadIndex { at: 0 });
+    }
+    let (_, mark) = bytes.split_at(len - 4);
+    if mark != b"FEND".as_slice() {
+        return Err(IndexFault::BadIndex {
+            at: (len - 4) as u64,
+        });
+    }
+    let (_, pages) = bytes.split_at(len - 8);
+    let count = (len - 24) / PAGE;
+    if number_4(pages) as usize != count {
+        return Err(IndexFault::BadIndex {
+            at: (len - 8) as u64,
+        });
+    }
+    let (_, number) = bytes.split_at(len - FOOTER);
+    let (body, _) = behind.split_at(len - 24);
+    if !is_count(number_8(number), sum_of_counts(count, body)) {
+        return Err(IndexFault::BadIndex {
+            at: (len - FOOTER) as u64,
+        });
+    }
+    let mut records = Vec::new(alloc);
+    push_pages(alloc, &mut records, count, (len - FOOTER) as u64, body)?;
+    Ok(records)
 }
