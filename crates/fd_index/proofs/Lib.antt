@@ -4,3 +4,4 @@ pub mod Paging
 pub mod ReadTurns
 pub mod PageLaws
 pub mod ReadBack
+pub mod Spelled

@@ -163,10 +163,10 @@ page_is end room n before all page left some len past records zeros =
     ∙ passed (zeros_at end left) tt (done (all, left)) zeros
 
 -- a page's parts
-abbrev zeros_of : List Record → List ℕ
+abbrev pub zeros_of : List Record → List ℕ
 zeros_of p = replicate (room_after p) 0
 
-page_parts : (p : List Record) → page_bytes p ≡ to_be_bytes w16 (length p) ++ (records_bytes p ++ zeros_of p)
+pub page_parts : (p : List Record) → page_bytes p ≡ to_be_bytes w16 (length p) ++ (records_bytes p ++ zeros_of p)
 page_parts p = append_assoc (to_be_bytes w16 (length p)) (records_bytes p) (zeros_of p)
 
 pub length-page : (p : List Record) → length (records_bytes p) ≤ 4094 → length (page_bytes p) ≡ 4096

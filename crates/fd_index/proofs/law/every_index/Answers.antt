@@ -1,4 +1,4 @@
-use Rattle.fd_index.proofs.ReadBack.{read_record}
+use Rattle.fd_index.proofs.Spelled.{pages_say}
 use Rattle.fd_index.proofs.PageLaws.{stand_on_their_pages}
 use Rattle.fd_index.proofs.law.every_index.Goals as goal
 
