@@ -163,6 +163,7 @@ octets_back front back bytes is o = record { each = λ i. subst (λ x. x < 256) 
   where
     dropped : drop (length front) bytes ≡ back
     dropped = ap (drop (length front)) is ∙ drop_at front back (length front) refl
+
     behind : (i : ℕ) → get_or bytes (length front + i) 0 ≡ get_or back i 0
     behind i = sym (get_or-drop (length front) bytes i 0) ∙ ap (λ (t : List ℕ). get_or t i 0) dropped
 
@@ -446,11 +447,11 @@ spelled rs bytes o h =
     let ps = all.ps in
     let pages_are : pages_of rs ≡ ps = ap pages_of all.all_is ∙ only ps all.good in
     let counted : counts_of (pages_in bytes) (body_of bytes) ≡ length rs =
-        (λ i. counts_of (sym all.count i) (all.bytes_is i)) ∙ read_counts ps 0 all.good ∙ ap (length {A = Record}) (sym all.all_is) in
+    (λ i. counts_of (sym all.count i) (all.bytes_is i)) ∙ read_counts ps 0 all.good ∙ ap (length {A = Record}) (sym all.all_is) in
     let number : to_be_bytes w64 (length rs) ≡ take 8 (drop (n - 16) bytes) =
-        spelled_8 (drop (n - 16) bytes) (length rs) (octets_drop (n - 16) bytes o) (omega (arith, length-drop (n - 16) bytes, long)) (sym counted ∙ sym s.number) in
+    spelled_8 (drop (n - 16) bytes) (length rs) (octets_drop (n - 16) bytes o) (omega (arith, length-drop (n - 16) bytes, long)) (sym counted ∙ sym s.number) in
     let pages : to_be_bytes w32 (length (pages_of rs)) ≡ take 4 (drop (n - 8) bytes) =
-        spelled_4 (drop (n - 8) bytes) (length (pages_of rs)) (octets_drop (n - 8) bytes o) (omega (arith, length-drop (n - 8) bytes, long)) (ap (length {A = List Record}) pages_are ∙ all.count ∙ sym s.pages) in
+    spelled_4 (drop (n - 8) bytes) (length (pages_of rs)) (octets_drop (n - 8) bytes o) (omega (arith, length-drop (n - 8) bytes, long)) (ap (length {A = List Record}) pages_are ∙ all.count ∙ sym s.pages) in
     let body : body_of bytes ≡ pages_bytes (pages_of rs) = all.bytes_is ∙ ap pages_bytes (sym pages_are) in
     record {
       rising = subst Rising (sym all.all_is) (rising_from_follow [] (joined ps) no_record_rises all.follow);
