@@ -1,369 +1,183 @@
-// A file in memory. It keeps its calls.
-ghost use Rattle.std.specs.Prelude.{◌≡◌, ◌+◌, ◌-◌, ◌^◌, ◌<◌, ◌≤◌, ◌++◌, [], ◌∷◌, Bool, true, false, List, ℕ, Option, Some, None, length, IfOk, OnOk, OnErr, take, replicate, min};
-ghost use Rattle.fd_bytes.specs.Causes.{Rose};
-ghost use Rattle.fd_disk.specs.Images.{overwritten};
-ghost use Rattle.fd_disk_mem.specs.Calls.{file_after};
-ghost use Rattle.fd_disk_mem.specs.declared.disk.Call.{Call};
+// A file in memory that is written.
+ghost use Rattle.std.specs.Prelude.{◌≡◌, ◌≤◌, ◌<◌, ◌+◌, ◌-◌, ◌^◌, ◌*◌, [], Bool, true, false, ℕ, Some, length, min, max, OnOk, OnErr, IfOk, option_map};
+ghost use Rattle.fd_bytes.specs.Causes.{Rose, HasCause};
+ghost use Rattle.fd_disk.specs.Images.{IsAfterFailedWrite, loosened, written};
+ghost use Rattle.fd_disk.specs.Moments.{Elapses};
+ghost use Rattle.fd_disk.specs.Folders.{WhereTold};
+ghost use Rattle.fd_disk_mem.specs.Calls.{Memory, begun, file_of, fits, synced_by, extent_by};
+ghost use Rattle.fd_disk_mem.specs.Past.{LeftSince};
+ghost use Rattle.fd_disk_mem.specs.Left.{IsLeft};
 
-use crate::plan::{Op, Plan, Room};
+use crate::plan::{Op, Plan};
+use crate::recorded::{Recorded, Room};
 use crate::sealed::{MemSealed, copied};
-use fd_bytes::{Bytes, NoMemory};
-use fd_disk::{Disk, FileName, Range};
+use fd_disk::{Disk, FileName};
 use std::alloc::{AllocError, Global};
-use std::marker::Model;
 
-/// A planned fault, or a call beyond the room.
-#[derive(Drop)]
+/// A fault that was planned, a call beyond the room of a file or of its record, or a call behind the fuse.
+#[derive(Debug, Drop)]
 pub struct MemFault {
+    /// How many faults the object that answered it had met, this one counted.
     number: u64,
 }
 
-#[derive(Drop)]
-pub enum Call {
-    Began { bytes: Bytes },
-    Wrote { at: u64, bytes: Bytes },
-    Failed { at: u64, len: u64 },
-    Synced,
-}
-
+/// A file in memory. It keeps its calls, so that it can tell what a crash at any moment might have left.
 #[derive(Drop)]
 pub struct MemDisk {
-    alloc: Global,
     name: Vec<u8>,
     made: Option<FileName>,
-    firm: Vec<u8>,
-    reads: Vec<u8>,
-    loose: Vec<Range>,
-    calls: Vec<Call>,
+    file: Recorded,
     faults: u64,
     plan: Plan,
-    room: Room,
-}
-
-impl Model for MemDisk {
-    ghost use Rattle.std.specs.Prelude.{◌≡◌};
-    ghost use Rattle.fd_disk_mem.specs.Calls.{Memory, file_after};
-
-    ghost Value = { Memory };
-
-    ghost view = { λ a. record { name = a.name.items; made = a.made; calls = a.calls.items; faults = a.faults } };
-
-    ghost invariant = { λ a. file_after a.calls.items ≡ record { firm = a.firm.items; reads = a.reads.items; loose = a.loose.items } };
 }
 
 impl MemDisk {
-    /// An empty file.
-    pub fn new(
+    /// An empty file, for which all its room is reserved.
+    pub(crate) fn empty(
         alloc: Global,
         name: Vec<u8>,
         made: Option<FileName>,
         plan: Plan,
         room: Room,
-    ) -> MemDisk
-        ensures { result ≡ record { name = name.items; made = made; calls = []; faults = 0 } }
+    ) -> Result<MemDisk, AllocError>
+        ensures name { IfOk result (λ d. d.name.items ≡ name.items) }
+        ensures made { IfOk result (λ d. d.made ≡ made) }
+        ensures file { IfOk result (λ d. d.file ≡ record { start = []; calls = []; size = room.size; most_calls = room.calls; most_bytes = min (2 * room.size) (2 ^ 64 - 1) }) }
     {
-        MemDisk {
-            alloc,
+        Ok(MemDisk {
             name,
             made,
-            firm: Vec::new(alloc),
-            reads: Vec::new(alloc),
-            loose: Vec::new(alloc),
-            calls: Vec::new(alloc),
+            file: Recorded::empty(alloc, room)?,
             faults: 0,
             plan,
-            room,
-        }
+        })
     }
 
-    /// A firm file of these bytes.
-    pub fn begun(
-        alloc: Global,
-        name: Vec<u8>,
-        bytes: &[u8],
-        plan: Plan,
-        room: Room,
-    ) -> Result<MemDisk, NoMemory>
-        ensures { IfOk result (λ d. d ≡ record { name = name.items; made = None; calls = Call.Began bytes.now ∷ []; faults = 0 }) }
+    /// How many bytes it may have.
+    pub(crate) fn size(&self) -> usize
+        ensures { result ≡ self.now.file.size }
     {
-        let (Ok(firm), Ok(reads), Ok(call)) = (
-            bytes.to_vec(alloc),
-            bytes.to_vec(alloc),
-            began(alloc, bytes),
-        ) else {
-            return Err(NoMemory);
-        };
-        Ok(MemDisk {
-            alloc,
-            name,
-            made: None,
-            firm,
-            reads,
-            loose: Vec::new(alloc),
-            calls: call,
-            faults: 0,
-            plan,
-            room,
-        })
+        self.file.size()
+    }
+
+    /// Begins with these bytes, which are firm.
+    pub(crate) fn begin(&mut self, bytes: &[u8])
+        requires { length bytes.now ≤ self.old.file.size }
+        ensures file { self.new.file ≡ begun self.old.file bytes.now }
+        ensures name { self.new.name ≡ self.old.name }
+    {
+        self.file.begin(bytes);
+    }
+
+    /// Counts the creation of the file, and says whether it is to fail.
+    pub(crate) fn fails_to_begin(&mut self) -> bool
+        ensures same { (self.new.file ≡ self.old.file) × ((self.new.name ≡ self.old.name) × (self.new.made ≡ self.old.made)) }
+    {
+        self.plan.meets(Op::Create)
     }
 
     /// The file as it is handed out under a dataset's name.
     pub(crate) fn opened(self, name: Vec<u8>, plan: Plan) -> MemDisk
-        ensures { result ≡ record self { name = name.items } }
+        ensures file { result.file ≡ self.file }
+        ensures name { result.name ≡ name }
     {
         let MemDisk {
-            alloc,
             name: _,
             made,
-            firm,
-            reads,
-            loose,
-            calls,
+            file,
             faults,
             plan: _,
-            room,
         } = self;
         MemDisk {
-            alloc,
             name,
             made,
-            firm,
-            reads,
-            loose,
-            calls,
+            file,
             faults,
             plan,
-            room,
         }
     }
 
-    /// What a read gives.
-    pub fn bytes(&self) -> &[u8]
-        ensures { result.now ≡ (file_after self.now.calls).reads }
+    /// A crash: the file is firm with what is left of it.
+    pub(crate) fn crash(&mut self, choice: u64)
+        ensures left { IsLeft choice (file_of self.old.file) self.new.file.start }
+        ensures begun { self.new.file ≡ begun self.old.file self.new.file.start }
     {
-        &self.reads
+        self.file.crash(choice);
     }
 }
 
 impl Disk<MemFault> for MemDisk {
-    ghost use Rattle.fd_disk_mem.specs.Calls.{file_after, synced_by, extent_by};
+    ghost use Rattle.fd_disk_mem.specs.Calls.{file_of, synced_by, extent_by};
     ghost use Rattle.fd_disk_mem.specs.Past.{LeftSince, now_counts, only_now, reads_told, firm_told};
     ghost use Rattle.std.specs.Prelude.{ℕ, Option, Some, length, false};
 
     type Sealed = MemSealed;
 
-    ghost file = { λ m. Some (file_after m.calls) };
+    ghost file = { λ d. Some (file_of d.file) };
 
-    ghost is_synced = { λ m. synced_by false m.calls };
+    ghost is_synced = { λ d. synced_by false d.file.calls };
 
-    ghost extent = { λ m. extent_by 0 m.calls };
+    ghost extent = { λ d. extent_by 0 d.file.calls };
 
-    ghost moment = { λ m. length m.calls };
+    ghost moment = { λ d. length d.file.calls };
 
-    ghost left_since = { λ m t c. LeftSince m.calls t c };
+    ghost left_since = { λ d t c. LeftSince d.file t c };
 
-    ghost faults = { λ m. m.faults };
+    ghost faults = { λ d. d.faults };
 
-    ghost name = { λ m. m.name };
+    ghost name = { λ d. d.name.items };
 
-    ghost made = { λ m. m.made };
+    ghost made = { λ d. d.made };
 
-    ghost counts_now = { λ m t c le image. now_counts m.calls t c le image };
+    ghost counts_now = { λ d t c le image. now_counts d.file t c le image };
 
-    ghost only_now = { λ m c left. only_now m.calls c left };
+    ghost only_now = { λ d c left. only_now d.file c left };
 
-    ghost reads_image = { λ m f is. reads_told m.calls f is };
+    ghost reads_image = { λ d f is. reads_told d.file f is };
 
-    ghost synced_firm = { λ m f is synced. firm_told m.calls f is synced };
+    ghost synced_firm = { λ d f is synced. firm_told d.file f is synced };
 
     fn read_at(&mut self, at: u64, into: &mut [u8]) -> Result<usize, MemFault> {
         if self.plan.meets(Op::Read) {
             return Err(counted(&mut self.faults));
         }
-        Ok(copied(&self.reads, at, into))
+        Ok(copied(self.file.reads(), at, into))
     }
 
     fn write_at(&mut self, at: u64, bytes: &[u8]) -> Result<(), MemFault> {
-        let Ok(write) = prepared(
-            self.alloc,
-            &mut self.plan,
-            self.room,
-            &self.reads,
-            at,
-            bytes,
-        ) else {
+        let is_to_fail = self.plan.meets(Op::Write);
+        if !self.file.fits(at, bytes.len()) {
             return Err(counted(&mut self.faults));
-        };
-        let Ok(()) = recorded(
-            self.room,
-            &mut self.loose,
-            &mut self.calls,
-            write.call,
-            write.range,
-        ) else {
+        }
+        if is_to_fail {
+            self.file.fail_write(at, bytes.len() as u64);
             return Err(counted(&mut self.faults));
-        };
-        self.reads = write.reads;
+        }
+        self.file.write(at, bytes);
         Ok(())
     }
 
     fn sync(&mut self) -> Result<(), MemFault> {
-        let Ok(firm) = made_firm(
-            self.alloc,
-            &mut self.plan,
-            self.room,
-            &self.reads,
-            self.calls.len(),
-        ) else {
+        if self.plan.meets(Op::Sync) || !self.file.has_room() {
             return Err(counted(&mut self.faults));
-        };
-        let Ok(()) = self.calls.push(Call::Synced) else {
-            return Err(counted(&mut self.faults));
-        };
-        self.firm = firm;
-        self.loose.clear();
+        }
+        self.file.sync();
         Ok(())
     }
 
     fn seal(self) -> MemSealed {
         let MemDisk {
-            alloc: _,
             name,
             made,
-            firm: _,
-            reads,
-            loose: _,
-            calls: _,
+            file,
             faults: _,
             plan,
-            room: _,
         } = self;
-        MemSealed {
-            name,
-            made,
-            bytes: reads,
-            plan,
-        }
+        MemSealed::new(name, made, file.into_vec(), plan)
     }
 }
 
-#[derive(Drop)]
-struct Write {
-    reads: Vec<u8>,
-    call: Call,
-    range: Range,
-}
-
-fn prepared(
-    alloc: Global,
-    plan: &mut Plan,
-    room: Room,
-    reads: &[u8],
-    at: u64,
-    bytes: &[u8],
-) -> Result<Write, AllocError>
-    requires { at + length bytes.now < 2 ^ 63 }
-    ensures reads { IfOk result (λ w. w.reads.items ≡ overwritten reads.now at bytes.now) }
-    ensures call { IfOk result (λ w. w.call ≡ Call.Wrote at bytes.now) }
-    ensures range { IfOk result (λ w. w.range ≡ record { at = at; len = length bytes.now }) }
-{
-    if plan.meets(Op::Write) || at + bytes.len() as u64 > room.size {
-        return Err(AllocError);
-    }
-    let reads = overwritten_copy(alloc, reads, at as usize, bytes)?;
-    let Ok(kept) = Bytes::from_slice(alloc, bytes) else {
-        return Err(AllocError);
-    };
-    Ok(Write {
-        reads,
-        call: Call::Wrote { at, bytes: kept },
-        range: Range {
-            at,
-            len: bytes.len() as u64,
-        },
-    })
-}
-
-// The bytes that a sync makes firm.
-fn made_firm(
-    alloc: Global,
-    plan: &mut Plan,
-    room: Room,
-    reads: &[u8],
-    calls: usize,
-) -> Result<Vec<u8>, AllocError>
-    ensures { IfOk result (λ v. v.items ≡ reads.now) }
-{
-    if plan.meets(Op::Sync) || calls >= room.calls as usize {
-        return Err(AllocError);
-    }
-    reads.to_vec(alloc)
-}
-
-// The bytes with others written over them.
-fn overwritten_copy(
-    alloc: Global,
-    old: &[u8],
-    at: usize,
-    bytes: &[u8],
-) -> Result<Vec<u8>, AllocError>
-    requires { at + length bytes.now < 2 ^ 63 }
-    ensures { IfOk result (λ v. v.items ≡ overwritten old.now at bytes.now) }
-{
-    let mut v = front(alloc, old, at)?;
-    v.extend_from_slice(bytes)?;
-    let end = at + bytes.len();
-    if end < old.len() {
-        v.extend_from_slice(&old[end..])?;
-    }
-    Ok(v)
-}
-
-// The bytes before a place, and zeros up to it.
-fn front(alloc: Global, old: &[u8], at: usize) -> Result<Vec<u8>, AllocError>
-    ensures { IfOk result (λ v. v.items ≡ take at old.now ++ replicate (at - length old.now) 0) }
-{
-    if at <= old.len() {
-        old[..at].to_vec(alloc)
-    } else {
-        let mut v = old.to_vec(alloc)?;
-        v.resize(at, 0)?;
-        Ok(v)
-    }
-}
-
-// Both lists gain their item, or neither.
-fn recorded(
-    room: Room,
-    loose: &mut Vec<Range>,
-    calls: &mut Vec<Call>,
-    call: Call,
-    range: Range,
-) -> Result<(), AllocError>
-    ensures ok { OnOk result ((loose.new.items ≡ range ∷ loose.old.items) × (calls.new.items ≡ calls.old.items ++ call ∷ [])) }
-    ensures err { OnErr result ((loose.new.items ≡ loose.old.items) × (calls.new.items ≡ calls.old.items)) }
-{
-    if calls.len() >= room.calls as usize {
-        return Err(AllocError);
-    }
-    loose.reserve(1)?;
-    calls.push(call)?;
-    loose.insert(0, range)?;
-    Ok(())
-}
-
-// The record of a file that began with these bytes.
-fn began(alloc: Global, bytes: &[u8]) -> Result<Vec<Call>, AllocError>
-    ensures { IfOk result (λ v. v.items ≡ Call.Began bytes.now ∷ []) }
-{
-    let Ok(bytes) = Bytes::from_slice(alloc, bytes) else {
-        return Err(AllocError);
-    };
-    let mut v = Vec::new(alloc);
-    v.push(Call::Began { bytes })?;
-    Ok(v)
-}
-
+/// Counts a fault.
 pub(crate) fn counted(faults: &mut u64) -> MemFault
     ensures count { Rose faults.old faults.new }
     ensures later { faults.old ≤ faults.new }

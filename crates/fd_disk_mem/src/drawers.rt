@@ -8,14 +8,14 @@ use std::alloc::AllocError;
 
 /// A file that a shelf created, with its bytes where the shelf kept it.
 #[derive(Drop)]
-pub struct Kept {
-    pub name: FileName,
-    pub bytes: Option<Vec<u8>>,
+pub(crate) struct Kept {
+    pub(crate) name: FileName,
+    pub(crate) bytes: Option<Vec<u8>>,
 }
 
-/// What each shelf kept.
+/// What each shelf kept, the last that was put back first.
 #[derive(Drop)]
-pub enum Drawers {
+pub(crate) enum Drawers {
     Empty,
     More(Vec<Kept>, Box<Drawers>),
 }

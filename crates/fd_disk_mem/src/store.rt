@@ -1,37 +1,48 @@
 // A store in memory.
 ghost use Rattle.std.specs.Prelude.{◌≡◌, IfOk, None, Some};
+ghost use Rattle.fd_disk.specs.Folders.{Holdings, IsStoreImage, WhereTold};
+ghost use Rattle.fd_disk_mem.specs.Crashes.{IsCrashed, folders_left};
 
 use crate::disk::counted;
+use crate::fuse::Fuse;
 use crate::names::sorted_names;
-use crate::plan::{Op, Plan, Plans, Room};
-use crate::slots::{opened, take_slot};
-use crate::{MemFault, MemFolder, Slot, Slots, Stored};
+use crate::plan::{Op, Plan, Plans};
+use crate::recorded::Room;
+use crate::slots::{Slot, Slots, Stored, crash_all, opened, take_slot};
+use crate::{MemFault, MemFolder};
 use fd_bytes::NoMemory;
 use fd_disk::{Down, Store};
-use std::alloc::Global;
+use std::alloc::{AllocError, Global};
 use std::mem;
 
+/// A store in memory. It tells everything, has one root, and can be made to fail and to crash.
 #[derive(Drop)]
 pub struct MemStore {
     schema: Option<Vec<u8>>,
     slots: Slots,
     faults: u64,
+    /// The calls of the schema that are to fail.
     plan: Plan,
     plans: Plans,
+    fuse: Fuse,
     room: Room,
 }
 
 impl MemStore {
-    /// An empty store, each of whose files may have so many bytes, and see so many writes and syncs.
+    /// An empty store. Each file may have `file_size` bytes and see `calls` writes and syncs, whose bytes together are at
+    /// most twice as many; memory for all of them is taken when the file is made, and none later. A call beyond is a fault
+    /// that changes nothing.
     pub fn new(alloc: Global, file_size: u64, calls: u32) -> Result<MemStore, NoMemory>
         ensures empty { IfOk result (λ s. ⟦<MemStore as Store<MemFault>>⟧.has s ≡ Some (record { schema = None; folders = λ name. None })) }
     {
+        let fuse = Fuse::new(alloc)?;
         Ok(MemStore {
             schema: None,
             slots: Slots::Empty,
             faults: 0,
-            plan: Plan::new(alloc),
-            plans: Plans::new(alloc),
+            plan: Plan::new(alloc, fuse.shared()?),
+            plans: Plans::new(alloc, fuse.shared()?),
+            fuse,
             room: Room {
                 size: file_size,
                 calls,
@@ -39,20 +50,44 @@ impl MemStore {
         })
     }
 
-    /// Has the call of this number fail, counted from the file's opening.
+    /// Plans a fault: of the calls of this kind on the file, counted from its opening, the one of this number fails, from 1.
+    /// A file's name is `schema`, `DATASET/toc`, `DATASET/W-Q.fields` or `DATASET/W-Q.index`, with the numbers of the
+    /// writer and of its batch. It is asked for before the folder is handed out.
     pub fn fail(&mut self, alloc: Global, file: &str, op: Op, nth: u32) -> Result<(), NoMemory>
         ensures has { ⟦<MemStore as Store<MemFault>>⟧.has self.new ≡ ⟦<MemStore as Store<MemFault>>⟧.has self.old }
         ensures faults { ⟦<MemStore as Store<MemFault>>⟧.faults self.new ≡ ⟦<MemStore as Store<MemFault>>⟧.faults self.old }
     {
-        let added = if file == "schema" {
-            self.plan.add(op, nth)
+        if file == "schema" {
+            self.plan.add(op, nth)?;
         } else {
-            self.plans.add(alloc, file, op, nth)
-        };
-        match added {
-            Ok(()) => Ok(()),
-            Err(_) => Err(NoMemory),
+            self.plans.add(alloc, file, op, nth)?;
         }
+        Ok(())
+    }
+
+    /// Lets so many calls pass from now on, and fails all later ones. All objects that the store has handed out and hands
+    /// out count together: their reads, writes and syncs, and the making of files. With 2^64 - 1 every call passes.
+    pub fn fuse(&mut self, calls: u64)
+        ensures has { ⟦<MemStore as Store<MemFault>>⟧.has self.new ≡ ⟦<MemStore as Store<MemFault>>⟧.has self.old }
+        ensures faults { ⟦<MemStore as Store<MemFault>>⟧.faults self.new ≡ ⟦<MemStore as Store<MemFault>>⟧.faults self.old }
+    {
+        self.fuse.set(calls);
+    }
+
+    /// A crash, and what it leaves: each table is firm with one of its images, and all else is as it was. Loose bytes are
+    /// what they were (0), what a read gives (1), all 0x4F (2), all 0 (3), or computed from the number. Folders that are
+    /// out are no part of it. No call is planned to fail any more, and no fuse is set.
+    pub fn crash(self, alloc: Global, choice: u64) -> Result<MemStore, (MemStore, NoMemory)>
+        ensures image { IfOk result (λ s. WhereTold (⟦<MemStore as Store<MemFault>>⟧.has self) (⟦<MemStore as Store<MemFault>>⟧.has s) (λ before after. IsStoreImage before after.schema (folders_left after))) }
+        ensures left { IfOk result (λ s. WhereTold (⟦<MemStore as Store<MemFault>>⟧.has self) (⟦<MemStore as Store<MemFault>>⟧.has s) (IsCrashed choice)) }
+    {
+        let _ = alloc;
+        let mut store = self;
+        crash_all(&mut store.slots, choice);
+        store.plan.clear();
+        store.plans.clear();
+        store.fuse.set(u64::MAX);
+        Ok(store)
     }
 }
 
@@ -91,7 +126,7 @@ impl Store<MemFault> for MemStore {
         let Ok(text) = text.to_vec(alloc) else {
             return Err(Down::NoMemory);
         };
-        if self.plan.meets(Op::Create) {
+        if self.plan.meets(Op::Create) || text.len() as u64 > self.room.size {
             return Err(Down::Fault(counted(&mut self.faults)));
         }
         self.schema = Some(text);
@@ -106,14 +141,12 @@ impl Store<MemFault> for MemStore {
     }
 
     fn folder(&mut self, alloc: Global, name: &str) -> Result<MemFolder, Down<MemFault>> {
-        let Ok(text) = String::from_str(alloc, name) else {
-            return Err(Down::NoMemory);
-        };
-        let Ok(place) = Box::new(alloc, Slots::Empty) else {
-            return Err(Down::NoMemory);
-        };
-        let (Ok(plan), Ok(plans)) = (self.plans.of_table(alloc, name), self.plans.again(alloc))
-        else {
+        let (Ok(text), Ok(place), Ok(plan), Ok(plans)) = (
+            String::from_str(alloc, name),
+            Box::new(alloc, Slots::Empty),
+            self.plans.of_table(alloc, name),
+            self.plans.again(alloc),
+        ) else {
             return Err(Down::NoMemory);
         };
         let stored = take_slot(&mut self.slots, name);
