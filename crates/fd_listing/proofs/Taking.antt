@@ -52,14 +52,29 @@ pub no_line : (number : ℕ) (decimals : Option ℕ) (point : ℕ) → lines_fro
 unfolding lines_from
 no_line number decimals point = refl
 
-pub point_taken : (a b c : Option (List ℕ)) (text : List ℕ) (number : ℕ) (decimals : Option ℕ) (point : ℕ) (value : Option Scaled) (values all : List (Option Scaled)) → all ≡ value ∷ values → TakesAllBut a b text (lines_from number decimals point all) → Takes b c (value_line number point (value_text decimals value)) → TakesAllBut a c text (lines_from number decimals (point + 1) values)
-point_taken a b c text number decimals point value values all is so_far took =
-    one_more a b c text _ _ (subst (λ (r : List ℕ). TakesAllBut a b text r) (ap (λ (vs : List (Option Scaled)). lines_from number decimals point vs) is ∙ next_line number decimals point value values) so_far) took
+-- the line of a point was appended to the lines held
+pub line_held : (a b : Option (List ℕ)) (text lines more : List ℕ) (number : ℕ) (decimals : Option ℕ) (point : ℕ) (value : Option Scaled) (values all : List (Option Scaled)) → all ≡ value ∷ values → more ≡ lines ++ value_line number point (value_text decimals value) → TakesAllBut a b text (lines ++ lines_from number decimals point all) → TakesAllBut a b text (more ++ lines_from number decimals (point + 1) values)
+line_held a b text lines more number decimals point value values all is held so_far =
+    let line = value_line number point (value_text decimals value) in
+    let others = lines_from number decimals (point + 1) values in
+    let next : lines ++ lines_from number decimals point all ≡ more ++ others =
+    ap (λ (vs : List (Option Scaled)). lines ++ lines_from number decimals point vs) is
+    ∙ ap (λ (t : List ℕ). lines ++ t) (next_line number decimals point value values)
+    ∙ sym (append_assoc lines line others)
+    ∙ ap (λ (t : List ℕ). t ++ others) (sym held) in
+    subst (λ (r : List ℕ). TakesAllBut a b text r) next so_far
 
-pub point_broken : (a b c : Option (List ℕ)) (text : List ℕ) (number : ℕ) (decimals : Option ℕ) (point : ℕ) (value : Option Scaled) (values all : List (Option Scaled)) → all ≡ value ∷ values → TakesAllBut a b text (lines_from number decimals point all) → TakesFront b c (value_line number point (value_text decimals value)) → TakesFront a c text
-point_broken a b c text number decimals point value values all is so_far front =
-    broken a b c text _ _ (subst (λ (r : List ℕ). TakesAllBut a b text r) (ap (λ (vs : List (Option Scaled)). lines_from number decimals point vs) is ∙ next_line number decimals point value values) so_far) front
+-- of the lines held all but some were written
+pub held_written : (a b c : Option (List ℕ)) (text lines kept rest : List ℕ) → TakesAllBut a b text (lines ++ rest) → TakesAllBut b c lines kept → TakesAllBut a c text (kept ++ rest)
+held_written a b c text lines kept rest so_far wrote =
+    one_more a b c text wrote.front (kept ++ rest) (subst (λ (r : List ℕ). TakesAllBut a b text r) (ap (λ (t : List ℕ). t ++ rest) wrote.split ∙ append_assoc wrote.front kept rest) so_far) wrote.took
 
-pub points_taken : (a b : Option (List ℕ)) (text : List ℕ) (number : ℕ) (decimals : Option ℕ) (point : ℕ) (all : List (Option Scaled)) → all ≡ [] → TakesAllBut a b text (lines_from number decimals point all) → Takes a b text
-points_taken a b text number decimals point all is so_far =
-    all_taken a b text (subst (λ (r : List ℕ). TakesAllBut a b text r) (ap (λ (vs : List (Option Scaled)). lines_from number decimals point vs) is ∙ no_line number decimals point) so_far)
+-- all the lines held were written, and none is left
+pub last_written : (a b c : Option (List ℕ)) (text lines : List ℕ) (number : ℕ) (decimals : Option ℕ) (point : ℕ) (all : List (Option Scaled)) → all ≡ [] → TakesAllBut a b text (lines ++ lines_from number decimals point all) → Takes b c lines → Takes a c text
+last_written a b c text lines number decimals point all is so_far took =
+    let none : lines_from number decimals point all ≡ [] = ap (λ (vs : List (Option Scaled)). lines_from number decimals point vs) is ∙ no_line number decimals point in
+    all_taken a c text (one_more a b c text lines [] (subst (λ (r : List ℕ). TakesAllBut a b text (lines ++ r)) none so_far) took)
+
+-- nothing is held yet
+pub none_held : (a : Option (List ℕ)) (text lines : List ℕ) → lines ≡ [] → TakesAllBut a a text (lines ++ text)
+none_held a text lines is = subst (λ (r : List ℕ). TakesAllBut a a text (r ++ text)) (sym is) (none_yet a text)

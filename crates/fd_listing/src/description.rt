@@ -201,8 +201,8 @@ fn push_map(out: &mut String, bit_map: &[u8]) -> Result<(), NoMemory>
     Ok(())
 }
 
-/// No pairs.
-fn none_given(alloc: Global) -> Result<Given, NoMemory>
+/// No pairs beside those that messages have of their own.
+pub fn none_given(alloc: Global) -> Result<Given, NoMemory>
     ensures { IfOk result (λ g. g ≡ []) }
 {
     match Given::read(alloc, "") {
@@ -211,8 +211,8 @@ fn none_given(alloc: Global) -> Result<Given, NoMemory>
     }
 }
 
-/// The kind of a fault and its number.
-fn push_key_fault(out: &mut String, fault: KeyFault) -> Result<(), NoMemory>
+/// Appends why a message has no key: the kind of the fault, and its number behind a blank.
+pub fn push_key_fault(out: &mut String, fault: KeyFault) -> Result<(), NoMemory>
     ensures { OnOk result (string_bytes out.new ≡ string_bytes out.old ++ key_fault_text fault) }
 {
     match fault {

@@ -9,6 +9,6 @@ mod point_values;
 #[cfg(test)]
 mod tests;
 
-pub use description::describe;
+pub use description::{describe, none_given, push_key_fault};
 pub use fault::{TextFault, ValuesFault};
 pub use point_values::values;

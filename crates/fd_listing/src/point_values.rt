@@ -1,9 +1,9 @@
-ghost use Rattle.std.specs.Prelude.{◌≡◌, ◌≤◌, IfOk, IfSome, OnOk, OnErr, string_bytes};
+ghost use Rattle.std.specs.Prelude.{◌≡◌, ◌≤◌, ◌++◌, IfOk, IfSome, OnOk, OnErr, string_bytes};
 ghost use Rattle.fd_sections.specs.Parts.{sections_of};
 ghost use Rattle.fd_packing.specs.Field.{field_of};
 ghost use Rattle.fd_packing.specs.Value.{values_of};
 ghost use Rattle.fd_io.specs.Streams.{Takes, TakesFront};
-ghost use Rattle.fd_listing.specs.Sinks.{HasSinkCause, HasValuesCause};
+ghost use Rattle.fd_listing.specs.Sinks.{HasSinkCause, HasValuesCause, TakesAllBut};
 ghost use Rattle.fd_listing.specs.Values.{number_text, value_text, value_line, values_text, message_values, most_points, AnswersField, HoldsNoWant};
 
 use crate::fault::{TextFault, ValuesFault};
@@ -17,6 +17,9 @@ use std::alloc::Global;
 
 /// How many points a field may have.
 const MOST_POINTS: u64 = 134_217_728;
+
+/// How many bytes of lines are held before they are written.
+const MOST_HELD: usize = 65_536;
 
 /// The text of a value.
 fn number_text(alloc: Global, value: &Scaled, decimals: Option<u8>) -> Result<String, NoMemory>
@@ -48,50 +51,49 @@ fn value_text(
     }
 }
 
-/// The line of a text for a point.
-fn value_line(alloc: Global, number: u64, point: u64, value: &str) -> Result<String, NoMemory>
-    ensures { IfOk result (λ t. string_bytes t ≡ value_line number point value.now) }
+/// Appends the line of a text for a point.
+fn push_line(lines: &mut String, number: u64, point: u64, value: &str) -> Result<(), NoMemory>
+    ensures { OnOk result (string_bytes lines.new ≡ string_bytes lines.old ++ value_line number point value.now) }
 {
-    Ok(format!(in alloc; "{number} {point} {value}\n")?)
+    write!(lines, "{number} {point} {value}\n")?;
+    Ok(())
 }
 
-/// The line of a point.
-fn point_text(
+/// Appends the line of a point.
+fn push_point(
     alloc: Global,
+    lines: &mut String,
     number: u64,
     point: u64,
     value: Option<Scaled>,
     decimals: Option<u8>,
-) -> Result<String, NoMemory>
+) -> Result<(), NoMemory>
     requires { IfSome decimals (λ d. d ≤ 30) }
-    ensures { IfOk result (λ t. string_bytes t ≡ value_line number point (value_text decimals value)) }
+    ensures { OnOk result (string_bytes lines.new ≡ string_bytes lines.old ++ value_line number point (value_text decimals value)) }
 {
     let text = value_text(alloc, value, decimals)?;
-    value_line(alloc, number, point, text.as_str())
+    push_line(lines, number, point, text.as_str())
 }
 
-/// Writes the line of a point.
-fn write_value<X, K: Sink<X>>(
-    alloc: Global,
-    number: u64,
-    point: u64,
-    value: Option<Scaled>,
-    decimals: Option<u8>,
-    sink: &mut K,
-) -> Result<(), TextFault<X>>
-    requires { IfSome decimals (λ d. d ≤ 30) }
-    ensures took { OnOk result (Takes (K.taken sink.old) (K.taken sink.new) (value_line number point (value_text decimals value))) }
-    ensures front { OnErr result (TakesFront (K.taken sink.old) (K.taken sink.new) (value_line number point (value_text decimals value))) }
+/// Writes the lines that are held once there are many, and lets go of them.
+fn write_many<X, K: Sink<X>>(lines: &mut String, sink: &mut K) -> Result<(), TextFault<X>>
+    ensures took { OnOk result (TakesAllBut (K.taken sink.old) (K.taken sink.new) (string_bytes lines.old) (string_bytes lines.new)) }
+    ensures front { OnErr result (TakesFront (K.taken sink.old) (K.taken sink.new) (string_bytes lines.old)) }
     ensures count { K.faults sink.old ≤ K.faults sink.new }
     ensures cause { HasSinkCause result (K.faults sink.old) (K.faults sink.new) }
 {
-    match point_text(alloc, number, point, value, decimals) {
-        Ok(line) => write_text(sink, line.as_str()),
-        Err(NoMemory) => Err(TextFault::NoMemory),
+    if lines.len() < MOST_HELD {
+        return Ok(());
     }
+    match write_text(sink, lines.as_str()) {
+        Ok(()) => {}
+        Err(fault) => return Err(fault),
+    }
+    lines.clear();
+    Ok(())
 }
 
-/// Writes the lines of all points.
+/// Writes the lines of all points, many at a time.
 fn write_values<X, K: Sink<X>>(
     alloc: Global,
     number: u64,
@@ -106,16 +108,24 @@ fn write_values<X, K: Sink<X>>(
     ensures count { K.faults sink.old ≤ K.faults sink.new }
     ensures cause { HasSinkCause result (K.faults sink.old) (K.faults sink.new) }
 {
+    let mut lines = String::new(alloc);
     let mut points = field.values();
     let mut point = 0;
     'points: while let Some(value) = points.next() {
-        match write_value(alloc, number, point, value, decimals, sink) {
+        match push_point(alloc, &mut lines, number, point, value, decimals) {
+            Ok(()) => {}
+            Err(NoMemory) => return Err(TextFault::NoMemory),
+        }
+        match write_many(&mut lines, sink) {
             Ok(()) => {}
             Err(fault) => return Err(fault),
         }
         point += 1;
     }
-    Ok(())
+    match write_text(sink, lines.as_str()) {
+        Ok(()) => Ok(()),
+        Err(fault) => Err(fault),
+    }
 }
 
 /// Writes the values of a message, a line `MESSAGE POINT VALUE` for each point of its grid: the number of the message,

@@ -54,32 +54,32 @@ fn values_text(
     alloc: Global,
     octets: &[u8],
     decimals: Option<u8>,
-    fail: &[u32],
+    room: u64,
 ) -> Result<(Option<ValuesFault<MemIoFault>>, MemSink), Fail>
     requires { IfSome decimals (λ d. d ≤ 30) }
 {
     let message = message(octets).ok().ok_or("no message")?;
-    let mut sink = MemSink::new(alloc, 1000, fail)?;
+    let mut sink = MemSink::new(alloc, room, &[])?;
     let fault = values(alloc, 1, &message, decimals, &mut sink).err();
     Ok((fault, sink))
 }
 
-/// Exact values, rounded ones, and a write that fails after the first line.
+/// Exact values, rounded ones, and a sink that has room for the first line and a piece of the second.
 #[test]
 fn values_of_a_field(rt: HostRuntime) -> Result<(), Fail> {
     let alloc = rt.alloc();
-    let (fault, sink) = values_text(alloc, &FIELD, None, &[])?;
+    let (fault, sink) = values_text(alloc, &FIELD, None, 1000)?;
     assert!(rt; fault.is_none());
     assert_eq!(rt; sink.taken(), EXACT.as_bytes());
-    let (fault, sink) = values_text(alloc, &FIELD, Some(1), &[])?;
+    let (fault, sink) = values_text(alloc, &FIELD, Some(1), 1000)?;
     assert!(rt; fault.is_none());
     assert_eq!(rt; sink.taken(), ROUNDED.as_bytes());
-    let (fault, sink) = values_text(alloc, &FIELD, Some(1), &[2])?;
+    let (fault, sink) = values_text(alloc, &FIELD, Some(1), 12)?;
     assert!(rt; matches!(&fault, Some(ValuesFault::Write(MemIoFault))));
-    assert_eq!(rt; sink.taken(), b"1 0 50.2\n".as_slice());
+    assert_eq!(rt; sink.taken(), b"1 0 50.2\n1 1".as_slice());
     let mut octets = FIELD;
     octets[153] = 40;
-    let (fault, sink) = values_text(alloc, &octets, None, &[])?;
+    let (fault, sink) = values_text(alloc, &octets, None, 1000)?;
     assert!(rt; matches!(&fault, Some(ValuesFault::Field(FieldFault::Template(40)))));
     assert!(rt; sink.taken().is_empty());
     Ok(())

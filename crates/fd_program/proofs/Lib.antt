@@ -1,5 +1,9 @@
 pub mod Lists
 pub mod Steps
+pub mod InputLaws
 pub mod Runs
 pub mod WordLaws
 pub mod Endings
+pub mod ListingSteps
+pub mod ListingRuns
+pub mod ListingEndings

@@ -18,6 +18,7 @@ use Rattle.fd_program.specs.declared.pick.Stop.{Stop}
 use Rattle.fd_program.specs.declared.refusal.Refusal.{Refusal}
 use Rattle.fd_program.specs.declared.refusal.Refusal.TheVariants.{Message, Input}
 use Rattle.fd_program.specs.Limits.{input_limit}
+use Rattle.fd_program.proofs.InputLaws.{all_of, front_of, begins_with}
 use Rattle.fd_program.specs.Picking.{found, found_after}
 use Rattle.fd_program.specs.Found.{IsLast, StoppedAs, Stopped, TookAll, IsWaiting}
 use Rattle.fd_program.specs.Run.{Reads, Searched}
@@ -63,13 +64,13 @@ waiting_first = refl
 pub waiting_start : (p : Progress) → p ≡ start → IsWaiting p
 waiting_start p e = subst IsWaiting (sym e) waiting_first
 
-abbrev ok : Option Sections → Result (Option Sections) BadAt
+abbrev pub ok : Option Sections → Result (Option Sections) BadAt
 ok o = Ok o
 
-none_is_none : {m : Sections} → ok (Some m) ≡ ok None → ⊥
+pub none_is_none : {m : Sections} → ok (Some m) ≡ ok None → ⊥
 none_is_none e = absurd cc
 
-unmarked : (p : Progress) (k : ℕ) (f : First) → answer p f ≡ Ok None → Ok k ≡ finished p f → f ≡ Unmarked
+pub unmarked : (p : Progress) (k : ℕ) (f : First) → answer p f ≡ Ok None → Ok k ≡ finished p f → f ≡ Unmarked
 unmarked p k Unmarked w e = refl
 unmarked p k (Partial have want) w e = absurd cc
 unmarked p k (Refuses bad) w e = absurd cc
@@ -77,14 +78,10 @@ unmarked p k (Takes m r) w e = absurd (none_is_none w)
 
 -- an input within the limit, and one beyond it
 within : (wanted : List Pair) (octets : List ℕ) → length octets ≤ input_limit → found wanted octets ≡ found_after wanted false 0 None (stream octets)
-within wanted octets le = rw (le-leb (length octets) input_limit le) refl
+within wanted octets le = all_of (λ past s. found_after wanted past 0 None s) octets le
 
 beyond : (wanted : List Pair) (octets : List ℕ) → input_limit < length octets → found wanted octets ≡ found_after wanted true 0 None (stream (take input_limit octets))
-beyond wanted octets lt = found_at (cases_Bool (nat_le (length octets) input_limit))
-  where
-    found_at : (nat_le (length octets) input_limit ≡ true) ⊎ (nat_le (length octets) input_limit ≡ false) → found wanted octets ≡ found_after wanted true 0 None (stream (take input_limit octets))
-    found_at (inl small) = absurd (let le = leb-true _ _ small in omega arith)
-    found_at (inr large) = rw large refl
+beyond wanted octets lt = front_of (λ past s. found_after wanted past 0 None s) octets lt
 
 -- the input was read to its end, and no message has begun
 pub found_last : (a b : Option (List ℕ)) (wanted : List Pair) (p : Progress) (last : Last) (k : ℕ) → Reads a b (Searched wanted p last) → p.fed ≤ input_limit → IsAtEnd b → IsWaiting p → Ok k ≡ finished p (first p.rest) → IfSome a (λ octets. (m : Option Sections) × (found wanted octets ≡ Ok m) × IsLast last m)
@@ -97,7 +94,7 @@ found_last (Some octets) (Some left) wanted p last k r le end w e =
     let small : length octets ≤ input_limit = omega (arith, ap length all, length-append r.0 [], s.fed) in
     (s.now, within wanted octets small ∙ ap (λ (x : List ℕ). found_after wanted false 0 None (stream x)) all ∙ s.same false [] ∙ ap (λ (t : List ℕ). found_after wanted false p.given s.now (stream t)) (append-nil p.rest) ∙ ap (found_after wanted false p.given s.now) (stream-ends p.rest u), s.is_last)
 
-partial : (p : Progress) (t : Truncated) (f : First) → Err t ≡ finished p f → (h : ℕ) × (w : ℕ) × (f ≡ Partial h w) × (t.number ≡ p.given + 1)
+pub partial : (p : Progress) (t : Truncated) (f : First) → Err t ≡ finished p f → (h : ℕ) × (w : ℕ) × (f ≡ Partial h w) × (t.number ≡ p.given + 1)
 partial p t Unmarked e = absurd cc
 partial p t (Partial h w) e = let k : t ≡ record { number = p.given + 1; have = h; want = w } = cc in (h, w, refl, ap (λ (x : Truncated). x.number) k)
 partial p t (Refuses bad) e = absurd cc
@@ -122,7 +119,7 @@ past_limit wanted p now (Partial have want) e w = ap (found_after wanted true p.
 past_limit wanted p now (Refuses bad) e w = absurd cc
 past_limit wanted p now (Takes m r) e w = absurd (none_is_none w)
 
-some_left : (b c : Option (List ℕ)) (piece left : List ℕ) → b ≡ Some left → Gives b c piece → length piece ≤ length left
+pub some_left : (b c : Option (List ℕ)) (piece left : List ℕ) → b ≡ Some left → Gives b c piece → length piece ≤ length left
 some_left None c piece left e gives = absurd cc
 some_left (Some old) None piece left e gives = absurd gives
 some_left (Some old) (Some new) piece left e gives =
@@ -142,9 +139,6 @@ found_past (Some octets) (Some left) c wanted p last piece r full gives some w =
     let front : take input_limit octets ≡ r.0 ++ [] = ap (take input_limit) r.1 ∙ take_at r.0 left input_limit size ∙ sym (append-nil r.0) in
     beyond wanted octets long ∙ ap (λ (x : List ℕ). found_after wanted true 0 None (stream x)) front ∙ s.same true [] ∙ ap (λ (x : List ℕ). found_after wanted true p.given s.now (stream x)) (append-nil p.rest) ∙ past_limit wanted p s.now (first p.rest) refl w
 
-cut_after : (front back : List ℕ) (n k : ℕ) → n ≡ length front + k → take n (front ++ back) ≡ front ++ take k back
-cut_after front back n k e = ap (λ (m : ℕ). take m (front ++ back)) e ∙ take-append-add front back k
-
 empty : (xs : List ℕ) → length xs ≡ 0 → xs ≡ []
 empty [] e = refl
 empty (x ∷ xs) e = absurd (omega arith)
@@ -159,21 +153,6 @@ at_end (Some octets) None c P n into r end gives z = absurd r
 at_end (Some octets) (Some left) None P n into r end gives z = absurd gives
 at_end (Some octets) (Some left) (Some after) P n into r end gives z = ap (λ (x : List ℕ). Some x) (nothing_after left after n into end gives z)
 
--- what is found in octets that begin with these
-pub begins_with : (wanted : List Pair) (octets front back : List ℕ) (P : Result (Option Sections) Refusal → Type 0) → octets ≡ front ++ back → length front ≤ input_limit → ((past : Bool) (more : List ℕ) → P (found_after wanted past 0 None (stream (front ++ more)))) → P (found wanted octets)
-begins_with wanted octets front back P e le each =
-    elim (cases_Bool (nat_le (length octets) input_limit)) [
-      | inl small ↦ subst P (sym (within wanted octets (leb-true _ _ small) ∙ ap (λ (x : List ℕ). found_after wanted false 0 None (stream x)) e)) (each false back)
-      | inr large ↦
-          let lt : input_limit < length octets = leb-false _ _ large in
-          let n = input_limit - length front in
-          let cut : take input_limit octets ≡ front ++ take n back = taken octets front back e le in
-          subst P (sym (beyond wanted octets lt ∙ ap (λ (x : List ℕ). found_after wanted true 0 None (stream x)) cut)) (each true (take n back))
-    ]
-  where
-    taken : (octets front back : List ℕ) → octets ≡ front ++ back → length front ≤ input_limit → take input_limit octets ≡ front ++ take (input_limit - length front) back
-    taken octets front back e le = ap (take input_limit) e ∙ cut_after front back input_limit (input_limit - length front) (omega arith)
-
 -- the search stopped
 pub found_stop : {X : Type 0} (a b c : Option (List ℕ)) (wanted : List Pair) (p q : Progress) (last : Last) (piece : List ℕ) (e : Stop X) → Reads a b (Searched wanted p last) → p.fed + length piece ≤ input_limit → Gives b c piece → q ≡ fed p piece → Stopped wanted e q last → IfSome a (λ octets. StoppedAs e (found wanted octets))
 found_stop None b c wanted p q last piece e r le gives f h = tt
@@ -182,7 +161,7 @@ found_stop (Some octets) (Some left) None wanted p q last piece e r le gives f h
 found_stop (Some octets) (Some left) (Some after) wanted p q last piece e r le gives f h =
     let all : octets ≡ (r.0 ++ piece) ++ after = r.1 ∙ ap (λ (t : List ℕ). r.0 ++ t) gives ∙ sym (append_assoc r.0 piece after) in
     let short : length (r.0 ++ piece) ≤ input_limit = omega (arith, length-append r.0 piece, r.2.fed) in
-    begins_with wanted octets (r.0 ++ piece) after (StoppedAs e) all short (λ past more. stopped_on wanted past p last piece r.0 more e r.2 (subst (λ (x : Progress). Stopped wanted e x last) f h))
+    begins_with (λ past s. found_after wanted past 0 None s) octets (r.0 ++ piece) after (StoppedAs e) all short (λ past more. stopped_on wanted past p last piece r.0 more e r.2 (subst (λ (x : Progress). Stopped wanted e x last) f h))
 
 -- the next turn
 pub next_turn : (a b c : Option (List ℕ)) (wanted : List Pair) (p q n : Progress) (old new : Last) (piece : List ℕ) → Reads a b (Searched wanted p old) → Gives b c piece → q ≡ fed p piece → TookAll wanted q n old new → Reads a c (Searched wanted n new)

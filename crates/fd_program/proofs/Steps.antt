@@ -15,7 +15,8 @@ use Rattle.fd_program.specs.declared.pick.Last.{Last}
 use Rattle.fd_program.specs.declared.refusal.Refusal.{Refusal}
 use Rattle.fd_program.specs.declared.refusal.Refusal.TheVariants as refusals
 use Rattle.fd_program.specs.Found.{IsLast, Took, IsConsidered}
-use Rattle.fd_program.specs.Picking.{found_after, unless, keyless, this_or, refused, last_wanted, has_wanted}
+use Rattle.fd_program.specs.Inputs.{refused}
+use Rattle.fd_program.specs.Picking.{found_after, unless, keyless, this_or, last_wanted, has_wanted}
 
 abbrev Found : Type 0
 Found = Result (Option Sections) Refusal
@@ -47,7 +48,7 @@ same : (m n : Sections) → ok (Some m) ≡ ok (Some n) → m ≡ n
 same m n e = cc
 
 -- a message was answered
-answered : (p : Progress) (f : First) (m : Sections) → answer p f ≡ Ok (Some m) → (r : List ℕ) × (f ≡ Takes m r)
+pub answered : (p : Progress) (f : First) (m : Sections) → answer p f ≡ Ok (Some m) → (r : List ℕ) × (f ≡ Takes m r)
 answered p Unmarked m e = absurd (other e)
 answered p (Partial have want) m e = absurd (other e)
 answered p (Refuses bad) m e = absurd cc
@@ -96,7 +97,7 @@ abbrev made : ℕ → Bad → BadAt
 made n b = record { number = n; bad = b }
 
 -- a refusal was answered
-refused_at : (p : Progress) (f : First) (at : BadAt) → answer p f ≡ Err at → (f ≡ Refuses at.bad) × (at.number ≡ p.given + 1)
+pub refused_at : (p : Progress) (f : First) (at : BadAt) → answer p f ≡ Err at → (f ≡ Refuses at.bad) × (at.number ≡ p.given + 1)
 refused_at p Unmarked at e = absurd cc
 refused_at p (Partial have want) at e = absurd cc
 refused_at p (Refuses b) at e =

@@ -4,7 +4,10 @@ use Rattle.fd_io.specs.Streams.{Takes, TakesFront}
 use Rattle.fd_program.specs.declared.command.Command.{Command}
 use Rattle.fd_program.specs.declared.status.Status.{Status}
 use Rattle.fd_program.specs.declared.status.Status.TheVariants.{Done, Missed, Words, Refused, InputFault, OutputFault, NoMemory, Limit}
-use Rattle.fd_program.specs.Outcome.{Outcome, line, outcome, early}
+use Rattle.fd_listing.specs.Lines.{line}
+use Rattle.fd_program.specs.declared.listing.Listing.{Listing}
+use Rattle.fd_program.specs.Listed.{listed}
+use Rattle.fd_program.specs.Outcome.{Outcome, outcome, told, early}
 
 abbrev pub usage : List ℕ
 usage = line (codes "usage: fdb pick describe values generate create archive retrieve list axes stats session trial")
@@ -50,6 +53,10 @@ Ends Limit o most a b c d = Tells Limit o a b c d
 -- the same of a command and its input, where that tells its octets
 abbrev pub Runs : Command → Status → Option (List ℕ) → Option (List ℕ) → Option (List ℕ) → Option (List ℕ) → Option (List ℕ) → Type 0
 Runs command s input a b c d = IfSome input (λ octets. Ends s (outcome command octets) (early command octets) a b c d)
+
+-- the same of a listing
+abbrev pub Lists : Listing → Status → Option (List ℕ) → Option (List ℕ) → Option (List ℕ) → Option (List ℕ) → Option (List ℕ) → Type 0
+Lists listing s input a b c d = IfSome input (λ octets. Ends s (told (listed listing octets)) (listed listing octets).lines a b c d)
 
 -- what a status says where the words are no command: nothing goes to the output
 abbrev pub EndsUnasked : Status → Option (List ℕ) → Option (List ℕ) → Option (List ℕ) → Option (List ℕ) → Type 0

@@ -1,14 +1,13 @@
 -- What `pick` finds in its input.
-use Rattle.std.specs.Prelude.{ℕ, ◌+◌, Bool, true, false, List, [], ◌∷◌, length, take, Option, Some, None, Result, Ok, Err, nat_le, if◌then◌else◌}
-use Rattle.fd_sections.specs.declared.bad.Bad.TheVariants as bads
+use Rattle.std.specs.Prelude.{ℕ, ◌+◌, Bool, false, List, [], ◌∷◌, length, Option, Some, None, Result, Ok, Err, if◌then◌else◌}
 use Rattle.fd_sections.specs.Message.{Sections}
-use Rattle.fd_sections.specs.Stream.{Stream, End, Whole, Cut, Bad_end, stream}
+use Rattle.fd_sections.specs.Stream.{Stream}
 use Rattle.fd_key.specs.declared.fault.KeyFault.{KeyFault}
 use Rattle.fd_key.specs.Pairs.{Pair, has_all}
 use Rattle.fd_key.specs.Keys.{key_of}
 use Rattle.fd_program.specs.declared.refusal.Refusal.{Refusal}
-use Rattle.fd_program.specs.declared.refusal.Refusal.TheVariants.{Message, Key, TooLong, Input}
-use Rattle.fd_program.specs.Limits.{input_limit}
+use Rattle.fd_program.specs.declared.refusal.Refusal.TheVariants.{Key}
+use Rattle.fd_program.specs.Inputs.{refused, of_input}
 
 abbrev pub has_wanted : List Pair → Result (List Pair) KeyFault → Bool
 has_wanted wanted (Ok pairs) = has_all pairs wanted
@@ -32,22 +31,6 @@ abbrev pub keyless : ℕ → List Sections → Option Refusal
 keyless n [] = None
 keyless n (m ∷ ms) = this_or (key_of m []) n (keyless (n + 1) ms)
 
--- Why the end of a stream of n messages is refused, if it is.
-abbrev pub refused_end : ℕ → End → Option Refusal
-refused_end n Whole = None
-refused_end n (Cut have want) = Some (Message (n + 1))
-refused_end n (Bad_end (bads.TooLong len)) = Some (TooLong len)
-refused_end n (Bad_end bad) = Some (Message (n + 1))
-
--- The same, of octets after which more come than an input may have.
-abbrev pub refused_past : ℕ → End → Option Refusal
-refused_past n Whole = Some Input
-refused_past n (Cut have want) = Some Input
-refused_past n (Bad_end bad) = refused_end n (Bad_end bad)
-
-abbrev pub refused : Bool → ℕ → End → Option Refusal
-refused past n end = if past then refused_past n end else refused_end n end
-
 -- the first refusal there is, or else the message
 abbrev pub unless : Option Refusal → Result (Option Sections) Refusal → Result (Option Sections) Refusal
 unless None found = found
@@ -61,7 +44,4 @@ found_after wanted past n before s =
 
 -- What `pick` finds in its input.
 abbrev pub found : List Pair → List ℕ → Result (Option Sections) Refusal
-found wanted input =
-    if nat_le (length input) input_limit
-    then found_after wanted false 0 None (stream input)
-    else found_after wanted true 0 None (stream (take input_limit input))
+found wanted input = of_input (λ past s. found_after wanted past 0 None s) input

@@ -3,7 +3,10 @@
 #![tactic(auto)]
 
 mod command;
+mod decimals;
+mod listing;
 mod pick;
+mod pieces;
 mod refusal;
 mod report;
 mod status;

@@ -1,21 +1,19 @@
 // From a stream to its last message that has the pairs.
-ghost use Rattle.std.specs.Prelude.{◌≡◌, ◌≤◌, ◌<◌, ◌+◌, [], ℕ, Bool, Option, length, vec_len, take, IfOk, IfSome, IfErr, OnOk, OnErr, Some, true, false};
+ghost use Rattle.std.specs.Prelude.{◌≡◌, ◌≤◌, [], IfOk, IfSome, IfErr, OnOk, OnErr, Some, true, false};
 ghost use Rattle.fd_bytes.specs.Causes.{Rose};
-ghost use Rattle.fd_io.specs.Streams.{Gives, IsAtEnd};
 ghost use Rattle.fd_key.specs.Pairs.{has_all};
-ghost use Rattle.fd_sections.specs.Message.{Sections};
-ghost use Rattle.fd_sections.specs.Stream.{Bad_end};
-ghost use Rattle.fd_program.specs.Picking.{found, refused, unless};
-ghost use Rattle.fd_program.specs.Found.{StoppedAs, IsNoMemory, Answers, is_fault, Took, TookAll, Stopped};
+ghost use Rattle.fd_program.specs.Picking.{found};
+ghost use Rattle.fd_program.specs.Found.{IsNoMemory, Answers, is_fault, Took, TookAll, Stopped};
 ghost use Rattle.fd_key.specs.Keys.{key_of};
 ghost use Rattle.fd_sections.specs.Parts.{sections_of};
 
-use crate::refusal::Refusal;
+use crate::pieces::{INPUT_LIMIT, new_buffer, read_piece};
+use crate::refusal::{Refusal, refusal_of};
 use crate::wanted::Wanted;
 use fd_bytes::NoMemory;
 use fd_io::Source;
 use fd_key::{Given, Key, KeyFault, key_of};
-use fd_sections::{Bad, BadAt, Message, Splitter, Truncated};
+use fd_sections::{Message, Splitter, Truncated};
 use std::alloc::Global;
 
 /// Why nothing was found.
@@ -33,12 +31,6 @@ impl<X> From<NoMemory> for Stop<X> {
         Stop::NoMemory
     }
 }
-
-/// How many octets an input may have.
-const INPUT_LIMIT: u64 = 68_719_476_736;
-
-/// How many octets are read at a time.
-const PIECE: usize = 65_536;
 
 /// The octets of the message that was found last, if one was.
 #[derive(Drop)]
@@ -60,16 +52,6 @@ impl Last {
             self.found = true;
         }
         Ok(())
-    }
-}
-
-/// Why a refused message ends the search.
-fn refusal_of(at: BadAt) -> Refusal
-    ensures { (past : Bool) (given : ℕ) → at.number ≡ given + 1 → refused past given (Bad_end at.bad) ≡ Some result }
-{
-    match at.bad {
-        Bad::TooLong { len } => Refusal::TooLong { len },
-        _ => Refusal::Message { number: at.number },
     }
 }
 
@@ -133,41 +115,6 @@ fn take_messages<X>(
 {
     while take_message(alloc, wanted, given, splitter, last)? {}
     Ok(())
-}
-
-/// Reads the next piece into the front of the buffer, and no more than the limit leaves, but at least one octet, by
-/// which an input beyond the limit is found.
-fn read_piece<X, I: Source<X>>(input: &mut I, buffer: &mut [u8], total: u64) -> Result<usize, X>
-    requires room { length buffer.old ≡ 65536 }
-    requires limit { total ≤ 68719476736 }
-    ensures room { length buffer.new ≡ 65536 }
-    ensures bound { IfOk result (λ n. n ≤ 65536) }
-    ensures within { IfOk result (λ n. total < 68719476736 → total + n ≤ 68719476736) }
-    ensures given { IfOk result (λ n. Gives (I.left input.old) (I.left input.new) (take n buffer.new)) }
-    ensures end { IfOk result (λ n. n ≡ 0 → IsAtEnd (I.left input.old)) }
-    ensures count { I.faults input.old ≤ I.faults input.new }
-    ensures cause { OnErr result (Rose (I.faults input.old) (I.faults input.new)) }
-{
-    let size = ((INPUT_LIMIT - total) as usize).min(PIECE).max(1);
-    let (piece, _) = buffer.split_at_mut(size);
-    input.read(piece)
-}
-
-/// No pairs beside those of the messages.
-pub fn none_given(alloc: Global) -> Result<Given, NoMemory>
-    ensures { IfOk result (λ g. g ≡ []) }
-{
-    match Given::read(alloc, "") {
-        Ok(given) => Ok(given),
-        Err(_) => Err(NoMemory),
-    }
-}
-
-/// Room for one piece.
-fn new_buffer(alloc: Global) -> Result<Vec<u8>, NoMemory>
-    ensures { IfOk result (λ v. vec_len v ≡ 65536) }
-{
-    Ok(vec![in alloc; 0u8; PIECE]?)
 }
 
 /// The last message of the input whose key has all the pairs, where the input is read to its end.

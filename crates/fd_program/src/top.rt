@@ -2,16 +2,19 @@
 ghost use Rattle.std.specs.Prelude.{◌≡◌, ◌≢◌, ◌⊎◌, ◌≤◌, [], Some, None, IfSome, IsSome, MatchOption};
 ghost use Rattle.fd_bytes.specs.Causes.{Rose};
 ghost use Rattle.fd_program.specs.Texts.{texts};
-ghost use Rattle.fd_program.specs.Words.{command_of};
-ghost use Rattle.fd_program.specs.Ends.{Runs, EndsUnasked, Completes};
+ghost use Rattle.fd_program.specs.Words.{command_of, HasFewDecimals};
+ghost use Rattle.fd_program.specs.Halted.{AreFew};
+ghost use Rattle.fd_program.specs.Ends.{Runs, Lists, EndsUnasked, Completes};
 ghost use Rattle.fd_program.specs.declared.command.Command.TheVariants.{Pick};
 
 use crate::command::{Command, read_command};
-use crate::pick::{Stop, last_wanted, none_given};
+use crate::listing::{Halt, Listing, list};
+use crate::pick::{Stop, last_wanted};
 use crate::report::{tell, tell_no_memory, tell_refusal};
 use crate::status::Status;
 use crate::wanted::Wanted;
 use fd_io::{Sink, Source, write_all};
+use fd_listing::none_given;
 use std::alloc::Global;
 
 const USAGE: &str =
@@ -62,6 +65,7 @@ fn run<X: Drop, I: Source<X>, K: Sink<X>, E: Sink<X>>(
     output: &mut K,
     report: &mut E,
 ) -> Status
+    requires { HasFewDecimals command.now }
     ensures ends { Runs command.now result (I.left input.old) (K.taken output.old) (K.taken output.new) (E.taken report.old) (E.taken report.new) }
     ensures words { result ≢ Status.Words }
     ensures to_end { IfSome (I.left input.old) (λ octets. ((result ≡ Status.Done) ⊎ (result ≡ Status.Missed)) → I.left input.new ≡ Some []) }
@@ -70,6 +74,10 @@ fn run<X: Drop, I: Source<X>, K: Sink<X>, E: Sink<X>>(
 {
     match command {
         Command::Pick(wanted) => pick(alloc, wanted, input, output, report),
+        Command::Describe => write_list(alloc, Listing::Descriptions, input, output, report),
+        Command::Values(decimals) => {
+            write_list(alloc, Listing::Points(*decimals), input, output, report)
+        }
     }
 }
 
@@ -103,5 +111,29 @@ fn pick<X: Drop, I: Source<X>, K: Sink<X>, E: Sink<X>>(
         Err(Stop::Fault(_)) => tell(report, "input failed\n", Status::InputFault),
         Err(Stop::Refused(refusal)) => tell_refusal(alloc, report, refusal),
         Err(Stop::NoMemory) => tell_no_memory(report),
+    }
+}
+
+/// Runs a command that lists its input.
+fn write_list<X: Drop, I: Source<X>, K: Sink<X>, E: Sink<X>>(
+    alloc: Global,
+    listing: Listing,
+    input: &mut I,
+    output: &mut K,
+    report: &mut E,
+) -> Status
+    requires { AreFew listing }
+    ensures ends { Lists listing result (I.left input.old) (K.taken output.old) (K.taken output.new) (E.taken report.old) (E.taken report.new) }
+    ensures words { result ≢ Status.Words }
+    ensures to_end { IfSome (I.left input.old) (λ octets. ((result ≡ Status.Done) ⊎ (result ≡ Status.Missed)) → I.left input.new ≡ Some []) }
+    ensures input_fault { result ≡ Status.InputFault → Rose (I.faults input.old) (I.faults input.new) }
+    ensures output_fault { result ≡ Status.OutputFault → Rose (K.faults output.old) (K.faults output.new) ⊎ Rose (E.faults report.old) (E.faults report.new) }
+{
+    match list(alloc, listing, input, output) {
+        Ok(()) => Status::Done,
+        Err(Halt::Unread(_)) => tell(report, "input failed\n", Status::InputFault),
+        Err(Halt::Unwritten(_)) => tell(report, "output failed\n", Status::OutputFault),
+        Err(Halt::Refused(refusal)) => tell_refusal(alloc, report, refusal),
+        Err(Halt::NoMemory) => tell_no_memory(report),
     }
 }

@@ -1,7 +1,7 @@
 use Rattle.std.proofs.Common.{◌∙◌, subst, List, ℕ}
 use Rattle.std.specs.Prelude.{codes, ◌++◌}
 use Rattle.std.specs.Fmt.{decimal}
-use Rattle.fd_program.specs.Outcome.{line}
+use Rattle.fd_listing.specs.Lines.{line}
 use Rattle.fd_program.specs.Told.{ToldOrNoMemory}
 use Rattle.fd_program.specs.declared.status.Status.TheVariants.{Refused}
 use Rattle.fd_program.proofs.report.tell_key_fault.Goals as goal
