@@ -144,7 +144,22 @@ impl Disk<MemFault> for MemDisk {
         Ok(copied(self.file.reads(), at, into))
     }
 
-    fn write_at(&mut self, at: u64, bytes: &[u8]) -> Result<(), MemFault> {
+    /// A write that fails has made its range loose, and a read gives what it gave; beyond the room it has done nothing.
+    fn write_at(&mut self, at: u64, bytes: &[u8]) -> Result<(), MemFault>
+        requires { at + length bytes.now < 2 ^ 63 }
+        ensures ok { OnOk result (Some (file_of self.new.file) ≡ option_map (λ f. written f at bytes.now) (Some (file_of self.old.file))) }
+        ensures err { OnErr result (WhereTold (Some (file_of self.old.file)) (Some (file_of self.new.file)) (λ f g. IsAfterFailedWrite f at (length bytes.now) g)) }
+        ensures loose { OnErr result (fits self.old.file at (length bytes.now) ≡ true → file_of self.new.file ≡ loosened (file_of self.old.file) at (length bytes.now) (file_of self.old.file).reads) }
+        ensures beyond { OnErr result (fits self.old.file at (length bytes.now) ≡ false → file_of self.new.file ≡ file_of self.old.file) }
+        ensures synced { OnOk result (synced_by false self.new.file.calls ≡ false) }
+        ensures synced_err { OnErr result (synced_by false self.new.file.calls ≡ true → synced_by false self.old.file.calls ≡ true) }
+        ensures extent { OnOk result (extent_by 0 self.new.file.calls ≡ max (extent_by 0 self.old.file.calls) (at + length bytes.now)) }
+        ensures extent_err { OnErr result (extent_by 0 self.new.file.calls ≡ extent_by 0 self.old.file.calls) }
+        ensures name { self.new.name.items ≡ self.old.name.items }
+        ensures made { self.new.made ≡ self.old.made }
+        ensures time { Elapses (length self.old.file.calls) (length self.new.file.calls) (LeftSince self.old.file) (LeftSince self.new.file) (Some (file_of self.new.file)) }
+        ensures cause { HasCause self.old.faults self.new.faults result }
+    {
         let is_to_fail = self.plan.meets(Op::Write);
         if !self.file.fits(at, bytes.len()) {
             return Err(counted(&mut self.faults));

@@ -52,8 +52,8 @@ pub(crate) fn put_both(files: &mut Vec<Kept>, first: Kept, second: Kept) -> Resu
     Ok(())
 }
 
-// The first file of this name.
-fn among(files: &[Kept], name: FileName) -> Option<&Kept>
+/// The first file of this name.
+pub(crate) fn among(files: &[Kept], name: FileName) -> Option<&Kept>
     ensures { MatchOption result (is_named files.now name ≡ false) (λ k. (is_named files.now name ≡ true) × (bytes_among files.now name ≡ option_map (λ v. v.items) k.now.bytes)) }
 {
     match files {
