@@ -45,7 +45,7 @@ fn digit(number: u32) -> char
 
 /// `YYYYMMDD`.
 #[tactic(auto, unfolding(crate::specs::Civil::date_text))]
-pub(crate) fn date_text(alloc: Global, year: u32, month: u32, day: u32) -> Result<String, NoMemory>
+pub fn date_text(alloc: Global, year: u32, month: u32, day: u32) -> Result<String, NoMemory>
     ensures text { IfOk result (λ s. string_bytes s ≡ date_text year month day) }
     ensures short { IfOk result (λ s. length (string_bytes s) ≤ 8) }
     ensures value { IfOk result (λ s. IsTrue (is_value (string_bytes s))) }
@@ -60,7 +60,7 @@ pub(crate) fn date_text(alloc: Global, year: u32, month: u32, day: u32) -> Resul
 
 /// `HHMM`, and `SS` behind it where the seconds aren't 0.
 #[tactic(auto, unfolding(crate::specs::Civil::time_text))]
-pub(crate) fn time_text(
+pub fn time_text(
     alloc: Global,
     hour: u32,
     minute: u32,

@@ -15,9 +15,13 @@ mod of_message;
 mod steps;
 mod values;
 
+pub use civil::{date_text, time_text};
 pub use fault::{GivenFault, KeyFault, ValueFault};
 pub use given::Given;
 pub use key::Key;
+pub use meaning::{Meaning, meaning_of};
+pub use names::is_name;
+pub use numerals::{is_numeral, number_of, number_up_to};
 pub use of_message::key_of;
 pub use values::{canonical, read_pair};
 

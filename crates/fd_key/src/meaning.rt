@@ -25,7 +25,7 @@ pub enum Meaning {
 }
 
 /// What a name in lower case stands for.
-pub(crate) fn meaning_of(name: &str) -> Meaning
+pub fn meaning_of(name: &str) -> Meaning
     ensures { result ≡ meaning_of name.now }
 {
     if name == "centre" {

@@ -66,7 +66,7 @@ fn are_value_bytes(bytes: &[u8]) -> bool
 }
 
 /// Tells that a text in lower case is a name: a letter, and up to 15 letters, digits and `_`.
-pub(crate) fn is_name(text: &[u8]) -> bool
+pub fn is_name(text: &[u8]) -> bool
     ensures { result ≡ is_name text.now }
 {
     let Some((first, others)) = text.split_first() else {

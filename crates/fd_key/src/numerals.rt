@@ -54,7 +54,7 @@ fn digit(b: u8) -> u64
 }
 
 /// The number that at most 15 digits write.
-pub(crate) fn number_of(digits: &[u8]) -> u64
+pub fn number_of(digits: &[u8]) -> u64
     requires few { length digits.now ≤ 15 }
     requires digits { list_all is_ascii_digit digits.now ≡ true }
     ensures value { result ≡ digits_value 10 digits.now }
@@ -75,7 +75,7 @@ fn are_digits(text: &[u8]) -> bool
 }
 
 /// Tells that the text is one digit or more.
-pub(crate) fn is_numeral(text: &[u8]) -> bool
+pub fn is_numeral(text: &[u8]) -> bool
     ensures { result ≡ is_numeral text.now }
 {
     0 < text.len() && are_digits(text)
@@ -99,7 +99,7 @@ fn number_within(digits: &[u8], most: u32) -> Option<u32>
 
 /// The number that decimal digits write, where it is at most this one.
 #[tactic(auto, unfolding(crate::specs::Numerals::number_up_to))]
-pub(crate) fn number_up_to(text: &[u8], most: u32) -> Option<u32>
+pub fn number_up_to(text: &[u8], most: u32) -> Option<u32>
     ensures number { result ≡ number_up_to most text.now }
     ensures within { IfSome result (λ n. n ≤ most) }
 {

@@ -1,41 +1,49 @@
--- The grammar computes on texts.
-use Rattle.std.proofs.Common.{◌≡◌, ℕ, List, [], ◌∷◌, Option, Some, None, Ok, codes, refl}
+-- Worked examples of requests, computed from the definitions.
+use Rattle.std.proofs.Common.{◌≡◌, ℕ, List, [], ◌∷◌, Option, Some, None, Result, Ok, codes, refl}
+use Rattle.std.specs.Fmt.{digits}
+use Rattle.jiff_core.specs.Calendar.{days_of_years, days_of_months, day_count, days_from_civil}
+use Rattle.fd_key.specs.Numerals.{number_up_to, cut}
+use Rattle.fd_key.specs.Civil.{date_text, time_text, date_in, date_spelling, time_in, time_spelling}
+use Rattle.fd_key.specs.Levels.{levelist_spelling, level_spelling, unsigned_level, level_text}
+use Rattle.fd_key.specs.Steps.{step_text, unit_of, unsigned_step, step_spelling}
+use Rattle.fd_key.specs.Canonical.{canonical, spelling}
 use Rattle.fd_schema.specs.Tokens.{tokens, parts}
-use Rattle.fd_request.specs.Expansion.{expand, each_before}
-use Rattle.fd_request.specs.Grammar.{request_of, verb_of, word_of, values_of, keyword_of, keywords_of, wrong, Range, Pair, Value, Repeated}
+use Rattle.fd_request.specs.Expansion.{Keyword, expand, each_before}
+use Rattle.fd_request.specs.Ranges.{later, whole, signed_whole, hour_of, day_of, end_in, end_of, place, distance, text_behind, values_from, step_of, between, range_of}
+use Rattle.fd_request.specs.Grammar.{Fault, wrong, Verb, Pair, Value, Range, Repeated, each_of, verb_of, side_by_side, joined, word_in, value_of, behind_words, values_of, behind_name, name_of, keyword_of, request_in, keywords_of}
 
-abbrev pub same_text : List ℕ → List ℕ → Option (List ℕ)
-same_text name [] = None
-same_text name (b ∷ bs) = Some (b ∷ bs)
+abbrev asked : List ℕ → Result (List Keyword) Fault
+asked text = keywords_of (codes "retrieve") text
 
-abbrev pub no_range : List ℕ → List (List ℕ) → Option (List (List ℕ))
-no_range name texts = None
+a_reversed_range : asked (codes "retrieve,step=24/to/0") ≡ wrong 14 Range
+unfolding tokens parts keywords_of request_in verb_of keyword_of name_of behind_name values_of word_in side_by_side joined range_of between end_of end_in signed_whole whole step_of distance place canonical spelling step_spelling unsigned_step unit_of step_text number_up_to digits each_of
+a_reversed_range = refl
 
-pub a_range_that_is_none : request_of same_text no_range (codes "retrieve") (codes "retrieve,step=24/to/0") ≡ wrong 14 Range
-unfolding tokens parts request_of verb_of word_of values_of keyword_of keywords_of
-a_range_that_is_none = refl
-
-pub a_list : request_of same_text no_range (codes "retrieve") (codes "retrieve, STEP = 6/0/6") ≡ Ok (record { name = codes "step"; values = codes "6" ∷ codes "0" ∷ codes "6" ∷ [] } ∷ [])
-unfolding tokens parts request_of verb_of word_of values_of keyword_of keywords_of
+a_list : asked (codes "retrieve, STEP = 6/0/6") ≡ Ok (record { name = codes "step"; values = codes "6" ∷ codes "0" ∷ codes "6" ∷ [] } ∷ [])
+unfolding tokens parts keywords_of request_in verb_of keyword_of name_of behind_name values_of word_in side_by_side joined each_of value_of canonical spelling step_spelling unsigned_step unit_of step_text number_up_to digits
 a_list = refl
 
-pub no_name : request_of same_text no_range (codes "retrieve") (codes "retrieve, ") ≡ wrong 10 Pair
-unfolding tokens parts request_of verb_of word_of values_of keyword_of keywords_of
+days : asked (codes "retrieve,date=20240228/to/20240301") ≡ Ok (record { name = codes "date"; values = codes "20240228" ∷ codes "20240229" ∷ codes "20240301" ∷ [] } ∷ [])
+unfolding tokens parts keywords_of request_in verb_of keyword_of name_of behind_name values_of word_in side_by_side joined range_of between end_of end_in day_of step_of distance place text_behind values_from later canonical spelling date_spelling date_in date_text number_up_to digits each_of behind_words days_of_years days_of_months day_count days_from_civil
+days = refl
+
+no_name : asked (codes "retrieve, ") ≡ wrong 10 Pair
+unfolding tokens parts keywords_of request_in verb_of keyword_of each_of
 no_name = refl
 
-pub a_foreign_byte_behind_the_verb : request_of same_text no_range (codes "retrieve") (codes "retrieve$,a=b") ≡ wrong 8 Pair
-unfolding tokens parts request_of verb_of word_of values_of keyword_of keywords_of
+a_foreign_byte_behind_the_verb : asked (codes "retrieve$,a=b") ≡ wrong 8 Pair
+unfolding tokens parts keywords_of request_in verb_of
 a_foreign_byte_behind_the_verb = refl
 
-pub an_empty_value : request_of same_text no_range (codes "retrieve") (codes "retrieve,class= ,") ≡ wrong 16 Value
-unfolding tokens parts request_of verb_of word_of values_of keyword_of keywords_of
+an_empty_value : asked (codes "retrieve,class= ,") ≡ wrong 16 Value
+unfolding tokens parts keywords_of request_in verb_of keyword_of name_of behind_name values_of word_in side_by_side joined each_of value_of canonical
 an_empty_value = refl
 
-pub a_name_again : request_of same_text no_range (codes "retrieve") (codes "retrieve,a=b,A=c") ≡ wrong 13 (Repeated (codes "a"))
-unfolding tokens parts request_of verb_of word_of values_of keyword_of keywords_of
+a_name_again : asked (codes "retrieve,a=b,A=c") ≡ wrong 13 (Repeated (codes "a"))
+unfolding tokens parts keywords_of request_in verb_of keyword_of name_of behind_name values_of word_in side_by_side joined each_of value_of canonical spelling
 a_name_again = refl
 
-pub the_last_is_fastest : expand (record { name = codes "a"; values = codes "1" ∷ codes "2" ∷ [] } ∷ record { name = codes "b"; values = codes "3" ∷ codes "3" ∷ [] } ∷ [])
+the_last_is_fastest : expand (record { name = codes "a"; values = codes "1" ∷ codes "2" ∷ [] } ∷ record { name = codes "b"; values = codes "3" ∷ codes "3" ∷ [] } ∷ [])
     ≡ ((codes "a", codes "1") ∷ (codes "b", codes "3") ∷ []) ∷ ((codes "a", codes "1") ∷ (codes "b", codes "3") ∷ []) ∷ ((codes "a", codes "2") ∷ (codes "b", codes "3") ∷ []) ∷ ((codes "a", codes "2") ∷ (codes "b", codes "3") ∷ []) ∷ []
 unfolding expand each_before
 the_last_is_fastest = refl

@@ -1,2 +1,10 @@
 pub mod Products
-pub mod Examples
+mod Examples
+pub mod Cuts
+pub mod Ends
+pub mod RangeLaws
+pub mod Turns
+pub mod Lengths
+pub mod Places
+pub mod Sizes
+pub mod Choices

@@ -2,13 +2,16 @@
 --
 --   request = verb { "," name "=" values }
 --   values  = value { "/" value } | value "/" "to" "/" value [ "/" "by" "/" number ]
-use Rattle.std.specs.Prelude.{ℕ, ◌+◌, Bool, not, ◌||◌, List, [], ◌∷◌, ◌++◌, length, take, map, codes, nat_lt, ◌==◌, if◌then◌else◌, Option, Some, None, Result, Ok, Err}
+use Rattle.std.specs.Prelude.{ℕ, ◌+◌, Bool, not, ◌||◌, List, [], ◌∷◌, ◌++◌, length, take, drop, map, codes, nat_lt, ◌==◌, if◌then◌else◌, Option, Some, None, Result, Ok, Err}
 use Rattle.std.specs.List.{list_any, prefix_len}
 use Rattle.std.specs.Str.{bytes_eq}
 use Rattle.fd_key.specs.Names.{is_name, is_name_byte, lower}
 use Rattle.fd_schema.specs.Tokens.{Piece, Part, is_token, parts, tokens}
+use Rattle.fd_schema.specs.Grammar.{spelled}
 use Rattle.fd_request.specs.Expansion.{Keyword}
+use Rattle.fd_request.specs.Ranges.{is_to, is_by, range_of}
 
+-- what is wrong at a place
 pub data Wrong : Type 0 where
   TooLong : Wrong
   Verb : Wrong
@@ -16,6 +19,8 @@ pub data Wrong : Type 0 where
   Repeated : (name : List ℕ) → Wrong
   Value : Wrong
   Range : Wrong
+  TooMany : (count : ℕ) → Wrong
+  KeyTooLong : (len : ℕ) → Wrong
 
 pub record Fault : Type 0 where
   pub at : ℕ
@@ -28,6 +33,13 @@ abbrev pub ◌>>=◌ : {A B : Type 0} → Result A Fault → (A → Result B Fau
 
 abbrev pub wrong : {A : Type 0} → ℕ → Wrong → Result A Fault
 wrong at kind = Err (record { at = at; kind = kind })
+
+-- each read in turn, where what one is may depend on those before it
+unfoldable pub each_of : {A B : Type 0} → (List A → B → Result A Fault) → List A → List B → Result (List A) Fault
+each_of read before [] = Ok before
+each_of read before (p ∷ ps) = do
+  x ← read before p
+  each_of read (before ++ x ∷ []) ps
 
 -- the place of the first token, or of what stands behind
 abbrev pub front_place : Piece → List Piece → ℕ
@@ -46,80 +58,117 @@ verb_of verb stop (t ∷ ts) =
 
 -- ---- values
 
--- A value is what stands up to a blank, a comma, a slash or the end: a token and all that begin right behind it.
+-- A value is what stands up to a blank, a comma, a slash or the end: a token and all that begin right behind it. It has the
+-- place where it begins, and the place of the token behind it, if there is one.
 pub record Word : Type 0 where
+  pub at : ℕ
   pub text : List ℕ
-  pub rest : List Piece
+  pub behind : Option ℕ
 
-abbrev pub joined : List ℕ → Word → Word
-joined text w = record { text = text ++ w.text; rest = w.rest }
+abbrev pub first_place : List Piece → Option ℕ
+first_place [] = None
+first_place (t ∷ ts) = Some t.at
 
-unfoldable pub word_of : ℕ → List Piece → Word
-word_of at [] = record { text = []; rest = [] }
-word_of at (t ∷ ts) = if t.at == at then joined t.text (word_of (at + length t.text) ts) else record { text = []; rest = t ∷ ts }
+-- how many tokens stand side by side from a place on
+unfoldable pub side_by_side : ℕ → List Piece → ℕ
+side_by_side at [] = 0
+side_by_side at (t ∷ ts) = if t.at == at then 1 + side_by_side (at + length t.text) ts else 0
 
-abbrev pub word_in : Part → Word
-word_in p = word_of (front_place p.stop p.tokens) p.tokens
+-- their bytes
+unfoldable pub joined : List Piece → List ℕ
+joined [] = []
+joined (t ∷ ts) = t.text ++ joined ts
+
+unfoldable pub word_in : Part → Word
+word_in p =
+    let at = front_place p.stop p.tokens in
+    let n = side_by_side at p.tokens in
+    record { at = at; text = joined (take n p.tokens); behind = first_place (drop n p.tokens) }
+
+abbrev pub value_or : Option (List ℕ) → ℕ → Option ℕ → Result (List ℕ) Fault
+value_or None at behind = wrong at Value
+value_or (Some value) at None = Ok value
+value_or (Some value) at (Some place) = wrong place Pair
+
+-- a value in its one spelling
+unfoldable pub value_of : List ℕ → Word → Result (List ℕ) Fault
+value_of name w = value_or (spelled name w.text) w.at w.behind
+
+abbrev pub value_in : List ℕ → List (List ℕ) → Word → Result (List ℕ) Fault
+value_in name before w = value_of name w
+
+abbrev pub word_texts : List Word → List (List ℕ)
+word_texts ws = map (λ w. w.text) ws
 
 abbrev pub is_range_word : List ℕ → Bool
-is_range_word text = bytes_eq text (codes "to") || bytes_eq text (codes "by")
+is_range_word text = is_to text || is_by text
 
--- What values and ranges mean is asked of these: the one spelling of a value, and the values of a range.
-module _ (spelled : List ℕ → List ℕ → Option (List ℕ)) (range : List ℕ → List (List ℕ) → Option (List (List ℕ))) where
-  abbrev pub value_or : Option (List ℕ) → ℕ → List Piece → Result (List ℕ) Fault
-  value_or None at rest = wrong at Value
-  value_or (Some value) at [] = Ok value
-  value_or (Some value) at (u ∷ us) = wrong u.at Pair
+abbrev pub first_of_two : Option ℕ → Option ℕ → Option ℕ
+first_of_two None other = other
+first_of_two (Some place) other = Some place
 
-  unfoldable pub values_of : List ℕ → List Part → Result (List (List ℕ)) Fault
-  values_of name [] = Ok []
-  values_of name (p ∷ ps) = do
-    value ← value_or (spelled name (word_in p).text) (front_place p.stop p.tokens) (word_in p).rest
-    others ← values_of name ps
-    Ok (value ∷ others)
+-- the first place behind a word where something else stands
+unfoldable pub behind_words : List Word → Option ℕ
+behind_words [] = None
+behind_words (w ∷ ws) = first_of_two w.behind (behind_words ws)
 
-  abbrev pub range_or : Option (List (List ℕ)) → ℕ → Result (List (List ℕ)) Fault
-  range_or None at = wrong at Range
-  range_or (Some values) at = Ok values
+abbrev pub range_or : Option (List (List ℕ)) → ℕ → Option ℕ → Result (List (List ℕ)) Fault
+range_or None at behind = wrong at Range
+range_or (Some values) at None = Ok values
+range_or (Some values) at (Some place) = wrong place Pair
 
-  -- a range is tested before the values
-  abbrev pub list_or_range : List ℕ → ℕ → List Part → Result (List (List ℕ)) Fault
-  list_or_range name at ps =
-      if list_any (λ p. is_range_word (word_in p).text) ps
-      then range_or (range name (map (λ p. (word_in p).text) ps)) at
-      else values_of name ps
+-- The values of a name, the first of which begins at this place. Where `to` or `by` stands they are a range, which is tested
+-- before the values.
+unfoldable pub values_of : List ℕ → ℕ → List Word → Result (List (List ℕ)) Fault
+values_of name at words =
+    if list_any (λ w. is_range_word w.text) words
+    then range_or (range_of name (word_texts words)) at (behind_words words)
+    else each_of (value_in name) [] words
 
-  -- ---- keywords
+-- ---- keywords
 
-  abbrev pub behind_name : List ℕ → Piece → List Piece → Result Keyword Fault
-  behind_name name stop [] = wrong stop.at Pair
-  behind_name name stop (e ∷ ts) =
-      if is_token 61 e
-      then (list_or_range name (front_place stop ts) (parts 47 stop ts) >>= λ vs. Ok (record { name = name; values = vs }))
-      else wrong e.at Pair
+-- the keyword has this name
+abbrev pub has_name : List Keyword → List ℕ → Bool
+has_name ks name = list_any (λ k. bytes_eq k.name name) ks
 
-  unfoldable pub keyword_of : List (List ℕ) → Piece → List Piece → Result Keyword Fault
-  keyword_of names stop [] = wrong stop.at Pair
-  keyword_of names stop (t ∷ ts) =
-      let n = prefix_len is_name_byte t.text in
-      if not (is_name (take n t.text)) then wrong t.at Pair
-      else if list_any (bytes_eq (take n t.text)) names then wrong t.at (Repeated (take n t.text))
-      else if nat_lt n (length t.text) then wrong (t.at + n) Pair
-      else behind_name (take n t.text) stop ts
+abbrev pub words_of : Piece → List Piece → List Word
+words_of stop ts = map word_in (parts 47 stop ts)
 
-  unfoldable pub keywords_of : List (List ℕ) → List Part → Result (List Keyword) Fault
-  keywords_of names [] = Ok []
-  keywords_of names (p ∷ ps) = do
-    first ← keyword_of names p.stop p.tokens
-    others ← keywords_of (first.name ∷ names) ps
-    Ok (first ∷ others)
+-- what stands behind a name
+unfoldable pub behind_name : List ℕ → Piece → List Piece → Result (List (List ℕ)) Fault
+behind_name name stop [] = wrong stop.at Pair
+behind_name name stop (e ∷ ts) = if is_token 61 e then values_of name (front_place stop ts) (words_of stop ts) else wrong e.at Pair
 
-  abbrev pub request_in : List ℕ → List Part → Result (List Keyword) Fault
-  request_in verb [] = Ok []
-  request_in verb (p ∷ ps) = do
-    rest ← verb_of verb p.stop p.tokens
-    if length rest == 0 then keywords_of [] ps else wrong (front_place p.stop rest) Pair
+-- the name that a token is, behind these keywords
+unfoldable pub name_of : List Keyword → Piece → Result (List ℕ) Fault
+name_of before t =
+    let n = prefix_len is_name_byte t.text in
+    if not (is_name (take n t.text)) then wrong t.at Pair
+    else if has_name before (take n t.text) then wrong t.at (Repeated (take n t.text))
+    else if nat_lt n (length t.text) then wrong (t.at + n) Pair
+    else Ok (take n t.text)
 
-  -- the keywords of a text, or the first place that is wrong
-  unfoldable pub request_of : List ℕ → List ℕ → Result (List Keyword) Fault
-  request_of verb text = request_in verb (parts 44 (record { at = length text; text = [] }) (tokens 0 (lower text)))
+unfoldable pub keyword_of : List Keyword → Piece → List Piece → Result Keyword Fault
+keyword_of before stop [] = wrong stop.at Pair
+keyword_of before stop (t ∷ ts) = do
+  name ← name_of before t
+  values ← behind_name name stop ts
+  Ok (record { name = name; values = values })
+
+abbrev pub keyword_in : List Keyword → Part → Result Keyword Fault
+keyword_in before p = keyword_of before p.stop p.tokens
+
+-- nothing may stand behind the verb but keywords
+abbrev pub behind_verb : Option ℕ → List Part → Result (List Keyword) Fault
+behind_verb None ps = each_of keyword_in [] ps
+behind_verb (Some place) ps = wrong place Pair
+
+unfoldable pub request_in : List ℕ → List Part → Result (List Keyword) Fault
+request_in verb [] = Ok []
+request_in verb (p ∷ ps) = do
+  rest ← verb_of verb p.stop p.tokens
+  behind_verb (first_place rest) ps
+
+-- the keywords of a text, or the first place that is wrong
+unfoldable pub keywords_of : List ℕ → List ℕ → Result (List Keyword) Fault
+keywords_of verb text = request_in verb (parts 44 (record { at = length text; text = [] }) (tokens 0 (lower text)))

@@ -1,2 +1,9 @@
 pub mod Expansion
+pub mod Ranges
 pub mod Grammar
+pub mod Limits
+pub mod Seen
+pub mod Values
+pub mod Keywords
+pub mod Reading
+pub mod Requests

@@ -1,6 +1,23 @@
 //! Requests in the manner of MARS: a verb and keywords with their values, and the keys that they stand for.
 #![tactic(auto)]
 
+mod day;
+mod end;
+mod fault;
+mod keyword;
 mod laws;
+mod limits;
+mod part;
+mod range;
+mod reading;
+mod request;
+mod value;
+mod values;
+mod word;
 
+pub use fault::{RequestFault, RequestKind};
 pub use laws::{count_of_keys, key_by_division};
+pub use request::Request;
+
+#[cfg(test)]
+mod tests;

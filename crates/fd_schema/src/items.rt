@@ -48,7 +48,7 @@ fn is_name(text: &[u8]) -> bool
 }
 
 /// How many bytes of a name stand at the front.
-fn name_end(text: &[u8]) -> usize
+pub fn name_end(text: &[u8]) -> usize
     ensures value { result ≡ prefix_len is_name_byte text.now }
     ensures within { result ≤ length text.now }
 {
@@ -73,7 +73,7 @@ pub(crate) fn has_name(items: &[Item], name: &str) -> bool
 }
 
 /// A name as a text.
-fn name_text(name: &[u8]) -> &str
+pub fn name_text(name: &[u8]) -> &str
     requires { IsTrue (is_name name.now) }
     ensures { result.now ≡ name.now }
 {

@@ -13,10 +13,12 @@ mod tokens;
 mod values;
 
 pub use fault::{PlaceFault, SchemaFault, SchemaKind};
+pub use items::{name_end, name_text};
 pub use place::Place;
 pub use schema::Schema;
 pub use token::Token;
-pub use tokens::tokens_of;
+pub use tokens::{is_token, part_end, tokens_of};
+pub use values::ascii_text;
 
 #[cfg(test)]
 mod tests;

@@ -113,7 +113,7 @@ pub fn tokens_of<'a>(alloc: Global, text: &'a [u8]) -> Result<Vec<Token<'a>>, No
 }
 
 /// Tells that a token is this mark.
-pub(crate) fn is_token(mark: u8, token: &Token) -> bool
+pub fn is_token(mark: u8, token: &Token) -> bool
     ensures { result ≡ is_token mark (view token.now) }
 {
     match token.text {
@@ -136,7 +136,7 @@ fn mark_place(mark: u8, tokens: &[Token]) -> usize
 }
 
 /// The place of the first such mark from a place on, or the number of tokens.
-pub(crate) fn part_end(mark: u8, tokens: &[Token], from: usize) -> usize
+pub fn part_end(mark: u8, tokens: &[Token], from: usize) -> usize
     requires { from ≤ length tokens.now }
     ensures value { result ≡ from + mark_place mark (views (drop from tokens.now)) }
     ensures behind { from ≤ result }

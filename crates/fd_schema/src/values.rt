@@ -51,7 +51,7 @@ pub(crate) fn is_ascii(text: &[u8]) -> bool
 }
 
 /// Bytes that are ASCII, as a text.
-pub(crate) fn ascii_text(bytes: &[u8]) -> Option<&str>
+pub fn ascii_text(bytes: &[u8]) -> Option<&str>
     ensures { option_map (λ s. s.now) result ≡ (if is_ascii bytes.now then Some bytes.now else None) }
 {
     if !is_ascii(bytes) {

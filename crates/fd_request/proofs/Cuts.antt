@@ -1,0 +1,83 @@
+-- Tokens and words, one after the other.
+use Rattle.std.proofs.Common.{◌≡◌, ℕ, zero, suc, ◌+◌, ◌<◌, ◌≤◌, Bool, true, false, cond, eqb, List, [], ◌∷◌, ◌++◌, length, take, drop, get_or, map, Option, Some, None, refl, sym, ap, ◌∙◌, arith, append_assoc}
+use Rattle.std.specs.Prelude.{is_some}
+use Rattle.std.proofs.lemmas.Bool.{cond-true, cond-false, eq-eqb, ne_eqb}
+use Rattle.std.proofs.lemmas.List.{at_drop_more, at_drop_all, append-nil, map_push}
+use Rattle.fd_schema.specs.declared.token.Token.{Token}
+use Rattle.fd_schema.specs.Tokens.{Piece, Part, parts, view, views}
+use Rattle.fd_request.specs.declared.word.Word as code_word
+use Rattle.fd_request.specs.Grammar.{Word, side_by_side, joined, behind_words, first_of_two, word_in}
+use Rattle.fd_request.specs.Seen.{seen_word, seen_words}
+
+-- ---- tokens side by side
+
+pub beside : (place : ℕ) (ts : List Token) (i : ℕ) (t : Token) → i < length ts → t ≡ get_or ts i t → t.at ≡ place
+    → side_by_side place (views (drop i ts)) ≡ 1 + side_by_side (t.at + length t.text.now) (views (drop (i + 1) ts))
+unfolding side_by_side
+beside place ts i t lt is here =
+    at_drop_more (λ (us : List Token). side_by_side place (views us)) ts i t lt
+    ∙ ap (λ (x : Token). cond (eqb x.at place) (1 + side_by_side (place + length x.text.now) (views (drop (i + 1) ts))) 0) (sym is)
+    ∙ cond-true (eqb t.at place) (1 + side_by_side (place + length t.text.now) (views (drop (i + 1) ts))) 0 (eq-eqb t.at place here)
+    ∙ ap (λ k. 1 + side_by_side (k + length t.text.now) (views (drop (i + 1) ts))) (sym here)
+
+pub apart : (place : ℕ) (ts : List Token) (i : ℕ) (t : Token) → i < length ts → t ≡ get_or ts i t → (t.at ≡ place → ⊥) → side_by_side place (views (drop i ts)) ≡ 0
+unfolding side_by_side
+apart place ts i t lt is there =
+    at_drop_more (λ (us : List Token). side_by_side place (views us)) ts i t lt
+    ∙ ap (λ (x : Token). cond (eqb x.at place) (1 + side_by_side (place + length x.text.now) (views (drop (i + 1) ts))) 0) (sym is)
+    ∙ cond-false (eqb t.at place) (1 + side_by_side (place + length t.text.now) (views (drop (i + 1) ts))) 0 (ne_eqb t.at place there)
+
+pub none_beside : (place : ℕ) (ts : List Token) (i : ℕ) → length ts ≤ i → side_by_side place (views (drop i ts)) ≡ 0
+unfolding side_by_side
+none_beside place ts i le = at_drop_all (λ (us : List Token). side_by_side place (views us)) ts i le
+
+-- ---- their bytes
+
+pub one_joined : (out : List ℕ) (ts : List Token) (i : ℕ) (t : Token) → i < length ts → t ≡ get_or ts i t
+    → out ++ joined (views (drop i ts)) ≡ (out ++ t.text.now) ++ joined (views (drop (i + 1) ts))
+unfolding joined
+one_joined out ts i t lt is =
+    ap (λ (bs : List ℕ). out ++ bs) (at_drop_more (λ (us : List Token). joined (views us)) ts i t lt ∙ ap (λ (x : Token). x.text.now ++ joined (views (drop (i + 1) ts))) (sym is))
+    ∙ sym (append_assoc out t.text.now (joined (views (drop (i + 1) ts))))
+
+pub all_joined : (out : List ℕ) (ts : List Token) (i : ℕ) → length ts ≤ i → out ++ joined (views (drop i ts)) ≡ out
+unfolding joined
+all_joined out ts i le = ap (λ (bs : List ℕ). out ++ bs) (at_drop_all (λ (us : List Token). joined (views us)) ts i le) ∙ append-nil out
+
+-- ---- what stands behind words
+
+one_behind : (ws : List code_word.Word) (i : ℕ) (w : code_word.Word) → i < length ws → w ≡ get_or ws i w
+    → behind_words (seen_words (drop i ws)) ≡ first_of_two w.behind (behind_words (seen_words (drop (i + 1) ws)))
+unfolding behind_words
+one_behind ws i w lt is =
+    at_drop_more (λ (us : List code_word.Word). behind_words (seen_words us)) ws i w lt
+    ∙ ap (λ (x : code_word.Word). first_of_two x.behind (behind_words (seen_words (drop (i + 1) ws)))) (sym is)
+
+first_is : (o p : Option ℕ) → is_some o ≡ true → first_of_two o p ≡ o
+first_is None p h = absurd (cc)
+first_is (Some x) p h = refl
+
+second_is : (o p : Option ℕ) → is_some o ≡ false → first_of_two o p ≡ p
+second_is None p h = refl
+second_is (Some x) p h = absurd (cc)
+
+pub found_behind : (ws : List code_word.Word) (i : ℕ) (w : code_word.Word) → i < length ws → w ≡ get_or ws i w → is_some w.behind ≡ true → behind_words (seen_words (drop i ws)) ≡ w.behind
+found_behind ws i w lt is some = one_behind ws i w lt is ∙ first_is w.behind (behind_words (seen_words (drop (i + 1) ws))) some
+
+pub not_behind : (ws : List code_word.Word) (i : ℕ) (w : code_word.Word) → i < length ws → w ≡ get_or ws i w → is_some w.behind ≡ false → behind_words (seen_words (drop i ws)) ≡ behind_words (seen_words (drop (i + 1) ws))
+not_behind ws i w lt is none = one_behind ws i w lt is ∙ second_is w.behind (behind_words (seen_words (drop (i + 1) ws))) none
+
+pub none_behind : (ws : List code_word.Word) (i : ℕ) → length ws ≤ i → behind_words (seen_words (drop i ws)) ≡ None
+unfolding behind_words
+none_behind ws i le = at_drop_all (λ (us : List code_word.Word). behind_words (seen_words us)) ws i le
+
+-- ---- one more word
+
+pub word_more : (ws new : List code_word.Word) (w : code_word.Word) (p : Part) (ps qs : List Part) (all : List Word)
+    → new ≡ ws ++ w ∷ [] → seen_word w ≡ word_in p → qs ≡ p ∷ ps → seen_words ws ++ map word_in qs ≡ all → seen_words new ++ map word_in ps ≡ all
+word_more ws new w p ps qs all pushed is parts_are so_far =
+    ap (λ (us : List code_word.Word). seen_words us ++ map word_in ps) pushed
+    ∙ ap (λ (us : List Word). us ++ map word_in ps) (map_push seen_word ws w)
+    ∙ append_assoc (seen_words ws) (seen_word w ∷ []) (map word_in ps)
+    ∙ ap (λ (x : Word). seen_words ws ++ (x ∷ map word_in ps)) is
+    ∙ ap (λ (us : List Part). seen_words ws ++ map word_in us) (sym parts_are) ∙ so_far

@@ -1,0 +1,131 @@
+-- One step of each reading.
+use Rattle.std.proofs.Common.{◌≡◌, ℕ, zero, suc, ◌+◌, ◌<◌, ◌≤◌, Bool, true, false, cond, not, List, [], ◌∷◌, ◌++◌, length, get_or, drop, map, Option, Some, None, Result, Ok, Err, eqb, refl, ap, subst, ◌∙◌, sym, arith, append_assoc}
+use Rattle.std.specs.Prelude.{◌&&◌, ◌||◌, String, string_bytes}
+use Rattle.std.specs.List.{list_all, list_any}
+use Rattle.std.specs.Str.{bytes_eq}
+use Rattle.std.specs.declared.alloc.Global.{Global}
+use Rattle.std.proofs.lemmas.Bool.{and_parts, and_from}
+use Rattle.std.proofs.lemmas.List.{at_drop_more, at_drop_all, map_push, append-nil}
+use Rattle.fd_key.specs.Names.{is_value}
+use Rattle.fd_schema.specs.Tokens.{Piece, Part, begins_word, glue, with_byte, tokens, is_word, is_blank}
+use Rattle.fd_schema.specs.Seen.{texts}
+use Rattle.fd_request.specs.declared.word.Word as code_word
+use Rattle.fd_request.specs.declared.keyword.Keyword as code_keyword
+use Rattle.fd_request.specs.declared.fault.Refusal.{Refusal}
+use Rattle.fd_request.specs.declared.fault.Refusal.TheVariants as refusals
+use Rattle.fd_request.specs.Expansion.{Keyword}
+use Rattle.fd_request.specs.Grammar.{Fault, ◌>>=◌, wrong, Word, each_of, value_of, value_in, keyword_in, has_name, verb_of, first_place, behind_verb, request_in}
+use Rattle.fd_request.specs.Seen.{seen_word, seen_words}
+use Rattle.fd_request.specs.Keywords.{seen_keyword, seen_keywords, differ_after}
+use Rattle.fd_request.specs.Reading.{Fails}
+
+pub goes : {A B : Type 0} (read : List A → B → Result A Fault) (before : List A) (p : B) (ps : List B) (x : A) → read before p ≡ Ok x → each_of read before (p ∷ ps) ≡ each_of read (before ++ x ∷ []) ps
+unfolding each_of
+goes read before p ps x e = rw e refl
+
+pub stops : {A B : Type 0} (read : List A → B → Result A Fault) (before : List A) (p : B) (ps : List B) (e : Refusal) → Fails e (read before p) → Fails e (each_of read before (p ∷ ps))
+unfolding each_of
+stops read before p ps (refusals.At at kind) h = rw h refl
+stops read before p ps refusals.NoMemory h = tt
+
+pub ends : {A B : Type 0} (read : List A → B → Result A Fault) (before : List A) → each_of read before [] ≡ Ok before
+unfolding each_of
+ends read before = refl
+
+-- ---- values
+
+next_word : (name : List ℕ) (vs : List (List ℕ)) (ws : List code_word.Word) (i : ℕ) (w : code_word.Word) → i < length ws → w ≡ get_or ws i w
+    → each_of (value_in name) vs (seen_words (drop i ws)) ≡ each_of (value_in name) vs (seen_word w ∷ seen_words (drop (i + 1) ws))
+next_word name vs ws i w lt is =
+    at_drop_more (λ (us : List code_word.Word). each_of (value_in name) vs (seen_words us)) ws i w lt
+    ∙ ap (λ (x : code_word.Word). each_of (value_in name) vs (seen_word x ∷ seen_words (drop (i + 1) ws))) (sym is)
+
+pub value_stops : (name : List ℕ) (vs : List (List ℕ)) (ws : List code_word.Word) (i : ℕ) (w : code_word.Word) (e : Refusal) (total : Result (List (List ℕ)) Fault) → i < length ws → w ≡ get_or ws i w
+    → each_of (value_in name) vs (seen_words (drop i ws)) ≡ total → Fails e (value_of name (seen_word w)) → Fails e total
+value_stops name vs ws i w e total lt is so_far h =
+    subst (λ (r : Result (List (List ℕ)) Fault). Fails e r) (sym (next_word name vs ws i w lt is) ∙ so_far) (stops (value_in name) vs (seen_word w) (seen_words (drop (i + 1) ws)) e h)
+
+pub value_goes : (name : List ℕ) (vs new : List (String Global)) (ws : List code_word.Word) (i : ℕ) (w : code_word.Word) (v : String Global) (total : Result (List (List ℕ)) Fault) → i < length ws → w ≡ get_or ws i w
+    → each_of (value_in name) (texts vs) (seen_words (drop i ws)) ≡ total → value_of name (seen_word w) ≡ Ok (string_bytes v) → new ≡ vs ++ v ∷ []
+    → each_of (value_in name) (texts new) (seen_words (drop (i + 1) ws)) ≡ total
+value_goes name vs new ws i w v total lt is so_far h pushed =
+    ap (λ (us : List (String Global)). each_of (value_in name) (texts us) (seen_words (drop (i + 1) ws))) pushed
+    ∙ ap (λ (us : List (List ℕ)). each_of (value_in name) us (seen_words (drop (i + 1) ws))) (map_push string_bytes vs v)
+    ∙ sym (goes (value_in name) (texts vs) (seen_word w) (seen_words (drop (i + 1) ws)) (string_bytes v) h)
+    ∙ sym (next_word name (texts vs) ws i w lt is) ∙ so_far
+
+pub values_end : (name : List ℕ) (vs : List (List ℕ)) (ws : List code_word.Word) (i : ℕ) → length ws ≤ i → each_of (value_in name) vs (seen_words (drop i ws)) ≡ Ok vs
+values_end name vs ws i le = at_drop_all (λ (us : List code_word.Word). each_of (value_in name) vs (seen_words us)) ws i le ∙ ends (value_in name) vs
+
+all_push : (xs : List (List ℕ)) (x : List ℕ) → list_all is_value xs ≡ true → is_value x ≡ true → list_all is_value (xs ++ x ∷ []) ≡ true
+all_push [] x h k = and_from (is_value x) true k refl
+all_push (y ∷ ys) x h k =
+    let parts = and_parts (is_value y) (list_all is_value ys) h in
+    and_from (is_value y) (list_all is_value (ys ++ x ∷ [])) parts.0 (all_push ys x parts.1 k)
+
+pub one_more_value : (vs new : List (String Global)) (v : String Global) → new ≡ vs ++ v ∷ [] → list_all is_value (texts vs) ≡ true → is_value (string_bytes v) ≡ true → list_all is_value (texts new) ≡ true
+one_more_value vs new v pushed h k =
+    ap (λ (us : List (String Global)). list_all is_value (texts us)) pushed ∙ ap (list_all is_value) (map_push string_bytes vs v) ∙ all_push (texts vs) (string_bytes v) h k
+
+-- ---- keywords
+
+pub keyword_stops : (ks : List Keyword) (p : Part) (ps qs : List Part) (e : Refusal) (total : Result (List Keyword) Fault) → qs ≡ p ∷ ps → each_of keyword_in ks qs ≡ total → Fails e (keyword_in ks p) → Fails e total
+keyword_stops ks p ps qs e total is so_far h =
+    subst (λ (r : Result (List Keyword) Fault). Fails e r) (ap (each_of keyword_in ks) (sym is) ∙ so_far) (stops keyword_in ks p ps e h)
+
+pub keyword_goes : (ks new : List code_keyword.Keyword) (k : code_keyword.Keyword) (p : Part) (ps qs : List Part) (total : Result (List Keyword) Fault) → new ≡ ks ++ k ∷ [] → qs ≡ p ∷ ps
+    → each_of keyword_in (seen_keywords ks) qs ≡ total → keyword_in (seen_keywords ks) p ≡ Ok (seen_keyword k) → each_of keyword_in (seen_keywords new) ps ≡ total
+keyword_goes ks new k p ps qs total pushed is so_far h =
+    ap (λ (us : List code_keyword.Keyword). each_of keyword_in (seen_keywords us) ps) pushed
+    ∙ ap (λ (us : List Keyword). each_of keyword_in us ps) (map_push seen_keyword ks k)
+    ∙ sym (goes keyword_in (seen_keywords ks) p ps (seen_keyword k) h) ∙ ap (each_of keyword_in (seen_keywords ks)) (sym is) ∙ so_far
+
+pub keywords_end : (ks : List code_keyword.Keyword) (total : Result (List Keyword) Fault) → each_of keyword_in (seen_keywords ks) [] ≡ total → total ≡ Ok (seen_keywords ks)
+keywords_end ks total so_far = sym so_far ∙ ends keyword_in (seen_keywords ks)
+
+differ_push : (before ks : List Keyword) (k : Keyword) → differ_after before ks ≡ true → has_name (before ++ ks) k.name ≡ false → differ_after before (ks ++ k ∷ []) ≡ true
+differ_push before [] k h new = and_from (not (has_name before k.name)) true (ap not (ap (λ (us : List Keyword). has_name us k.name) (sym (append-nil before)) ∙ new)) refl
+differ_push before (j ∷ ks) k h new =
+    let parts = and_parts (not (has_name before j.name)) (differ_after (before ++ j ∷ []) ks) h in
+    and_from (not (has_name before j.name)) (differ_after (before ++ j ∷ []) (ks ++ k ∷ [])) parts.0
+    (differ_push (before ++ j ∷ []) ks k parts.1 (ap (λ (us : List Keyword). has_name us k.name) (append_assoc before (j ∷ []) ks) ∙ new))
+
+pub one_more_name : (ks new : List code_keyword.Keyword) (k : code_keyword.Keyword) → new ≡ ks ++ k ∷ [] → differ_after [] (seen_keywords ks) ≡ true → has_name (seen_keywords ks) (string_bytes k.name) ≡ false
+    → differ_after [] (seen_keywords new) ≡ true
+one_more_name ks new k pushed h fresh =
+    ap (λ (us : List code_keyword.Keyword). differ_after [] (seen_keywords us)) pushed
+    ∙ ap (differ_after []) (map_push seen_keyword ks k) ∙ differ_push [] (seen_keywords ks) (seen_keyword k) h fresh
+
+-- ---- there are no more tokens than bytes
+
+glue_few : (at b : ℕ) (ts : List Piece) → length (glue at b ts) ≤ length ts + 1
+glue_few at b [] = omega arith
+glue_few at b (t ∷ ts) = go (eqb t.at (at + 1) && begins_word t.text)
+  where
+    go : (c : Bool) → length (cond c (record { at = at; text = b ∷ t.text } ∷ ts) (record { at = at; text = b ∷ [] } ∷ t ∷ ts)) ≤ length (t ∷ ts) + 1
+    go true = omega arith
+    go false = omega arith
+
+with_byte_few : (at b : ℕ) (ts : List Piece) → length (with_byte at b ts) ≤ length ts + 1
+with_byte_few at b ts = go (is_word b) (is_blank b) (glue_few at b ts)
+  where
+    go : (c d : Bool) → length (glue at b ts) ≤ length ts + 1 → length (cond c (glue at b ts) (cond d ts (record { at = at; text = b ∷ [] } ∷ ts))) ≤ length ts + 1
+    go true d h = h
+    go false true h = omega arith
+    go false false h = omega arith
+
+pub tokens_few : (at : ℕ) (text : List ℕ) → length (tokens at text) ≤ length text
+unfolding tokens
+tokens_few at [] = omega arith
+tokens_few at (b ∷ bs) = omega (arith, with_byte_few at b (tokens (at + 1) bs), tokens_few (at + 1) bs)
+
+-- ---- requests
+
+pub verb_stops : (verb : List ℕ) (p : Part) (ps qs : List Part) (e : Refusal) → qs ≡ p ∷ ps → Fails e (verb_of verb p.stop p.tokens) → Fails e (request_in verb qs)
+unfolding request_in
+verb_stops verb p ps qs (refusals.At at kind) is h = rw (is, h) refl
+verb_stops verb p ps qs refusals.NoMemory is h = tt
+
+pub verb_goes : (verb : List ℕ) (p : Part) (ps qs : List Part) (rest : List Piece) (place : Option ℕ) → qs ≡ p ∷ ps → verb_of verb p.stop p.tokens ≡ Ok rest → place ≡ first_place rest → request_in verb qs ≡ behind_verb place ps
+unfolding request_in
+verb_goes verb p ps qs rest place is h e = rw (is, h, e) refl

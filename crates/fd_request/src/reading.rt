@@ -1,0 +1,253 @@
+// Keywords, from the first token to the last.
+ghost use Rattle.std.specs.Prelude.{◌≡◌, ◌<◌, ◌≤◌, ◌+◌, ◌-◌, [], ◌∷◌, ◌++◌, ℕ, List, IsTrue, true, false, IfOk, length, take, drop, string_bytes, codes};
+ghost use Rattle.std.specs.List.{list_any, prefix_len};
+ghost use Rattle.std.specs.Str.{bytes_eq};
+ghost use Rattle.fd_key.specs.Names.{is_name, is_name_byte, is_value, lower};
+ghost use Rattle.fd_schema.specs.Tokens.{view, views, parts, tokens};
+ghost use Rattle.fd_schema.specs.Seen.{texts};
+ghost use Rattle.fd_request.specs.Ranges.{range_of};
+ghost use Rattle.fd_request.specs.Grammar.{each_of, front_place, verb_of, value_of, value_in, values_of, range_or, word_texts, behind_words, words_of, has_name, behind_name, name_of, keyword_of, keyword_in, behind_verb, request_in, keywords_of};
+ghost use Rattle.fd_request.specs.Seen.{seen_word, seen_words};
+ghost use Rattle.fd_request.specs.Values.{seen_values, AreValues};
+ghost use Rattle.fd_request.specs.Keywords.{seen_keyword, seen_keywords, differ_after};
+ghost use Rattle.fd_request.specs.Reading.{Gives, Fails};
+
+use crate::fault::{Refusal, RequestKind};
+use crate::keyword::Keyword;
+use crate::part::part_from;
+use crate::value::spelled;
+use crate::values::{Values, range_of};
+use crate::word::{Word, behind_words, first_place, front_place, has_range_word, words_of};
+use fd_bytes::NoMemory;
+use fd_key::is_name;
+use fd_schema::{Token, is_token, name_end, name_text, tokens_of};
+use std::alloc::Global;
+
+/// A value in its one spelling.
+#[tactic(auto, unfolding(crate::specs::Grammar::value_of))]
+fn value(alloc: Global, name: &str, word: &Word) -> Result<String, Refusal>
+    ensures gives { Gives string_bytes result (value_of name.now (seen_word word.now)) }
+    ensures value { IfOk result (λ s. IsTrue (is_value (string_bytes s))) }
+{
+    let Some(value) = spelled(alloc, name, &word.text)? else {
+        return Err(Refusal::At(word.at, RequestKind::Value));
+    };
+    match word.behind {
+        None => Ok(value),
+        Some(place) => Err(Refusal::At(place, RequestKind::Pair)),
+    }
+}
+
+/// Values with slashes between them.
+fn listed(alloc: Global, name: &str, words: &[Word]) -> Result<Vec<String>, Refusal>
+    requires { 0 < length words.now }
+    ensures gives { Gives (λ v. texts v.items) result (each_of (value_in name.now) [] (seen_words words.now)) }
+    ensures values { IfOk result (λ v. AreValues (texts v.items)) }
+{
+    let mut values = Vec::new(alloc);
+    for word in words {
+        match value(alloc, name, word) {
+            Ok(value) => values.push(value)?,
+            Err(refusal) => return Err(refusal),
+        }
+    }
+    Ok(values)
+}
+
+/// The values of a range.
+fn ranged(alloc: Global, name: &str, at: usize, words: &[Word]) -> Result<Values, Refusal>
+    ensures gives { Gives seen_values result (range_or (range_of name.now (word_texts (seen_words words.now))) at (behind_words (seen_words words.now))) }
+    ensures values { IfOk result (λ v. AreValues (seen_values v)) }
+{
+    let Some(range) = range_of(alloc, name, words)? else {
+        return Err(Refusal::At(at, RequestKind::Range));
+    };
+    match behind_words(words) {
+        None => Ok(Values::Stepped(range)),
+        Some(place) => Err(Refusal::At(place, RequestKind::Pair)),
+    }
+}
+
+/// The values of a name, the first of which begins at this place.
+#[tactic(auto, unfolding(crate::specs::Grammar::values_of))]
+fn values(alloc: Global, name: &str, at: usize, words: &[Word]) -> Result<Values, Refusal>
+    requires { 0 < length words.now }
+    ensures gives { Gives seen_values result (values_of name.now at (seen_words words.now)) }
+    ensures values { IfOk result (λ v. AreValues (seen_values v)) }
+{
+    if has_range_word(words) {
+        return ranged(alloc, name, at, words);
+    }
+    match listed(alloc, name, words) {
+        Ok(texts) => Ok(Values::Listed(texts)),
+        Err(refusal) => Err(refusal),
+    }
+}
+
+/// What stands behind a name.
+#[tactic(auto, unfolding(crate::specs::Grammar::behind_name))]
+fn behind_name(alloc: Global, name: &str, stop: &Token, tokens: &[Token]) -> Result<Values, Refusal>
+    ensures gives { Gives seen_values result (behind_name name.now (view stop.now) (views tokens.now)) }
+    ensures values { IfOk result (λ v. AreValues (seen_values v)) }
+{
+    let [first, others @ ..] = tokens else {
+        return Err(Refusal::At(stop.at, RequestKind::Pair));
+    };
+    if !is_token(b'=', first) {
+        return Err(Refusal::At(first.at, RequestKind::Pair));
+    }
+    let words = words_of(alloc, stop, others)?;
+    values(alloc, name, front_place(stop, others), &words)
+}
+
+/// Tells that one of the keywords has the name.
+fn has_name(keywords: &[Keyword], name: &str) -> bool
+    ensures { result ≡ has_name (seen_keywords keywords.now) name.now }
+{
+    for keyword in keywords {
+        if keyword.name.as_str() == name {
+            return true;
+        }
+    }
+    false
+}
+
+/// The name that a token is, behind these keywords.
+#[tactic(auto, unfolding(crate::specs::Grammar::name_of))]
+fn name_of(alloc: Global, before: &[Keyword], token: &Token) -> Result<String, Refusal>
+    ensures gives { Gives string_bytes result (name_of (seen_keywords before.now) (view token.now)) }
+    ensures name { IfOk result (λ s. is_name (string_bytes s) ≡ true) }
+    ensures new { IfOk result (λ s. has_name (seen_keywords before.now) (string_bytes s) ≡ false) }
+{
+    let end = name_end(token.text);
+    let (front, _) = token.text.split_at(end);
+    if !is_name(front) {
+        return Err(Refusal::At(token.at, RequestKind::Pair));
+    }
+    let name = String::from_str(alloc, name_text(front))?;
+    if has_name(before, name.as_str()) {
+        return Err(Refusal::At(token.at, RequestKind::Repeated(name)));
+    }
+    if end < token.text.len() {
+        return Err(Refusal::At(token.at + end, RequestKind::Pair));
+    }
+    Ok(name)
+}
+
+/// A keyword, behind these.
+#[tactic(auto, unfolding(crate::specs::Grammar::keyword_of))]
+fn keyword(
+    alloc: Global,
+    before: &[Keyword],
+    stop: &Token,
+    tokens: &[Token],
+) -> Result<Keyword, Refusal>
+    ensures gives { Gives seen_keyword result (keyword_of (seen_keywords before.now) (view stop.now) (views tokens.now)) }
+    ensures new { IfOk result (λ k. has_name (seen_keywords before.now) (string_bytes k.name) ≡ false) }
+{
+    let [first, others @ ..] = tokens else {
+        return Err(Refusal::At(stop.at, RequestKind::Pair));
+    };
+    let name = name_of(alloc, before, first)?;
+    let values = behind_name(alloc, name.as_str(), stop, others)?;
+    Ok(Keyword { name, values })
+}
+
+/// The keywords from a token on.
+fn keywords<'s, 't>(
+    alloc: Global,
+    stop: &'s Token<'t>,
+    tokens: &'s [Token<'t>],
+    first: usize,
+) -> Result<Vec<Keyword>, Refusal>
+    requires { first ≤ length tokens.now }
+    ensures gives { Gives (λ v. seen_keywords v.items) result (each_of keyword_in [] (parts 44 (view stop.now) (views (drop first tokens.now)))) }
+    ensures differ { IfOk result (λ v. differ_after [] (seen_keywords v.items) ≡ true) }
+    ensures few { IfOk result (λ v. length v.items ≤ length tokens.now + 1) }
+{
+    let mut found = Vec::new(alloc);
+    let mut from = first;
+    'parts: loop {
+        let (inside, behind, next) = part_from(b',', stop, tokens, from);
+        match keyword(alloc, &found, behind, inside) {
+            Ok(keyword) => found.push(keyword)?,
+            Err(refusal) => return Err(refusal),
+        }
+        match next {
+            None => return Ok(found),
+            Some(place) => from = place,
+        }
+    }
+}
+
+/// The tokens behind the verb.
+#[tactic(auto, unfolding(crate::specs::Grammar::verb_of))]
+fn verb_of<'s, 't>(
+    verb: &[u8],
+    stop: &Token,
+    tokens: &'s [Token<'t>],
+) -> Result<&'s [Token<'t>], Refusal>
+    ensures { Gives (λ ts. views ts.now) result (verb_of verb.now (view stop.now) (views tokens.now)) }
+{
+    let [first, others @ ..] = tokens else {
+        return Err(Refusal::At(stop.at, RequestKind::Verb));
+    };
+    let end = name_end(first.text);
+    let (front, _) = first.text.split_at(end);
+    if front != verb {
+        return Err(Refusal::At(first.at, RequestKind::Verb));
+    }
+    if end < first.text.len() {
+        return Err(Refusal::At(first.at + end, RequestKind::Pair));
+    }
+    Ok(others)
+}
+
+/// The keywords behind this verb.
+fn request_in<'s, 't>(
+    alloc: Global,
+    verb: &[u8],
+    stop: &'s Token<'t>,
+    tokens: &'s [Token<'t>],
+) -> Result<Vec<Keyword>, Refusal>
+    ensures gives { Gives (λ v. seen_keywords v.items) result (request_in verb.now (parts 44 (view stop.now) (views tokens.now))) }
+    ensures differ { IfOk result (λ v. differ_after [] (seen_keywords v.items) ≡ true) }
+    ensures few { IfOk result (λ v. length v.items ≤ length tokens.now + 1) }
+{
+    let (inside, behind, next) = part_from(b',', stop, tokens, 0);
+    match verb_of(verb, behind, inside) {
+        Err(refusal) => Err(refusal),
+        Ok(rest) => match first_place(rest) {
+            Some(place) => Err(Refusal::At(place, RequestKind::Pair)),
+            None => match next {
+                Some(place) => keywords(alloc, stop, tokens, place),
+                None => Ok(Vec::new(alloc)),
+            },
+        },
+    }
+}
+
+/// The text in lower case.
+fn lower(alloc: Global, text: &[u8]) -> Result<Vec<u8>, NoMemory>
+    ensures { IfOk result (λ v. v.items ≡ lower text.now) }
+{
+    let mut lowered = text.to_vec(alloc)?;
+    lowered.as_mut_slice().make_ascii_lowercase();
+    Ok(lowered)
+}
+
+/// The keywords of a text with this verb, or the first place that is wrong.
+#[tactic(auto, unfolding(crate::specs::Grammar::keywords_of))]
+pub(crate) fn keywords_of(alloc: Global, verb: &[u8], text: &[u8]) -> Result<Vec<Keyword>, Refusal>
+    ensures gives { Gives (λ v. seen_keywords v.items) result (keywords_of verb.now text.now) }
+    ensures differ { IfOk result (λ v. differ_after [] (seen_keywords v.items) ≡ true) }
+    ensures few { IfOk result (λ v. length v.items ≤ length text.now + 1) }
+{
+    let lowered = lower(alloc, text)?;
+    let tokens = tokens_of(alloc, &lowered)?;
+    let end = Token {
+        at: text.len(),
+        text: b"",
+    };
+    request_in(alloc, verb, &end, &tokens)
+}

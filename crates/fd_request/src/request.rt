@@ -1,0 +1,126 @@
+ghost use Rattle.std.specs.Prelude.{◌≡◌, ◌<◌, ◌≤◌, ◌+◌, [], Some, IfOk, true, length, slice_get, codes};
+ghost use Rattle.fd_request.specs.Expansion.{expand};
+ghost use Rattle.fd_request.specs.Grammar.{wrong, TooLong};
+ghost use Rattle.fd_request.specs.Limits.{request_of};
+ghost use Rattle.fd_request.specs.Keywords.{seen_keywords, differ_after};
+ghost use Rattle.fd_request.specs.Reading.{GivesKeywords};
+ghost use Rattle.fd_request.specs.Requests.{IsPlace, IsFaultOf};
+
+use crate::fault::{Refusal, RequestFault, RequestKind};
+use crate::keyword::Keyword;
+use crate::limits::count_of;
+use crate::reading::keywords_of;
+use fd_bytes::NoMemory;
+use fd_key::Key;
+use std::alloc::Global;
+use std::marker::Model;
+
+/// The most bytes of a request.
+pub(crate) const BYTES: usize = 65_536;
+
+/// A request: the keys of fields, in an order.
+#[derive(Debug, Drop)]
+pub struct Request {
+    keywords: Vec<Keyword>,
+    count: u32,
+}
+
+impl Model for Request {
+    ghost use Rattle.std.specs.Prelude.{List};
+    ghost use Rattle.fd_request.specs.Expansion as expansion;
+    ghost use Rattle.fd_request.specs.Keywords.{seen_keywords};
+    ghost use Rattle.fd_request.specs.Requests.{IsRequest};
+
+    ghost Value = { List expansion.Keyword };
+
+    ghost view = { λ r. seen_keywords r.keywords.items };
+
+    ghost invariant = { λ r. IsRequest r.count (seen_keywords r.keywords.items) };
+}
+
+fn too_long() -> RequestFault
+    ensures { GivesKeywords (Err result) (wrong 65536 TooLong) }
+{
+    RequestFault::At {
+        at: BYTES as u32,
+        kind: RequestKind::TooLong,
+    }
+}
+
+/// The fault that a refusal is in a text of this size.
+pub(crate) fn refused(size: usize, refusal: Refusal) -> RequestFault
+    requires { IsPlace size refusal }
+    ensures { IsFaultOf size refusal result }
+{
+    match refusal {
+        Refusal::NoMemory => RequestFault::NoMemory,
+        Refusal::At(at, kind) => {
+            if BYTES < size && BYTES <= at {
+                too_long()
+            } else {
+                RequestFault::At {
+                    at: at as u32,
+                    kind,
+                }
+            }
+        }
+    }
+}
+
+impl Request {
+    /// Reads a request: `retrieve`, and for each keyword a comma, a name, `=` and values. Values are a list `v/w`, or a range
+    /// `a/to/b` or `a/to/b/by/c`, whose step `c` is 1 where it is left out. Spaces, tabs and line feeds stand anywhere between
+    /// names, values and marks, and upper-case letters are read as lower-case ones. Each value is brought to its one spelling.
+    ///
+    /// The answer `At` names the first place that is wrong.
+    pub fn read(alloc: Global, text: &[u8]) -> Result<Request, RequestFault>
+        ensures { GivesKeywords result (request_of text.now) }
+    {
+        let keywords = match keywords_of(alloc, b"retrieve", text) {
+            Ok(keywords) => keywords,
+            Err(refusal) => return Err(refused(text.len(), refusal)),
+        };
+        if BYTES < text.len() {
+            return Err(too_long());
+        }
+        match count_of(alloc, text.len(), &keywords) {
+            Ok(count) => Ok(Request { keywords, count }),
+            Err(refusal) => Err(refused(text.len(), refusal)),
+        }
+    }
+
+    /// The number of keys: the product of the numbers of values.
+    pub fn count(&self) -> u32
+        ensures { result ≡ length (expand self.now) }
+    {
+        self.count
+    }
+
+    /// The key at a place, from 0. The last keyword is the fastest, and a value that comes again gives a key again.
+    pub fn key(&self, alloc: Global, i: u32) -> Result<Key, NoMemory>
+        requires { i < length (expand self.now) }
+        ensures { IfOk result (λ k. slice_get (expand self.now) i ≡ Some k) }
+    {
+        key_at(alloc, &self.keywords, self.count, i)
+    }
+}
+
+/// The key with a number, by division.
+fn key_at(alloc: Global, keywords: &[Keyword], count: u32, number: u32) -> Result<Key, NoMemory>
+    requires count { count ≡ length (expand (seen_keywords keywords.now)) }
+    requires differ { differ_after [] (seen_keywords keywords.now) ≡ true }
+    requires few { length keywords.now ≤ 65537 }
+    requires within { number < count }
+    ensures { IfOk result (λ k. slice_get (expand (seen_keywords keywords.now)) number ≡ Some k) }
+{
+    let mut key = Key::new(alloc)?;
+    let mut block = u64::from(count);
+    let mut rest = u64::from(number);
+    for keyword in keywords {
+        block /= keyword.values.count();
+        let text = keyword.values.text(alloc, rest / block)?;
+        key.set(alloc, keyword.name.as_str(), text.as_str())?;
+        rest %= block;
+    }
+    Ok(key)
+}
