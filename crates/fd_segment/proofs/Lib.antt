@@ -1,0 +1,4 @@
+pub mod Copied
+pub mod Differing
+pub mod Keys
+pub mod Counting
