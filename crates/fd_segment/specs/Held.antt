@@ -38,16 +38,17 @@ batch_in e index fields =
     then pairs_within e.fields_len (take e.fields_len fields) (records_in e index)
     else None
 
+-- the same, where both files are told
+abbrev pub batch_told : Entry → Option (List ℕ) → Option (List ℕ) → Option (List Pair)
+batch_told e (Some index) (Some fields) = batch_in e index fields
+batch_told e (Some index) None = None
+batch_told e None fields = None
+
 -- The batch that an entry stands for: a pair for each record of the first bytes of its index file, with the bytes out of
 -- the first bytes of its field file. There is none where a file isn't told or is shorter than the entry says, where the
 -- index isn't in the format, and where a record ends beyond the fields.
 unfoldable pub batch_of : Files → Option (List Pair)
-batch_of f = told f.index f.fields
-  where
-    told : Option (List ℕ) → Option (List ℕ) → Option (List Pair)
-    told (Some index) (Some fields) = batch_in f.entry index fields
-    told (Some index) None = None
-    told None fields = None
+batch_of f = batch_told f.entry f.index f.fields
 
 -- two batches have the same bytes at each key
 abbrev pub Alike : List Pair → List Pair → Type 0

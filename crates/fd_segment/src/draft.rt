@@ -158,8 +158,16 @@ where
                 left: full.left,
             });
         }
-        let _ = bytes.len();
-        Err(PutFault::NoMemory)
+        if let Err(fault) = self.field_file.write_at(self.end, bytes) {
+            return Err(PutFault::Fault(fault));
+        }
+        match self.records.put(key, self.end, bytes.len() as u64) {
+            Ok(()) => {
+                self.end += bytes.len() as u64;
+                Ok(())
+            }
+            Err(_) => Err(PutFault::NoMemory),
+        }
     }
 
     /// The number of distinct keys that were put.
