@@ -1,2 +1,4 @@
 pub mod Searching
 pub mod Putting
+pub mod Paging
+pub mod ReadTurns

@@ -33,7 +33,7 @@ keys_are : (rs : List Record) → keys_of (pairs_of rs) ≡ keys rs
 keys_are [] = refl
 keys_are (r ∷ rs) = ap (λ ks. r.key ∷ ks) (keys_are rs)
 
-pairs_rise : (rs : List Record) → Rising rs → IsStrictlySortedBy (slice_cmp nat_cmp) (keys_of (pairs_of rs))
+pub pairs_rise : (rs : List Record) → Rising rs → IsStrictlySortedBy (slice_cmp nat_cmp) (keys_of (pairs_of rs))
 pairs_rise rs h = subst (IsStrictlySortedBy (slice_cmp nat_cmp)) (sym (keys_are rs)) h
 
 key_at : (es : List Pair) (i : ℕ) (e : Pair) (d : List ℕ) → slice_get es i ≡ Some e → get_or (keys_of es) i d ≡ e.0

@@ -2,12 +2,31 @@ ghost use Rattle.std.specs.Prelude.{◌≡◌, ◌≤◌, [], length, is_some, I
 ghost use Rattle.fd_index.specs.Records.{Rising, StandsFor, place_of};
 ghost use Rattle.fd_index.specs.Builder.{has_room, room_for, FullAs, HoldsPut};
 ghost use Rattle.fd_index.specs.Pages.{IsIndex};
+ghost use Rattle.fd_index.specs.Seen.{IsPut};
 
 use crate::fault::{Full, IndexPut};
+use crate::pages::file_of;
 use fd_bytes::NoMemory;
 use std::alloc::Global;
 use std::collections::BTreeMap;
 use std::marker::Model;
+
+/// Puts the place of a key into a map, and tells that the key is new. After `NoMemory` the map is as before.
+fn insert_place(
+    alloc: Global,
+    places: &mut BTreeMap<Vec<u8>, (u64, u64)>,
+    key: &[u8],
+    place: (u64, u64),
+) -> Result<bool, NoMemory>
+    ensures ok { IfOk result (λ is_new. IsPut places.old.entries (record { key = key.now; at = place.0; len = place.1 }) places.new.entries is_new) }
+    ensures err { OnErr result (places.new.entries ≡ places.old.entries) }
+{
+    Ok(
+        places
+            .insert(Vec::from_slice(alloc, key)?, place)?
+            .is_none(),
+    )
+}
 
 /// The records of one flush while its fields are written: for each key the place of its newest field.
 #[derive(Drop)]
@@ -37,9 +56,13 @@ impl IndexBuilder {
         ensures reserved { IfOk result (λ b. b ≡ record { records = []; keys = keys; bytes = bytes }) }
         ensures no_puts { IfOk result (λ b. StandsFor [] b.records) }
     {
-        let _ = alloc;
-        let _ = keys / 2 + bytes / 2;
-        Err(NoMemory)
+        Ok(IndexBuilder {
+            places: BTreeMap::new(alloc),
+            keys,
+            bytes,
+            left: bytes,
+            alloc,
+        })
     }
 
     /// Adds a record: the key's field lies at this place of the field file, in bytes, and has this length. A key that is
@@ -54,8 +77,10 @@ impl IndexBuilder {
         ensures err { OnErr result (self.new ≡ self.old) }
     {
         self.fits(key)?;
-        let _ = at / 2 + len / 2;
-        Err(IndexPut::NoMemory)
+        if insert_place(self.alloc, &mut self.places, key, (at, len))? {
+            self.left -= key.len() as u32;
+        }
+        Ok(())
     }
 
     /// Answers `Full` exactly where `put` of this key would, with the same numbers.
@@ -108,7 +133,6 @@ impl IndexBuilder {
     pub fn bytes(&self, alloc: Global) -> Result<Vec<u8>, NoMemory>
         ensures { IfOk result (λ v. IsIndex self.now.records v.items) }
     {
-        let _ = alloc;
-        Err(NoMemory)
+        file_of(alloc, &self.places)
     }
 }

@@ -3,6 +3,7 @@ ghost use Rattle.fd_index.specs.declared.fault.IndexFault.TheVariants as faults;
 ghost use Rattle.fd_index.specs.declared.fault.IndexPut.TheVariants as answers;
 
 use fd_bytes::NoMemory;
+use std::alloc::{AllocError, AllocFailed};
 
 /// A key that a builder doesn't hold has no room in it.
 #[derive(Clone, Copy, Debug, PartialEq, Eq)]
@@ -60,6 +61,22 @@ impl From<NoMemory> for IndexFault {
     ghost from_gives = { λ _ e. e ≡ faults.NoMemory };
 
     fn from(_: NoMemory) -> IndexFault {
+        IndexFault::NoMemory
+    }
+}
+
+impl From<AllocError> for IndexFault {
+    ghost from_gives = { λ _ e. e ≡ faults.NoMemory };
+
+    fn from(_: AllocError) -> IndexFault {
+        IndexFault::NoMemory
+    }
+}
+
+impl<T: Drop> From<AllocFailed<T>> for IndexFault {
+    ghost from_gives = { λ _ e. e ≡ faults.NoMemory };
+
+    fn from(_: AllocFailed<T>) -> IndexFault {
         IndexFault::NoMemory
     }
 }

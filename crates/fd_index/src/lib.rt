@@ -5,6 +5,8 @@
 mod builder;
 mod fault;
 mod index;
+mod pages;
+mod reader;
 mod stored;
 
 pub use builder::IndexBuilder;
