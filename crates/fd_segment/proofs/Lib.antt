@@ -5,3 +5,5 @@ pub mod Counting
 pub mod Putting
 pub mod Places
 pub mod Sealing
+pub mod IndexLaw
+pub mod Looking

@@ -65,6 +65,7 @@ pub sealed : (d e : Filling) (b : List Pair) (s : Standing) (o q : Option File) 
     → s.files.fields ≡ option_map (λ f. f.reads) (option_map synced o) → s.files.index ≡ option_map (λ f. f.reads) (option_map synced (option_map (λ f. written f 0 bytes) q))
     → IsIndex d.held.records bytes → index_at bytes ≡ Ok d.held.records
     → s.files.entry.fields ≡ length d.held.records → s.files.entry.index_len ≡ length bytes → s.files.entry.fields_len ≡ d.end → IsSealed e b s
+unfolding batch_of
 sealed d e b s o q bytes is puts before told fields index is_index reads count index_len fields_len =
     let puts' : Puts d b = subst (λ (x : Filling). Puts x b) (sym is) puts in
     let sum : s.files.entry.fields_len ≡ total b = fields_len ∙ puts'.end in
@@ -77,7 +78,6 @@ sealed d e b s o q bytes is puts before told fields index is_index reads count i
     }
   where
     batch_is : (f g : File) → s.files.entry.fields_len ≡ total b → Puts d b → d.fields ≡ Some f.reads → s.files.fields ≡ Some f.reads → s.files.index ≡ Some (overwritten g.reads 0 bytes) → batch_of s.files ≡ Some (pairs_of (joined b) d.held.records)
-    unfolding batch_of
     batch_is f g sum puts before fields index =
         let begins : IfSome (Some f.reads) (λ x. take (total b) x ≡ joined b) = subst (λ (x : Option (List ℕ)). IfSome x (λ y. take (total b) y ≡ joined b)) before puts.bytes in
         ap (λ (x : Option (List ℕ)). batch_told s.files.entry x s.files.fields) index
@@ -91,11 +91,9 @@ sealed d e b s o q bytes is puts before told fields index is_index reads count i
     is_told None q before fields index all sum puts = absurd (cc all)
 
     none_index : s.files.index ≡ None → batch_of s.files ≡ None
-    unfolding batch_of
     none_index e = ap (λ (x : Option (List ℕ)). batch_told s.files.entry x s.files.fields) e
 
     none_fields : s.files.fields ≡ None → batch_of s.files ≡ None
-    unfolding batch_of
     none_fields e = ap (λ (x : Option (List ℕ)). batch_told s.files.entry s.files.index x) e ∙ either s.files.index
       where
         either : (x : Option (List ℕ)) → batch_told s.files.entry x None ≡ None

@@ -3,6 +3,7 @@ use Rattle.std.specs.Prelude.{◌≡◌, ◌+◌, ◌<◌, ℕ, List, Option, So
 use Rattle.fd_disk.specs.declared.folders.FileKind.TheVariants as kinds
 use Rattle.fd_disk.specs.Names.{name_of}
 use Rattle.fd_core.specs.declared.batch.Pair.{Pair}
+use Rattle.fd_core.specs.declared.table.Entry.{Entry}
 use Rattle.fd_index.specs.declared.fault.Full.{Full}
 use Rattle.fd_index.specs.Records.{Record, place_of}
 use Rattle.fd_segment.specs.declared.fault.PutFault.{PutFault}
@@ -48,25 +49,29 @@ OnCopyFault (copies.Fault f) P Q = P
 OnCopyFault (copies.Write x) P Q = Q
 
 -- The index file isn't in the format, where told, at the place that the damage names.
-abbrev pub IsBadIndex : Files → Damage → Type 0
-IsBadIndex f (Absent file) = ⊥
-IsBadIndex f (Length file want got) = ⊥
-IsBadIndex f (Index file at) = (file ≡ name_of f.entry.writer f.entry.seq kinds.Index) × IfSome f.index (λ index. records_in f.entry index ≡ Err at)
-IsBadIndex f (Beyond file end len) = ⊥
+abbrev pub IsBadIndex : Entry → Option (List ℕ) → Damage → Type 0
+IsBadIndex e index (Absent file) = ⊥
+IsBadIndex e index (Length file want got) = ⊥
+IsBadIndex e index (Index file at) = (file ≡ name_of e.writer e.seq kinds.Index) × IfSome index (λ bytes. records_in e bytes ≡ Err at)
+IsBadIndex e index (Beyond file end len) = ⊥
 
 -- the index says that the key's bytes are at this place, where told
-abbrev pub IsPlace : Files → List ℕ → Option (ℕ × ℕ) → Type 0
-IsPlace f key place = IfSome f.index (λ index. (rs : List Record) → records_in f.entry index ≡ Ok rs → place ≡ place_of key rs)
+abbrev pub IsPlace : Entry → Option (List ℕ) → List ℕ → Option (ℕ × ℕ) → Type 0
+IsPlace e index key place = IfSome index (λ bytes. (rs : List Record) → records_in e bytes ≡ Ok rs → place ≡ place_of key rs)
+
+-- a record of the index has the key, and ends there
+pub record EndsAt (e : Entry) (index : Option (List ℕ)) (key : List ℕ) (end : ℕ) : Type 0 where
+  pub at : ℕ
+  pub len : ℕ
+  pub ends : end ≡ at + len
+  pub place : IsPlace e index key (Some (at, len))
 
 -- The key's record ends beyond the fields.
-abbrev pub IsPastFields : Files → List ℕ → ℕ → Type 0
-IsPastFields f key end = (at : ℕ) × (len : ℕ) × (end ≡ at + len) × IsPlace f key (Some (at, len))
-
-abbrev pub IsBeyond : Files → List ℕ → Damage → Type 0
-IsBeyond f key (Absent file) = ⊥
-IsBeyond f key (Length file want got) = ⊥
-IsBeyond f key (Index file at) = ⊥
-IsBeyond f key (Beyond file end len) = (file ≡ name_of f.entry.writer f.entry.seq kinds.Fields) × (len ≡ f.entry.fields_len) × (len < end) × IsPastFields f key end
+abbrev pub IsBeyond : Entry → Option (List ℕ) → List ℕ → Damage → Type 0
+IsBeyond e index key (Absent file) = ⊥
+IsBeyond e index key (Length file want got) = ⊥
+IsBeyond e index key (Index file at) = ⊥
+IsBeyond e index key (Beyond file end len) = (file ≡ name_of e.writer e.seq kinds.Fields) × (len ≡ e.fields_len) × (len < end) × EndsAt e index key end
 
 -- the files stand for no batch
 abbrev pub StandsForNone : Files → Type 0

@@ -1,5 +1,5 @@
 -- What the two files of an entry stand for.
-use Rattle.std.specs.Prelude.{◌≡◌, ◌+◌, ◌&&◌, ℕ, Bool, true, nat_le, if◌then◌else◌, List, [], ◌∷◌, length, map, take, drop, Option, Some, None, option_map, Result, Ok, Err}
+use Rattle.std.specs.Prelude.{◌≡◌, ◌+◌, ◌&&◌, ℕ, Bool, true, nat_le, if◌then◌else◌, List, [], ◌∷◌, length, map, take, drop, Option, Some, None, IfSome, Result, Ok, Err}
 use Rattle.fd_disk.specs.declared.folders.FileName.{FileName}
 use Rattle.fd_core.specs.declared.batch.Pair.{Pair}
 use Rattle.fd_core.specs.declared.table.Entry.{Entry}
@@ -43,6 +43,10 @@ abbrev pub batch_told : Entry → Option (List ℕ) → Option (List ℕ) → Op
 batch_told e (Some index) (Some fields) = batch_in e index fields
 batch_told e (Some index) None = None
 batch_told e None fields = None
+
+-- the index of an entry has these records, where told
+abbrev pub IsIndexOf : Entry → Option (List ℕ) → List Record → Type 0
+IsIndexOf e index rs = IfSome index (λ bytes. records_in e bytes ≡ Ok rs)
 
 -- The batch that an entry stands for: a pair for each record of the first bytes of its index file, with the bytes out of
 -- the first bytes of its field file. There is none where a file isn't told or is shorter than the entry says, where the

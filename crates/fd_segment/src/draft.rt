@@ -11,6 +11,7 @@ ghost use Rattle.fd_segment.specs.Causes.{FullAs, OnPutFault, OnPutFull};
 ghost use Rattle.fd_segment.specs.Filling.{HoldsSame, IsOf, IsSealed, Puts};
 
 use crate::fault::PutFault;
+use crate::firm::make_firm;
 use crate::segment::Segment;
 use fd_disk::{Disk, Down, Shelf};
 use fd_index::IndexBuilder;
@@ -200,7 +201,37 @@ where
         ensures later { IfErr result (λ e. (self.field_faults ≤ e.0.field_faults) × (self.index_faults ≤ e.0.index_faults)) }
         ensures cause { IfErr result (λ e. OnFault e.1 (Rose self.field_faults e.0.field_faults ⊎ Rose self.index_faults e.0.index_faults)) }
     {
-        let _ = alloc;
-        Err((self, Down::NoMemory))
+        let Draft {
+            writer,
+            seq,
+            records,
+            end,
+            mut field_file,
+            mut index_file,
+            of: _,
+        } = self;
+        match make_firm(alloc, &records, &mut field_file, &mut index_file) {
+            Ok(index_len) => Ok(Segment::new(
+                writer,
+                seq,
+                records.len(),
+                index_len,
+                end,
+                field_file.seal(),
+                index_file.seal(),
+            )),
+            Err(fault) => Err((
+                Draft {
+                    writer,
+                    seq,
+                    records,
+                    end,
+                    field_file,
+                    index_file,
+                    of: PhantomData,
+                },
+                fault,
+            )),
+        }
     }
 }

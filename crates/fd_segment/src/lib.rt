@@ -5,6 +5,7 @@
 mod copying;
 mod draft;
 mod fault;
+mod firm;
 mod lens;
 mod segment;
 

@@ -7,10 +7,10 @@ ghost use Rattle.fd_segment.specs.Causes.{IsBadIndex, OnDamaged};
 ghost use Rattle.fd_segment.specs.Held.{records_in};
 
 use crate::fault::LensFault;
-use crate::lens::Lens;
+use crate::lens::{Lens, read_index};
 use fd_bytes::NoMemory;
 use fd_core::Entry;
-use fd_disk::{Sealed, Shelf};
+use fd_disk::{Down, Sealed, Shelf};
 use std::alloc::Global;
 use std::marker::{Model, PhantomData};
 use std::sync::Mutex;
@@ -132,15 +132,36 @@ impl<F: Send, Z: Sealed<F>> Segment<F, Z> {
     {
         shelf.keep(alloc, self.seq, &self.field_file, &self.index_file)
     }
+}
 
+impl<F: Send, Z: Sealed<F>> Segment<F, Z>
+where
+    Z::Reader: Drop,
+{
     /// Opens both files for reading, and reads the index. `Damaged` is here only `Index`, exactly where the index isn't in
     /// its format.
     pub fn lens(&self, alloc: Global) -> Result<Lens<F, Z::Reader>, LensFault<F>>
         ensures files { IfOk result (λ l. l.files ≡ self.now.files) }
         ensures read { IfOk result (λ l. IfSome self.now.files.index (λ index. IsOk (records_in self.now.files.entry index))) }
-        ensures damaged { IfErr result (λ e. OnDamaged e (IsBadIndex self.now.files)) }
+        ensures damaged { IfErr result (λ e. OnDamaged e (IsBadIndex self.now.files.entry self.now.files.index)) }
     {
-        let _ = alloc;
-        Err(LensFault::NoMemory)
+        let field_file = opened(alloc, &self.field_file)?;
+        let mut index_file = opened(alloc, &self.index_file)?;
+        let entry = self.entry();
+        let index = read_index(alloc, &mut index_file, &entry)?;
+        Ok(Lens::new(entry, index, index_file, field_file))
+    }
+}
+
+/// Opens a file for reading.
+fn opened<F: Send, Z: Sealed<F>>(alloc: Global, file: &Z) -> Result<Z::Reader, LensFault<F>>
+    ensures bytes { IfOk result (λ r. Z.Reader.bytes r ≡ Z.bytes file.now) }
+    ensures len { IfOk result (λ r. Z.Reader.len r ≡ Z.len file.now) }
+    ensures damaged { IfErr result (λ e. OnDamaged e (λ _. ⊥)) }
+{
+    match file.reader(alloc) {
+        Ok(reader) => Ok(reader),
+        Err(Down::Fault(fault)) => Err(LensFault::Fault(fault)),
+        Err(Down::NoMemory) => Err(LensFault::NoMemory),
     }
 }
