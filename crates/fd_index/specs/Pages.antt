@@ -1,5 +1,5 @@
 -- Records in pages of 4096 bytes, and the index file that they make.
-use Rattle.std.specs.Prelude.{◌≡◌, ℕ, ◌+◌, ◌-◌, ◌<◌, ◌^◌, List, [], ◌∷◌, ◌++◌, length, nat_le, if◌then◌else◌, replicate, codes}
+use Rattle.std.specs.Prelude.{◌≡◌, ◌↔◌, ℕ, ◌+◌, ◌-◌, ◌<◌, ◌≤◌, ◌^◌, List, [], ◌∷◌, ◌++◌, length, nat_le, if◌then◌else◌, replicate, codes}
 use Rattle.std.specs.Int.{w16, w32, w64, to_be_bytes}
 use Rattle.fd_index.specs.Records.{Record, Rising, AllFit}
 
@@ -41,6 +41,30 @@ cut room (r ∷ rs) = if nat_le (size r) room then onto r (cut (room - size r) r
 unfoldable pub pages_of : List Record → List (List Record)
 pages_of [] = []
 pages_of (r ∷ rs) = cut 4094 (r ∷ rs)
+
+-- ---- The same in the format's own words
+
+-- the room that the records of a page leave
+abbrev pub room_after : List Record → ℕ
+room_after p = 4094 - length (records_bytes p)
+
+-- A page behind one that has this room: it has a record, which didn't fit there, and its records fit.
+abbrev pub IsPage : ℕ → List Record → Type 0
+IsPage room [] = ⊥
+IsPage room (r ∷ rs) = (room < size r) × (length (records_bytes (r ∷ rs)) ≤ 4094)
+
+abbrev pub ArePages : ℕ → List (List Record) → Type 0
+ArePages room [] = Unit {0}
+ArePages room (p ∷ ps) = IsPage room p × ArePages (room_after p) ps
+
+-- the records of the pages
+abbrev pub joined : List (List Record) → List Record
+joined [] = []
+joined (p ∷ ps) = p ++ joined ps
+
+-- Records stand on the pages on which the format has them, and on no others.
+abbrev pub StandOnTheirPages : Type 0
+StandOnTheirPages = (rs : List Record) → AllFit rs → (ps : List (List Record)) → (ps ≡ pages_of rs) ↔ (ArePages 0 ps × (joined ps ≡ rs))
 
 -- ---- The file
 

@@ -5,6 +5,7 @@
 mod builder;
 mod fault;
 mod index;
+mod law;
 mod pages;
 mod reader;
 mod stored;
@@ -12,3 +13,4 @@ mod stored;
 pub use builder::IndexBuilder;
 pub use fault::{Full, IndexFault, IndexPut};
 pub use index::Index;
+pub use law::every_index;
