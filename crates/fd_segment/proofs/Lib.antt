@@ -5,5 +5,4 @@ pub mod Counting
 pub mod Putting
 pub mod Places
 pub mod Sealing
-pub mod IndexLaw
 pub mod Looking

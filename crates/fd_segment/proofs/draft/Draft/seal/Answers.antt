@@ -3,7 +3,7 @@ use Rattle.std.specs.Prelude.{option_map}
 use Rattle.fd_core.specs.declared.table.Entry.{Entry}
 use Rattle.fd_disk.specs.declared.file.File.{File}
 use Rattle.fd_index.specs.Pages.{index_of}
-use Rattle.fd_segment.proofs.IndexLaw.{reads_back}
+use Rattle.fd_index.proofs.ReadBack.{reads_back}
 use Rattle.fd_segment.proofs.Sealing.{sealed}
 use Rattle.fd_segment.proofs.draft.Draft.seal.Goals as goal
 
@@ -13,7 +13,7 @@ returns-in-Ok-clause-sealed g c = λ b puts.
     (c.new.ensures.fields ∙ (c.seal.ensures.bytes ∙ ap (λ (o : Option File). option_map (λ f. f.reads) o) c.in-Ok.ensures.fields))
     (c.new.ensures.index ∙ (c.seal-in-Ok.ensures.bytes ∙ ap (λ (o : Option File). option_map (λ f. f.reads) o) c.in-Ok.ensures.index))
     c.in-Ok.ensures.format
-    (reads_back (index_of c.self.inside.records.records) c.self.inside.records.records c.in-Ok.ensures.format)
+    (reads_back c.self.inside.records.records (index_of c.self.inside.records.records) c.in-Ok.ensures.format)
     (ap (λ (e : Entry). e.fields) c.new.ensures.entry ∙ c.len.ensures.count)
     (ap (λ (e : Entry). e.index_len) c.new.ensures.entry ∙ c.in-Ok.ensures.len)
     (ap (λ (e : Entry). e.fields_len) c.new.ensures.entry)
