@@ -1,13 +1,13 @@
 -- What the records of an index say of the batch for which its files stand.
-use Rattle.std.proofs.Common.{◌≡◌, ◌≤◌, ◌+◌, ◌-◌, ℕ, Bool, true, false, true≢false, ◌&&◌, nat_le, if◌then◌else◌, List, [], ◌∷◌, length, take, drop, bytes_eq, Option, Some, None, Result, Ok, Err, refl, sym, ap, ◌∙◌, subst, arith}
-use Rattle.std.specs.Prelude.{IfSome}
+use Rattle.std.proofs.Common.{◌≡◌, ◌≤◌, ◌<◌, ◌+◌, ◌-◌, ℕ, Bool, true, false, true≢false, ◌&&◌, nat_le, if◌then◌else◌, List, [], ◌∷◌, length, take, drop, bytes_eq, Option, Some, None, Result, Ok, Err, refl, sym, ap, ◌∙◌, subst, arith}
+use Rattle.std.specs.Prelude.{IfOk, IfSome}
 use Rattle.std.proofs.lemmas.Bool.Decides.{nat_tests}
 use Rattle.std.proofs.lemmas.List.{drop-take, take-take}
 use Rattle.fd_core.specs.declared.batch.Pair.{Pair}
 use Rattle.fd_core.specs.declared.table.Entry.{Entry}
 use Rattle.fd_core.specs.Batches.{of_batch}
 use Rattle.fd_index.specs.Records.{Record, Rising, place_of}
-use Rattle.fd_segment.specs.Held.{Files, IsIndexOf, batch_in, batch_of, batch_told, end_by, pairs_of, pairs_within, records_in}
+use Rattle.fd_segment.specs.Held.{Files, IsIndexOf, Opened, batch_in, batch_of, batch_told, end_by, pairs_of, pairs_within, records_in}
 use Rattle.fd_segment.specs.Causes.{IsPlace, StandsForNone}
 use Rattle.fd_segment.specs.Copying.{IsBatchIndex, IsOfBatch, bytes_at}
 use Rattle.fd_segment.proofs.Keys.{rising_differ}
@@ -87,3 +87,14 @@ pub batch_index : (f : Files) (rs : List Record) → IsIndexOf f.entry f.index r
 batch_index f rs reads = λ b stands.
     let parts = parts_of f rs b reads stands in
     subst (λ (o : Option (List ℕ)). IfSome o (λ fields. b ≡ pairs_of (take f.entry.fields_len fields) rs)) (sym parts.1) parts.2.batch
+
+-- the same of an answer, where the fields that were read are seen as a lens
+pub batch_index_ok : (E : Type 0) (r : Result (List Record) E) (l m : Opened) → l ≡ m → IfOk r (IsIndexOf l.files.entry l.files.index) → IfOk r (IsBatchIndex m.files)
+batch_index_ok E (Ok rs) l m is reads = batch_index m.files rs (subst (λ (x : Opened). IsIndexOf x.files.entry x.files.index rs) is reads)
+batch_index_ok E (Err e) l m is reads = tt
+
+pub found_seen : (l m : Opened) (rs : List Record) (key : List ℕ) (place : Option (ℕ × ℕ)) → l ≡ m → Rising rs → IsIndexOf l.files.entry l.files.index rs → place ≡ place_of key rs → IfSome place (λ p. p.0 + p.1 ≤ l.files.entry.fields_len) → IsOfBatch m.files key place
+found_seen l m rs key place is rising reads found inside = subst (λ (x : Opened). IsOfBatch x.files key place) is (found_in_batch l.files rs key place rising reads found inside)
+
+pub beyond_seen : (l m : Opened) (rs : List Record) (key : List ℕ) (at len : ℕ) → l ≡ m → IsIndexOf l.files.entry l.files.index rs → Some (at, len) ≡ place_of key rs → l.files.entry.fields_len < at + len → StandsForNone m.files
+beyond_seen l m rs key at len is reads found past = subst (λ (x : Opened). StandsForNone x.files) is (beyond_none l.files rs key at len reads found (omega (arith, past)))
