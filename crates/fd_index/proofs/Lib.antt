@@ -5,3 +5,4 @@ pub mod ReadTurns
 pub mod PageLaws
 pub mod ReadBack
 pub mod Spelled
+pub mod Same

@@ -133,7 +133,7 @@ add_bytes r rs = sum_by-cons (λ (x : Record). length x.key) r rs
 same_by : (p r : Record) (o : Ordering) → slice_cmp nat_cmp p.key r.key ≡ o → bytes_eq p.key r.key ≡ is_eq o
 same_by p r o h = sym (is_eq-slice_cmp p.key r.key) ∙ ap is_eq h
 
-none_below : (p r : Record) (rs : List Record) → Rising (r ∷ rs) → slice_cmp nat_cmp p.key r.key ≡ Less → place_of p.key (r ∷ rs) ≡ None
+pub none_below : (p r : Record) (rs : List Record) → Rising (r ∷ rs) → slice_cmp nat_cmp p.key r.key ≡ Less → place_of p.key (r ∷ rs) ≡ None
 none_below p r rs rising less =
     place_is p.key (r ∷ rs)
     ∙ lookup-none (is_at (slice_cmp nat_cmp p.key)) (pairs_of (r ∷ rs)) (none_below_head nat_list_cmp_total p.key (pair_of r) (pairs_of rs) (pairs_rise (r ∷ rs) rising) less)

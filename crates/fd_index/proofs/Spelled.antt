@@ -9,10 +9,12 @@ use Rattle.std.proofs.lemmas.Cmp.{nat_list_cmp_total}
 use Rattle.std.proofs.lemmas.List.{length-replicate, length-take-le, get_or-take, get_or-drop, get_or_past}
 use Rattle.std.proofs.lemmas.Nat.{be_bytes_2, be_bytes_4, be_bytes_8}
 use Rattle.std.proofs.lemmas.Slice.Eq.{bytes_eq-Decides}
+use Rattle.fd_index.specs.declared.fault.IndexFault.{IndexFault}
+use Rattle.fd_index.specs.declared.fault.IndexFault.TheVariants as faults
 use Rattle.fd_index.specs.Records.{Record, Rising, Fits, AllFit, keys}
 use Rattle.fd_index.specs.Pages.{ArePages, IsIndex, IsPage, closed, index_of, joined, page_bytes, pages_bytes, pages_of, record_bytes, records_bytes, room_after, size}
 use Rattle.fd_index.specs.Reading.{◌>>=◌, body_of, check, counts_of, index_at, is_above, key_len_at, number_2, number_4, number_8, page_at, pages_at, pages_in, record_at, record_of, records_at, zeros_at}
-use Rattle.fd_index.specs.Index.{AreOctets, ReadsItsRecords}
+use Rattle.fd_index.specs.Index.{AreOctets, Fails, ReadsItsRecords, RefusesNoIndex}
 use Rattle.fd_index.proofs.Paging.{length-record}
 use Rattle.fd_index.proofs.PageLaws.{length_one_more, only}
 use Rattle.fd_index.proofs.ReadBack.{Follow, number_is, page_parts, read_counts, reads_back}
@@ -335,3 +337,136 @@ pages_say (suc n) end room before all bytes o len h =
     let page = page_says (end - length (drop 4096 bytes)) room first.0.1 before first.0.0 (take 4096 bytes) (octets_take 4096 bytes o long) (length-take-le 4096 bytes long) first.1 in
     page_more_says n room first.0.1 before first.0.0 all bytes page
     (pages_say n end first.0.1 first.0.0 all (drop 4096 bytes) (octets_drop 4096 bytes o) (let left : length (drop 4096 bytes) ≡ 4096 * n = omega (arith, length-drop 4096 bytes, len) in left) first.2)
+
+-- ---- Keys rise
+
+is_less : (o : Ordering) → is_lt o ≡ true → o ≡ Less
+is_less Less h = refl
+is_less Equal h = absurd (true≢false (sym h))
+is_less Greater h = absurd (true≢false (sym h))
+
+all_less : (a b : List ℕ) (ks : List (List ℕ)) → slice_cmp nat_cmp a b ≡ Less → AllByRecursion (λ k. slice_cmp nat_cmp b k ≡ Less) ks → AllByRecursion (λ k. slice_cmp nat_cmp a k ≡ Less) ks
+all_less a b [] less h = tt
+all_less a b (k ∷ ks) less h = (nat_list_cmp_total.trans a b k less h.0, all_less a b ks less h.1)
+
+rises_on : (before : List Record) (r : Record) → Rising before → is_above before r.key ≡ true → Rising (before ++ r ∷ [])
+unfolding IsStrictlySortedBy
+rises_on [] r rising above = (tt, tt)
+rises_on (a ∷ []) r rising above = ((is_less (slice_cmp nat_cmp a.key r.key) above, tt), (tt, tt))
+rises_on (a ∷ b ∷ before) r rising above =
+    let others = rises_on (b ∷ before) r rising.1 above in
+    ((rising.0.0, all_less a.key b.key (keys (before ++ r ∷ [])) rising.0.0 others.0), others)
+
+pub rising_from_follow : (before rs : List Record) → Rising before → Follow before rs → Rising (before ++ rs)
+rising_from_follow before [] rising follow = subst Rising (sym (append-nil before)) rising
+rising_from_follow before (r ∷ rs) rising follow =
+    subst Rising (append_assoc before (r ∷ []) rs) (rising_from_follow (before ++ r ∷ []) rs (rises_on before r rising follow.0) follow.1)
+
+no_record_rises : Rising []
+unfolding IsStrictlySortedBy
+no_record_rises = tt
+
+-- ---- The file
+
+both : (a b : Bool) → (a && b) ≡ true → (a ≡ true) × (b ≡ true)
+both true true h = (refl, refl)
+both true false h = absurd (true≢false (sym h))
+both false b h = absurd (true≢false (sym h))
+
+-- what the steps of reading a file say
+record FileSteps (bytes : List ℕ) (rs : List Record) : Type 0 where
+  long : 24 ≤ length bytes
+  whole : (length bytes - 24) % 4096 ≡ 0
+  head : take 8 bytes ≡ codes "FDIDX001"
+  mark : drop (length bytes - 4) bytes ≡ codes "FEND"
+  pages : number_4 (drop (length bytes - 8) bytes) ≡ pages_in bytes
+  number : number_8 (drop (length bytes - 16) bytes) ≡ counts_of (pages_in bytes) (body_of bytes)
+  few : counts_of (pages_in bytes) (body_of bytes) < 2 ^ 32
+  read : pages_at (pages_in bytes) (length bytes - 16) 0 [] (body_of bytes) ≡ Ok rs
+
+file_steps : (bytes : List ℕ) (rs : List Record) → index_at bytes ≡ Ok rs → FileSteps bytes rs
+unfolding index_at
+file_steps bytes rs h =
+    let n = length bytes in
+    let all : Unit {0} → Result (List Record) ℕ = λ _. pages_at (pages_in bytes) (n - 16) 0 [] (body_of bytes) in
+    let sum = counts_of (pages_in bytes) (body_of bytes) in
+    let good_sum : Bool = number_8 (drop (n - 16) bytes) == sum && ltb sum (2 ^ 32) in
+    let good_pages : Bool = number_4 (drop (n - 8) bytes) == pages_in bytes in
+    let good_mark : Bool = bytes_eq (drop (n - 4) bytes) (codes "FEND") in
+    let good_head : Bool = bytes_eq (take 8 bytes) (codes "FDIDX001") in
+    let good_len : Bool = leb 24 n && (n - 24) % 4096 == 0 in
+    let from_sum : Unit {0} → Result (List Record) ℕ = λ _. check good_sum (n - 16) >>= all in
+    let from_pages : Unit {0} → Result (List Record) ℕ = λ _. check good_pages (n - 8) >>= from_sum in
+    let from_mark : Unit {0} → Result (List Record) ℕ = λ _. check good_mark (n - 4) >>= from_pages in
+    let from_head : Unit {0} → Result (List Record) ℕ = λ _. check good_head 0 >>= from_mark in
+    let len = unchecked good_len 0 from_head rs h in
+    let head = unchecked good_head 0 from_mark rs len.1 in
+    let mark = unchecked good_mark (n - 4) from_pages rs head.1 in
+    let pages = unchecked good_pages (n - 8) from_sum rs mark.1 in
+    let number = unchecked good_sum (n - 16) all rs pages.1 in
+    let shape = both (leb 24 n) ((n - 24) % 4096 == 0) len.0 in
+    let counted = both (number_8 (drop (n - 16) bytes) == sum) (ltb sum (2 ^ 32)) number.0 in
+    record {
+      long = leb-true 24 n shape.0;
+      whole = eqb-true ((n - 24) % 4096) 0 shape.1;
+      head = (bytes_eq-Decides (take 8 bytes) (codes "FDIDX001")).0 head.0;
+      mark = (bytes_eq-Decides (drop (n - 4) bytes) (codes "FEND")).0 mark.0;
+      pages = eqb-true (number_4 (drop (n - 8) bytes)) (pages_in bytes) pages.0;
+      number = eqb-true (number_8 (drop (n - 16) bytes)) sum counted.0;
+      few = ltb-true sum (2 ^ 32) counted.1;
+      read = number.1;
+    }
+
+-- bytes by their parts
+in_parts : (bytes : List ℕ) → 24 ≤ length bytes
+    → bytes ≡ (((take 8 bytes ++ body_of bytes) ++ take 8 (drop (length bytes - 16) bytes)) ++ take 4 (drop (length bytes - 8) bytes)) ++ drop (length bytes - 4) bytes
+in_parts bytes long =
+    let n = length bytes in
+    let a : 8 + (n - 24) ≡ n - 16 = omega (arith, long) in
+    let b : (n - 16) + 8 ≡ n - 8 = omega (arith, long) in
+    let c : (n - 8) + 4 ≡ n - 4 = omega (arith, long) in
+    let body : take (n - 16) bytes ≡ take 8 bytes ++ body_of bytes = ap (λ m. take m bytes) (sym a) ∙ take-add 8 (n - 24) bytes in
+    let number : take (n - 8) bytes ≡ take (n - 16) bytes ++ take 8 (drop (n - 16) bytes) = ap (λ m. take m bytes) (sym b) ∙ take-add (n - 16) 8 bytes in
+    let pages : take (n - 4) bytes ≡ take (n - 8) bytes ++ take 4 (drop (n - 8) bytes) = ap (λ m. take m bytes) (sym c) ∙ take-add (n - 8) 4 bytes in
+    let mark = drop (n - 4) bytes in
+    sym (take-append-drop (n - 4) bytes) ∙ ap (λ (t : List ℕ). t ++ mark) pages
+    ∙ ap (λ (t : List ℕ). (t ++ take 4 (drop (n - 8) bytes)) ++ mark) number
+    ∙ ap (λ (t : List ℕ). ((t ++ take 8 (drop (n - 16) bytes)) ++ take 4 (drop (n - 8) bytes)) ++ mark) body
+
+pub spelled : (rs : List Record) (bytes : List ℕ) → AreOctets bytes → index_at bytes ≡ Ok rs → IsIndex rs bytes
+unfolding index_of
+spelled rs bytes o h =
+    let s = file_steps bytes rs h in
+    let n = length bytes in
+    let long = s.long in
+    let whole = s.whole in
+    let body_long : length (body_of bytes) ≡ 4096 * pages_in bytes = length-take-le (n - 24) (drop 8 bytes) (omega (arith, length-drop 8 bytes, long)) ∙ omega (arith, whole) in
+    let body_octets = octets_take (n - 24) (drop 8 bytes) (octets_drop 8 bytes o) (omega (arith, length-drop 8 bytes, long)) in
+    let all = pages_say (pages_in bytes) (n - 16) 0 [] rs (body_of bytes) body_octets body_long s.read in
+    let ps = all.ps in
+    let pages_are : pages_of rs ≡ ps = ap pages_of all.all_is ∙ only ps all.good in
+    let counted : counts_of (pages_in bytes) (body_of bytes) ≡ length rs =
+        (λ i. counts_of (sym all.count i) (all.bytes_is i)) ∙ read_counts ps 0 all.good ∙ ap (length {A = Record}) (sym all.all_is) in
+    let number : to_be_bytes w64 (length rs) ≡ take 8 (drop (n - 16) bytes) =
+        spelled_8 (drop (n - 16) bytes) (length rs) (octets_drop (n - 16) bytes o) (omega (arith, length-drop (n - 16) bytes, long)) (sym counted ∙ sym s.number) in
+    let pages : to_be_bytes w32 (length (pages_of rs)) ≡ take 4 (drop (n - 8) bytes) =
+        spelled_4 (drop (n - 8) bytes) (length (pages_of rs)) (octets_drop (n - 8) bytes o) (omega (arith, length-drop (n - 8) bytes, long)) (ap (length {A = List Record}) pages_are ∙ all.count ∙ sym s.pages) in
+    let body : body_of bytes ≡ pages_bytes (pages_of rs) = all.bytes_is ∙ ap pages_bytes (sym pages_are) in
+    record {
+      rising = subst Rising (sym all.all_is) (rising_from_follow [] (joined ps) no_record_rises all.follow);
+      fit = subst AllFit (sym all.all_is) all.fit;
+      few = subst (λ m. m < 2 ^ 32) counted s.few;
+      is = in_parts bytes long ∙ (λ i. (((s.head i ++ body i) ++ sym number i) ++ sym pages i) ++ s.mark i);
+    }
+
+pub reads_its_records : ReadsItsRecords
+reads_its_records bytes rs o = (spelled rs bytes o, reads_back rs bytes)
+
+-- ---- What reading answers
+
+pub one_index : (rs ss : List Record) (bytes : List ℕ) → index_at bytes ≡ Ok rs → IsIndex ss bytes → ss ≡ rs
+one_index rs ss bytes read index = same_of ss rs (index_at bytes) (reads_back ss bytes index) read
+
+pub refuses : (fault : IndexFault) (bytes : List ℕ) → Fails fault (index_at bytes) → RefusesNoIndex bytes (Err fault)
+refuses (faults.BadIndex at) bytes failed = λ rs index. absurd (true≢false (ap is_ok (sym (reads_back rs bytes index) ∙ failed)))
+refuses faults.NoMemory bytes failed = tt

@@ -39,3 +39,7 @@ newest key puts = place_of key (reverse puts)
 pub record StandsFor (puts records : List Record) : Type 0 where
   pub rising : Rising records
   pub newest : (key : List ℕ) → place_of key records ≡ newest key puts
+
+-- Only one list of records stands for some puts.
+abbrev pub OneForItsPuts : Type 0
+OneForItsPuts = (puts rs ss : List Record) → StandsFor puts rs → StandsFor puts ss → rs ≡ ss

@@ -5,6 +5,7 @@ ghost use Rattle.fd_index.specs.Reading.{index_at};
 ghost use Rattle.fd_index.specs.Index.{ReadsAs, RefusesNoIndex};
 
 use crate::fault::IndexFault;
+use crate::reader::read_records;
 use crate::stored::{Stored, place_in};
 use std::alloc::Global;
 use std::marker::Model;
@@ -37,9 +38,10 @@ impl Index {
         ensures first { ReadsAs (index_at bytes.now) result }
         ensures refused { RefusesNoIndex bytes.now result }
     {
-        let _ = bytes.len();
-        let _ = alloc;
-        Err(IndexFault::NoMemory)
+        match read_records(alloc, bytes) {
+            Ok(records) => Ok(Index { records }),
+            Err(fault) => Err(fault),
+        }
     }
 
     /// The place and the length of the key's field, if the index has the key.
