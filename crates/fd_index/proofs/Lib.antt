@@ -6,3 +6,4 @@ pub mod PageLaws
 pub mod ReadBack
 pub mod Spelled
 pub mod Same
+pub mod FirstFault

@@ -44,7 +44,7 @@ same_ok x y h = same_of x y (Ok x) refl h
 
 -- ---- Octets
 
-octets_drop : (n : ℕ) (bytes : List ℕ) → AreOctets bytes → AreOctets (drop n bytes)
+pub octets_drop : (n : ℕ) (bytes : List ℕ) → AreOctets bytes → AreOctets (drop n bytes)
 octets_drop n bytes o = record { each = λ i. subst (λ x. x < 256) (sym (get_or-drop n bytes i 0)) (o.each (n + i)) }
 
 octet_of_take : (n i : ℕ) (bytes : List ℕ) → AreOctets bytes → (i < n) ⊎ (n ≤ i) → length (take n bytes) ≤ n → get_or (take n bytes) i 0 < 256
@@ -58,7 +58,7 @@ either i n = by (ltb i n) refl
     by true h = inl (ltb-true i n h)
     by false h = inr (ltb-false i n h)
 
-octets_take : (n : ℕ) (bytes : List ℕ) → AreOctets bytes → n ≤ length bytes → AreOctets (take n bytes)
+pub octets_take : (n : ℕ) (bytes : List ℕ) → AreOctets bytes → n ≤ length bytes → AreOctets (take n bytes)
 octets_take n bytes o le = record { each = λ i. octet_of_take n i bytes o (either i n) (let len = length-take-le n bytes le in omega (arith, len)) }
 
 pub spelled_2 : (bytes : List ℕ) (n : ℕ) → AreOctets bytes → 2 ≤ length bytes → n ≡ number_2 bytes → to_be_bytes w16 n ≡ take 2 bytes
@@ -75,17 +75,17 @@ below_8 bytes o = omega (arith, o.each 0, o.each 1, o.each 2, o.each 3, o.each 4
 
 -- ---- One record
 
-record KeyLen (n : ℕ) (bytes : List ℕ) : Type 0 where
-  is : n ≡ number_2 bytes
-  small : n ≤ 256
-  fits : 18 + n ≤ length bytes
+pub record KeyLen (n : ℕ) (bytes : List ℕ) : Type 0 where
+  pub is : n ≡ number_2 bytes
+  pub small : n ≤ 256
+  pub fits : 18 + n ≤ length bytes
 
 none_of : (a b c : Bool) → (a || b || c) ≡ false → (a ≡ false) × (b ≡ false) × (c ≡ false)
 none_of true b c h = absurd (true≢false h)
 none_of false true c h = absurd (true≢false h)
 none_of false false c h = (refl, refl, h)
 
-key_len_says : (end n : ℕ) (bytes : List ℕ) → key_len_at end bytes ≡ Ok n → KeyLen n bytes
+pub key_len_says : (end n : ℕ) (bytes : List ℕ) → key_len_at end bytes ≡ Ok n → KeyLen n bytes
 unfolding key_len_at
 key_len_says end n bytes h = by (ltb (length bytes) 2 || ltb 256 (number_2 bytes) || ltb (length bytes) (18 + number_2 bytes)) refl h
   where
@@ -158,11 +158,12 @@ pub record Some (n : ℕ) (before all : List Record) (bytes rest : List ℕ) : T
   pub count : length rs ≡ n
   pub follow : Follow before rs
 
-octets_back : (front back bytes : List ℕ) → bytes ≡ front ++ back → AreOctets bytes → AreOctets back
+pub octets_back : (front back bytes : List ℕ) → bytes ≡ front ++ back → AreOctets bytes → AreOctets back
 octets_back front back bytes is o = record { each = λ i. subst (λ x. x < 256) (behind i) (o.each (length front + i)) }
   where
     dropped : drop (length front) bytes ≡ back
     dropped = ap (drop (length front)) is ∙ drop_at front back (length front) refl
+
     behind : (i : ℕ) → get_or bytes (length front + i) 0 ≡ get_or back i 0
     behind i = sym (get_or-drop (length front) bytes i 0) ∙ ap (λ (t : List ℕ). get_or t i 0) dropped
 
@@ -307,11 +308,11 @@ no_pages_say end room before all [] len h = record {
 }
 no_pages_say end room before all (b ∷ bytes) len h = absurd (omega (arith, len))
 
-all_fit : (p rs : List Record) → AllFit p → AllFit rs → AllFit (p ++ rs)
+pub all_fit : (p rs : List Record) → AllFit p → AllFit rs → AllFit (p ++ rs)
 all_fit [] rs f g = g
 all_fit (r ∷ p) rs f g = (f.0, all_fit p rs f.1 g)
 
-all_follow : (before p rs : List Record) → Follow before p → Follow (before ++ p) rs → Follow before (p ++ rs)
+pub all_follow : (before p rs : List Record) → Follow before p → Follow (before ++ p) rs → Follow before (p ++ rs)
 all_follow before [] rs f g = subst (λ b. Follow b rs) (append-nil before) g
 all_follow before (r ∷ p) rs f g = (f.0, all_follow (before ++ r ∷ []) p rs f.1 (subst (λ b. Follow b rs) (sym (append_assoc before (r ∷ []) p)) g))
 
@@ -362,7 +363,7 @@ rising_from_follow before [] rising follow = subst Rising (sym (append-nil befor
 rising_from_follow before (r ∷ rs) rising follow =
     subst Rising (append_assoc before (r ∷ []) rs) (rising_from_follow (before ++ r ∷ []) rs (rises_on before r rising follow.0) follow.1)
 
-no_record_rises : Rising []
+pub no_record_rises : Rising []
 unfolding IsStrictlySortedBy
 no_record_rises = tt
 
@@ -446,11 +447,11 @@ spelled rs bytes o h =
     let ps = all.ps in
     let pages_are : pages_of rs ≡ ps = ap pages_of all.all_is ∙ only ps all.good in
     let counted : counts_of (pages_in bytes) (body_of bytes) ≡ length rs =
-        (λ i. counts_of (sym all.count i) (all.bytes_is i)) ∙ read_counts ps 0 all.good ∙ ap (length {A = Record}) (sym all.all_is) in
+    (λ i. counts_of (sym all.count i) (all.bytes_is i)) ∙ read_counts ps 0 all.good ∙ ap (length {A = Record}) (sym all.all_is) in
     let number : to_be_bytes w64 (length rs) ≡ take 8 (drop (n - 16) bytes) =
-        spelled_8 (drop (n - 16) bytes) (length rs) (octets_drop (n - 16) bytes o) (omega (arith, length-drop (n - 16) bytes, long)) (sym counted ∙ sym s.number) in
+    spelled_8 (drop (n - 16) bytes) (length rs) (octets_drop (n - 16) bytes o) (omega (arith, length-drop (n - 16) bytes, long)) (sym counted ∙ sym s.number) in
     let pages : to_be_bytes w32 (length (pages_of rs)) ≡ take 4 (drop (n - 8) bytes) =
-        spelled_4 (drop (n - 8) bytes) (length (pages_of rs)) (octets_drop (n - 8) bytes o) (omega (arith, length-drop (n - 8) bytes, long)) (ap (length {A = List Record}) pages_are ∙ all.count ∙ sym s.pages) in
+    spelled_4 (drop (n - 8) bytes) (length (pages_of rs)) (octets_drop (n - 8) bytes o) (omega (arith, length-drop (n - 8) bytes, long)) (ap (length {A = List Record}) pages_are ∙ all.count ∙ sym s.pages) in
     let body : body_of bytes ≡ pages_bytes (pages_of rs) = all.bytes_is ∙ ap pages_bytes (sym pages_are) in
     record {
       rising = subst Rising (sym all.all_is) (rising_from_follow [] (joined ps) no_record_rises all.follow);

@@ -7,3 +7,4 @@ pub mod Reading
 pub mod StoredRecords
 pub mod Stored
 pub mod Index
+pub mod First

@@ -21,11 +21,9 @@ fn insert_place(
     ensures ok { IfOk result (λ is_new. IsPut places.old.entries (record { key = key.now; at = place.0; len = place.1 }) places.new.entries is_new) }
     ensures err { OnErr result (places.new.entries ≡ places.old.entries) }
 {
-    Ok(
-        places
-            .insert(Vec::from_slice(alloc, key)?, place)?
-            .is_none(),
-    )
+    let text = Vec::from_slice(alloc, key)?;
+    let before = places.insert(text, place)?;
+    Ok(before.is_none())
 }
 
 /// The records of one flush while its fields are written: for each key the place of its newest field.

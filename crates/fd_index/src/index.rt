@@ -2,6 +2,7 @@ ghost use Rattle.std.specs.Prelude.{◌≡◌, ◌<◌, List, length, slice_get,
 ghost use Rattle.fd_index.specs.Records.{Record, Rising, place_of};
 ghost use Rattle.fd_index.specs.Pages.{IsIndex};
 ghost use Rattle.fd_index.specs.Reading.{index_at};
+ghost use Rattle.fd_index.specs.First.{RefusesAtFirstPlace};
 ghost use Rattle.fd_index.specs.Index.{ReadsAs, RefusesNoIndex};
 
 use crate::fault::IndexFault;
@@ -36,6 +37,7 @@ impl Index {
         ensures index { IfOk result (λ index. IsIndex index bytes.now) }
         ensures same { IfOk result (λ index. (records : List Record) → IsIndex records bytes.now → records ≡ index) }
         ensures first { ReadsAs (index_at bytes.now) result }
+        ensures place { RefusesAtFirstPlace bytes.now result }
         ensures refused { RefusesNoIndex bytes.now result }
     {
         match read_records(alloc, bytes) {

@@ -14,3 +14,6 @@ pub use builder::IndexBuilder;
 pub use fault::{Full, IndexFault, IndexPut};
 pub use index::Index;
 pub use law::every_index;
+
+#[cfg(test)]
+mod tests;

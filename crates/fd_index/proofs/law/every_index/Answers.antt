@@ -1,4 +1,5 @@
 use Rattle.fd_index.proofs.Spelled.{reads_its_records}
+use Rattle.fd_index.proofs.FirstFault.{names_first_place}
 use Rattle.fd_index.proofs.Same.{one_for_its_puts}
 use Rattle.fd_index.proofs.PageLaws.{stand_on_their_pages}
 use Rattle.fd_index.proofs.law.every_index.Goals as goal
@@ -6,6 +7,7 @@ use Rattle.fd_index.proofs.law.every_index.Goals as goal
 pub returns : goal.returns
 returns c = record {
   records = reads_its_records;
+  faults = names_first_place;
   pages = stand_on_their_pages;
   puts = one_for_its_puts;
 }

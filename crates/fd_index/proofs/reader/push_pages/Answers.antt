@@ -15,7 +15,7 @@ loop-preserved c =
     let all = records_of c.push_page.new.records.items in
     let before = records_of c.loop.records.items in
     let read : page_at (c.args.end - length (drop 4096 left)) c.loop.room before (take 4096 left) ≡ Ok (all, c.in-Ok.after)
-        = subst₂ (λ (a b : List ℕ). page_at (c.args.end - length b) c.loop.room before a ≡ Ok (all, c.in-Ok.after)) c.split_at.ensures.front c.split_at.ensures.back c.in-Ok.ensures in
+    = subst₂ (λ (a b : List ℕ). page_at (c.args.end - length b) c.loop.room before a ≡ Ok (all, c.in-Ok.after)) c.split_at.ensures.front c.split_at.ensures.back c.in-Ok.ensures in
     record {
       same = c.loop.invariant.same ∙ page_more n k c.args.end c.loop.room c.in-Ok.after before all left is read ∙ ap (λ (t : List ℕ). pages_at k c.args.end c.in-Ok.after all t) (sym c.split_at.ensures.back);
       whole = omega (arith, c.split_at.ensures.back_len, c.loop.invariant.whole, c.loop-test.true);

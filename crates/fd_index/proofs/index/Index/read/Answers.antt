@@ -2,6 +2,7 @@ use Rattle.std.proofs.Common.{◌<◌, ◌^◌, length, subst}
 use Rattle.std.proofs.lemmas.List.{length-map}
 use Rattle.fd_index.specs.Pages.{IsIndex}
 use Rattle.fd_index.specs.StoredRecords.{record_of, records_of}
+use Rattle.fd_index.proofs.FirstFault.{refuses_at_first}
 use Rattle.fd_index.proofs.Spelled.{one_index, refuses, spelled}
 use Rattle.fd_index.proofs.index.Index.read.Goals as goal
 
@@ -19,3 +20,6 @@ returns-in-Ok-clause-same c = λ ss index. one_index (records_of c.in-Ok.records
 
 pub returns-in-Err-clause-refused : goal.returns-in-Err-clause-refused
 returns-in-Err-clause-refused c = refuses c.in-Err.fault c.args.bytes.now c.in-Err.ensures
+
+pub returns-in-Err-clause-place : goal.returns-in-Err-clause-place
+returns-in-Err-clause-place c = refuses_at_first c.in-Err.fault c.args.bytes.now (record { each = λ i. (c.type_inv.bytes i).fits }) c.in-Err.ensures
