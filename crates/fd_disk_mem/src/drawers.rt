@@ -1,0 +1,82 @@
+// The files that shelves kept, the newest first.
+ghost use Rattle.std.specs.Prelude.{◌≡◌, [], ◌∷◌, Bool, true, false, List, ℕ, Option, Some, None, OnOk, OnErr, IfOk, MatchOption, option_map};
+ghost use Rattle.fd_disk.specs.Names.{same_name};
+ghost use Rattle.fd_disk_mem.specs.Drawers.{bytes_among, is_named, bytes_in};
+
+use fd_disk::{FileKind, FileName};
+use std::alloc::AllocError;
+
+/// A file that a shelf created, with its bytes where the shelf kept it.
+#[derive(Drop)]
+pub(crate) struct Kept {
+    pub(crate) name: FileName,
+    pub(crate) bytes: Option<Vec<u8>>,
+}
+
+/// What each shelf kept, the last that was put back first.
+#[derive(Drop)]
+pub(crate) enum Drawers {
+    Empty,
+    More(Vec<Kept>, Box<Drawers>),
+}
+
+pub(crate) fn is_same(a: FileName, b: FileName) -> bool
+    ensures { result ≡ same_name a b }
+{
+    let same_kind = match (a.kind, b.kind) {
+        (FileKind::Fields, FileKind::Fields) => true,
+        (FileKind::Index, FileKind::Index) => true,
+        (FileKind::Fields, FileKind::Index) => false,
+        (FileKind::Index, FileKind::Fields) => false,
+    };
+    a.writer == b.writer && a.seq == b.seq && same_kind
+}
+
+/// Puts a file before the others.
+pub(crate) fn put(files: &mut Vec<Kept>, file: Kept) -> Result<(), AllocError>
+    ensures ok { OnOk result (files.new.items ≡ file ∷ files.old.items) }
+    ensures err { OnErr result (files.new.items ≡ files.old.items) }
+{
+    files.insert(0, file)?;
+    Ok(())
+}
+
+/// Puts two files before the others, or neither.
+pub(crate) fn put_both(files: &mut Vec<Kept>, first: Kept, second: Kept) -> Result<(), AllocError>
+    ensures ok { OnOk result (files.new.items ≡ second ∷ first ∷ files.old.items) }
+    ensures err { OnErr result (files.new.items ≡ files.old.items) }
+{
+    files.reserve(2)?;
+    files.insert(0, first)?;
+    files.insert(0, second)?;
+    Ok(())
+}
+
+/// The first file of this name.
+pub(crate) fn among(files: &[Kept], name: FileName) -> Option<&Kept>
+    ensures { MatchOption result (is_named files.now name ≡ false) (λ k. (is_named files.now name ≡ true) × (bytes_among files.now name ≡ option_map (λ v. v.items) k.now.bytes)) }
+{
+    match files {
+        [] => None,
+        [file, rest @ ..] => {
+            if is_same(file.name, name) {
+                Some(file)
+            } else {
+                among(rest, name)
+            }
+        }
+    }
+}
+
+/// The bytes of the file with this name.
+pub(crate) fn bytes_of(files: &Drawers, name: FileName) -> Option<&Vec<u8>>
+    ensures { MatchOption result (bytes_in files.now name ≡ None) (λ v. bytes_in files.now name ≡ Some v.now.items) }
+{
+    match files {
+        Drawers::Empty => None,
+        Drawers::More(kept, rest) => match among(kept, name) {
+            Some(file) => file.bytes.as_ref(),
+            None => bytes_of(rest, name),
+        },
+    }
+}
