@@ -1,0 +1,9 @@
+pub mod Records
+pub mod Held
+pub mod Builder
+pub mod Seen
+pub mod Pages
+pub mod Reading
+pub mod StoredRecords
+pub mod Stored
+pub mod Index

@@ -1,0 +1,82 @@
+ghost use Rattle.std.specs.Prelude.{◌≡◌};
+ghost use Rattle.fd_index.specs.declared.fault.IndexFault.TheVariants as faults;
+ghost use Rattle.fd_index.specs.declared.fault.IndexPut.TheVariants as answers;
+
+use fd_bytes::NoMemory;
+use std::alloc::{AllocError, AllocFailed};
+
+/// A key that a builder doesn't hold has no room in it.
+#[derive(Clone, Copy, Debug, PartialEq, Eq)]
+pub struct Full {
+    /// The number of keys held.
+    pub keys: u32,
+    /// The number of reserved bytes that no key takes.
+    pub left: u32,
+}
+
+/// Why a builder didn't take a record.
+#[derive(Clone, Copy, Debug, PartialEq, Eq)]
+pub enum IndexPut {
+    /// The key isn't held, and as many keys are held as were reserved, or it is longer than the bytes left.
+    Full {
+        /// The number of keys held.
+        keys: u32,
+        /// The number of reserved bytes that no key takes.
+        left: u32,
+    },
+    /// An allocation was refused.
+    NoMemory,
+}
+
+/// Why bytes weren't read as an index.
+#[derive(Clone, Copy, Debug, PartialEq, Eq)]
+pub enum IndexFault {
+    /// The bytes aren't an index file: the field that begins at this place, from 0, is the first that isn't in the
+    /// format.
+    BadIndex { at: u64 },
+    /// An allocation was refused.
+    NoMemory,
+}
+
+impl From<NoMemory> for IndexPut {
+    ghost from_gives = { λ _ e. e ≡ answers.NoMemory };
+
+    fn from(_: NoMemory) -> IndexPut {
+        IndexPut::NoMemory
+    }
+}
+
+impl From<Full> for IndexPut {
+    ghost from_gives = { λ f e. e ≡ answers.Full f.keys f.left };
+
+    fn from(full: Full) -> IndexPut {
+        IndexPut::Full {
+            keys: full.keys,
+            left: full.left,
+        }
+    }
+}
+
+impl From<NoMemory> for IndexFault {
+    ghost from_gives = { λ _ e. e ≡ faults.NoMemory };
+
+    fn from(_: NoMemory) -> IndexFault {
+        IndexFault::NoMemory
+    }
+}
+
+impl From<AllocError> for IndexFault {
+    ghost from_gives = { λ _ e. e ≡ faults.NoMemory };
+
+    fn from(_: AllocError) -> IndexFault {
+        IndexFault::NoMemory
+    }
+}
+
+impl<T: Drop> From<AllocFailed<T>> for IndexFault {
+    ghost from_gives = { λ _ e. e ≡ faults.NoMemory };
+
+    fn from(_: AllocFailed<T>) -> IndexFault {
+        IndexFault::NoMemory
+    }
+}

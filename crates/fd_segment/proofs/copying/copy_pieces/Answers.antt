@@ -1,0 +1,27 @@
+use Rattle.std.proofs.Common.{◌≡◌, ◌+◌, length, take, arith, ◌∙◌, ap, subst, length-take}
+use Rattle.fd_segment.specs.Copying.{IsCopied, IsCopiedInPart}
+use Rattle.fd_segment.proofs.Copied.{copied_more, part_more}
+use Rattle.fd_segment.proofs.copying.copy_pieces.Goals as goal
+
+pub pieces-preserved : goal.pieces-preserved
+pieces-preserved g c =
+    let n = c.min-n.result in
+    let long : length (take n c.pieces.buffer) ≡ n = omega (arith, length-take n c.pieces.buffer) in
+    let step : IsCopied (g.R.Reader.bytes c.args.file.now) (c.args.at + c.pieces.done) n (g.K.Sink.taken c.pieces.sink) (g.K.Sink.taken c.copy_piece.new.sink) =
+    rw (← c.pieces.invariant.bytes, ← long) c.in-Ok.ensures.ok in
+    record {
+      inside = omega arith;
+      copied = copied_more _ _ _ _ _ _ _ c.pieces.invariant.copied step;
+      bytes = c.in-Ok.ensures.bytes ∙ c.pieces.invariant.bytes;
+      len = c.in-Ok.ensures.len ∙ c.pieces.invariant.len;
+      later = omega arith;
+      sink = omega arith;
+    }
+
+pub returns-in-Err-clause-err : goal.returns-in-Err-clause-err
+returns-in-Err-clause-err g c =
+    let n = c.min-n.result in
+    let long : length (take n c.pieces.buffer) ≡ n = omega (arith, length-take n c.pieces.buffer) in
+    let step : IsCopiedInPart (g.R.Reader.bytes c.args.file.now) (c.args.at + c.pieces.done) n (g.K.Sink.taken c.pieces.sink) (g.K.Sink.taken c.copy_piece.new.sink) =
+    rw (← c.pieces.invariant.bytes, ← long) c.in-Err.ensures.err in
+    part_more _ _ _ n _ _ _ _ (omega arith) c.pieces.invariant.copied step

@@ -1,0 +1,16 @@
+use Rattle.std.proofs.Common.{◌≡◌, ◌≤◌, ◌-◌, List, ℕ}
+use Rattle.fd_segment.specs.Copying.{IsCopied}
+use Rattle.fd_segment.proofs.copying.copy_pieces.Given as goal
+
+abbrev pub invariant-pieces : goal.invariant-pieces
+invariant-pieces g l = record {
+  inside : l.done ≤ l.len;
+  copied : IsCopied (g.R.Reader.bytes l.fn.file) l.at l.done (g.K.Sink.taken l.fn.sink) (g.K.Sink.taken l.sink);
+  bytes : g.R.Reader.bytes l.file ≡ g.R.Reader.bytes l.fn.file;
+  len : g.R.Reader.len l.file ≡ g.R.Reader.len l.fn.file;
+  later : g.R.Reader.faults l.fn.file ≤ g.R.Reader.faults l.file;
+  sink : g.K.Sink.faults l.fn.sink ≤ g.K.Sink.faults l.sink;
+}
+
+abbrev pub decreases-pieces : goal.decreases-pieces
+decreases-pieces g l = l.len - l.done

@@ -1,0 +1,78 @@
+-- Why a call was refused.
+use Rattle.std.specs.Prelude.{◌≡◌, ◌+◌, ◌<◌, ℕ, List, Option, Some, IfSome, Result, Ok, Err}
+use Rattle.fd_disk.specs.declared.folders.FileKind.TheVariants as kinds
+use Rattle.fd_disk.specs.Names.{name_of}
+use Rattle.fd_core.specs.declared.batch.Pair.{Pair}
+use Rattle.fd_core.specs.declared.table.Entry.{Entry}
+use Rattle.fd_index.specs.declared.fault.Full.{Full}
+use Rattle.fd_index.specs.Records.{Record, place_of}
+use Rattle.fd_segment.specs.declared.fault.PutFault.{PutFault}
+use Rattle.fd_segment.specs.declared.fault.PutFault.TheVariants as puts
+use Rattle.fd_segment.specs.declared.fault.Damage.{Damage}
+use Rattle.fd_segment.specs.declared.fault.Damage.TheVariants.{Absent, Length, Index, Beyond}
+use Rattle.fd_segment.specs.declared.fault.LensFault.{LensFault}
+use Rattle.fd_segment.specs.declared.fault.LensFault.TheVariants as lenses
+use Rattle.fd_segment.specs.declared.fault.CopyFault.{CopyFault}
+use Rattle.fd_segment.specs.declared.fault.CopyFault.TheVariants as copies
+use Rattle.fd_segment.specs.Held.{Files, batch_of, records_in}
+
+-- `Full` is answered exactly where the key has no room in the index, with these numbers
+abbrev pub FullAs : {F : Type 0} → Result (Unit {0}) Full → Result (Unit {0}) (PutFault F) → Type 0
+FullAs room (Ok done) = room ≡ Ok tt
+FullAs room (Err (puts.Full keys left)) = room ≡ Err (record { keys = keys; left = left })
+FullAs room (Err (puts.Fault f)) = room ≡ Ok tt
+FullAs room (Err puts.NoMemory) = room ≡ Ok tt
+
+abbrev pub OnPutFault : {F : Type 0} → PutFault F → Type 0 → Type 0
+OnPutFault (puts.Fault f) P = P
+OnPutFault (puts.Full keys left) P = Unit {0}
+OnPutFault puts.NoMemory P = Unit {0}
+
+abbrev pub OnPutFull : {F : Type 0} → PutFault F → Type 0 → Type 0
+OnPutFull (puts.Fault f) P = Unit {0}
+OnPutFull (puts.Full keys left) P = P
+OnPutFull puts.NoMemory P = Unit {0}
+
+abbrev pub OnLensFault : {F : Type 0} → LensFault F → Type 0 → Type 0
+OnLensFault (lenses.Fault f) P = P
+OnLensFault (lenses.Damaged d) P = Unit {0}
+OnLensFault lenses.NoMemory P = Unit {0}
+
+abbrev pub OnDamaged : {F : Type 0} → LensFault F → (Damage → Type 0) → Type 0
+OnDamaged (lenses.Fault f) P = Unit {0}
+OnDamaged (lenses.Damaged d) P = P d
+OnDamaged lenses.NoMemory P = Unit {0}
+
+-- a fault of the reader, or one of the sink
+abbrev pub OnCopyFault : {F X : Type 0} → CopyFault F X → Type 0 → Type 0 → Type 0
+OnCopyFault (copies.Fault f) P Q = P
+OnCopyFault (copies.Write x) P Q = Q
+
+-- The index file isn't in the format, where told, at the place that the damage names.
+abbrev pub IsBadIndex : Entry → Option (List ℕ) → Damage → Type 0
+IsBadIndex e index (Absent file) = ⊥
+IsBadIndex e index (Length file want got) = ⊥
+IsBadIndex e index (Index file at) = (file ≡ name_of e.writer e.seq kinds.Index) × IfSome index (λ bytes. records_in e bytes ≡ Err at)
+IsBadIndex e index (Beyond file end len) = ⊥
+
+-- the index says that the key's bytes are at this place, where told
+abbrev pub IsPlace : Entry → Option (List ℕ) → List ℕ → Option (ℕ × ℕ) → Type 0
+IsPlace e index key place = IfSome index (λ bytes. (rs : List Record) → records_in e bytes ≡ Ok rs → place ≡ place_of key rs)
+
+-- a record of the index has the key, and ends there
+pub record EndsAt (e : Entry) (index : Option (List ℕ)) (key : List ℕ) (end : ℕ) : Type 0 where
+  pub at : ℕ
+  pub len : ℕ
+  pub ends : end ≡ at + len
+  pub place : IsPlace e index key (Some (at, len))
+
+-- The key's record ends beyond the fields.
+abbrev pub IsBeyond : Entry → Option (List ℕ) → List ℕ → Damage → Type 0
+IsBeyond e index key (Absent file) = ⊥
+IsBeyond e index key (Length file want got) = ⊥
+IsBeyond e index key (Index file at) = ⊥
+IsBeyond e index key (Beyond file end len) = (file ≡ name_of e.writer e.seq kinds.Fields) × (len ≡ e.fields_len) × (len < end) × EndsAt e index key end
+
+-- the files stand for no batch
+abbrev pub StandsForNone : Files → Type 0
+StandsForNone f = (b : List Pair) → batch_of f ≡ Some b → ⊥

@@ -1,0 +1,4 @@
+pub mod Held
+pub mod Filling
+pub mod Causes
+pub mod Copying

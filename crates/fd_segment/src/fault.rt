@@ -1,0 +1,72 @@
+use fd_disk::FileName;
+
+/// Why a draft didn't take a pair.
+#[derive(Drop)]
+pub enum PutFault<F> {
+    /// The field file failed.
+    Fault(F),
+    /// The index has no room for the key. Nothing was written.
+    Full {
+        /// The number of distinct keys held.
+        keys: u32,
+        /// The number of reserved bytes that no key takes.
+        left: u32,
+    },
+    /// An allocation was refused.
+    NoMemory,
+}
+
+/// What is wrong with a listed batch.
+#[derive(Clone, Copy, Debug, PartialEq, Eq)]
+pub enum Damage {
+    /// The file isn't there.
+    Absent {
+        /// The file.
+        file: FileName,
+    },
+    /// The file is shorter than its entry says.
+    Length {
+        /// The file.
+        file: FileName,
+        /// The entry's length of the file.
+        want: u64,
+        /// The file's own length.
+        got: u64,
+    },
+    /// The index file isn't in its format.
+    Index {
+        /// The index file.
+        file: FileName,
+        /// The place of the first field that isn't in the format, from 0.
+        at: u64,
+    },
+    /// A record of the index ends beyond the fields.
+    Beyond {
+        /// The field file.
+        file: FileName,
+        /// The record's place plus its length.
+        end: u128,
+        /// The length of the fields that the entry says.
+        len: u64,
+    },
+}
+
+/// Why a segment wasn't opened, or a lens didn't answer.
+#[derive(Drop)]
+pub enum LensFault<F> {
+    /// A file failed.
+    Fault(F),
+    /// The segment stands for no batch.
+    Damaged(Damage),
+    /// An allocation was refused.
+    NoMemory,
+}
+
+/// Why bytes weren't copied to their end.
+#[derive(Drop)]
+pub enum CopyFault<F, X> {
+    /// The field file failed.
+    Fault(F),
+    /// The sink failed.
+    Write(X),
+}

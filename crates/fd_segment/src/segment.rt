@@ -1,0 +1,167 @@
+ghost use Rattle.std.specs.Prelude.{◌≡◌, ◌≤◌, ◌⊎◌, true, Ok, Some, IfOk, IfErr, OnOk, OnErr, IfSome, IsOk};
+ghost use Rattle.fd_disk.specs.declared.folders.FileKind.TheVariants.{Fields, Index};
+ghost use Rattle.fd_disk.specs.declared.folders.FileName.{FileName};
+ghost use Rattle.fd_disk.specs.Folders.{keeping};
+ghost use Rattle.fd_disk.specs.Names.{name_of};
+ghost use Rattle.fd_segment.specs.Causes.{IsBadIndex, OnDamaged};
+ghost use Rattle.fd_segment.specs.Held.{records_in};
+
+use crate::fault::LensFault;
+use crate::lens::{Lens, read_index};
+use fd_bytes::NoMemory;
+use fd_core::Entry;
+use fd_disk::{Down, Sealed, Shelf};
+use std::alloc::Global;
+use std::marker::{Model, PhantomData};
+use std::sync::Mutex;
+
+/// The two files of one batch, which change no more, with the numbers of its entry.
+pub struct Segment<F: Send, Z: Sealed<F>> {
+    /// The number of the writer.
+    pub writer: u32,
+    /// The number of the batch among this writer's, from 1.
+    pub seq: u32,
+    /// The number of distinct keys.
+    pub fields: u32,
+    /// The length of the index in its file, in bytes.
+    pub index_len: u64,
+    /// The length of the fields in their file, in bytes.
+    pub fields_len: u64,
+    field_file: Z,
+    index_file: Z,
+    // a fault may be moved to another thread, and need not be shared
+    of: PhantomData<Mutex<F>>,
+}
+
+impl<F: Send, Z: Sealed<F>> Model for Segment<F, Z> {
+    ghost use Rattle.std.specs.Prelude.{◌≡◌, ◌≤◌};
+    ghost use Rattle.fd_segment.specs.Held.{Standing};
+
+    ghost Value = { Standing };
+
+    ghost view = { λ s. record {
+      files = record {
+        entry = record { writer = s.writer; seq = s.seq; fields = s.fields; index_len = s.index_len; fields_len = s.fields_len };
+        index = Z.bytes s.index_file;
+        fields = Z.bytes s.field_file;
+      };
+      dataset = Z.name s.field_file;
+      index_made = Z.made s.index_file;
+      fields_made = Z.made s.field_file;
+    } };
+
+    ghost invariant = { λ s. (Z.name s.index_file ≡ Z.name s.field_file) × (s.index_len ≤ Z.len s.index_file) × (s.fields_len ≤ Z.len s.field_file) };
+}
+
+impl<F: Send, Z: Sealed<F> + Drop> Drop for Segment<F, Z> {
+    fn drop(self) {
+        let Segment {
+            writer: _,
+            seq: _,
+            fields: _,
+            index_len: _,
+            fields_len: _,
+            field_file: _,
+            index_file: _,
+            of: _,
+        } = self;
+    }
+}
+
+impl<F: Send, Z: Sealed<F>> Segment<F, Z> {
+    /// The segment of two listed files. Both carry the name of one dataset and are at least as long as the numbers say.
+    pub fn new(
+        writer: u32,
+        seq: u32,
+        fields: u32,
+        index_len: u64,
+        fields_len: u64,
+        field_file: Z,
+        index_file: Z,
+    ) -> Segment<F, Z>
+        requires dataset { Z.name index_file ≡ Z.name field_file }
+        requires index { index_len ≤ Z.len index_file }
+        requires fields { fields_len ≤ Z.len field_file }
+        ensures entry { result.files.entry ≡ record { writer = writer; seq = seq; fields = fields; index_len = index_len; fields_len = fields_len } }
+        ensures index { result.files.index ≡ Z.bytes index_file }
+        ensures fields { result.files.fields ≡ Z.bytes field_file }
+        ensures dataset { result.dataset ≡ Z.name field_file }
+        ensures index_made { result.index_made ≡ Z.made index_file }
+        ensures fields_made { result.fields_made ≡ Z.made field_file }
+    {
+        Segment {
+            writer,
+            seq,
+            fields,
+            index_len,
+            fields_len,
+            field_file,
+            index_file,
+            of: PhantomData,
+        }
+    }
+
+    /// The entry of the segment.
+    pub fn entry(&self) -> Entry
+        ensures { result ≡ self.now.files.entry }
+    {
+        Entry {
+            writer: self.writer,
+            seq: self.seq,
+            fields: self.fields,
+            index_len: self.index_len,
+            fields_len: self.fields_len,
+        }
+    }
+
+    /// Has the shelf that created both files hold them. Keeping what it holds already changes nothing.
+    pub fn keep<H: Shelf<F, Sealed = Z>>(
+        &self,
+        alloc: Global,
+        shelf: &mut H,
+    ) -> Result<(), NoMemory>
+        requires dataset { self.now.dataset ≡ H.name shelf.old }
+        requires fields { self.now.fields_made ≡ Some (name_of (H.writer shelf.old) self.now.files.entry.seq Fields) }
+        requires index { self.now.index_made ≡ Some (name_of (H.writer shelf.old) self.now.files.entry.seq Index) }
+        ensures ok { OnOk result (H.kept shelf.new ≡ keeping (name_of (H.writer shelf.old) self.now.files.entry.seq Index) self.now.files.index (keeping (name_of (H.writer shelf.old) self.now.files.entry.seq Fields) self.now.files.fields (H.kept shelf.old))) }
+        ensures err { OnErr result (H.kept shelf.new ≡ H.kept shelf.old) }
+        ensures created { (n : FileName) → H.created shelf.new n ≡ true → (H.created shelf.old n ≡ true) ⊎ ((n ≡ name_of (H.writer shelf.old) self.now.files.entry.seq Fields) ⊎ (n ≡ name_of (H.writer shelf.old) self.now.files.entry.seq Index)) }
+        ensures writer { H.writer shelf.new ≡ H.writer shelf.old }
+        ensures name { H.name shelf.new ≡ H.name shelf.old }
+        ensures faults { H.faults shelf.new ≡ H.faults shelf.old }
+    {
+        shelf.keep(alloc, self.seq, &self.field_file, &self.index_file)
+    }
+}
+
+impl<F: Send, Z: Sealed<F>> Segment<F, Z>
+where
+    Z::Reader: Drop,
+{
+    /// Opens both files for reading, and reads the index. `Damaged` is here only `Index`, exactly where the index isn't in
+    /// its format.
+    pub fn lens(&self, alloc: Global) -> Result<Lens<F, Z::Reader>, LensFault<F>>
+        ensures files { IfOk result (λ l. l.files ≡ self.now.files) }
+        ensures read { IfOk result (λ l. IfSome self.now.files.index (λ index. IsOk (records_in self.now.files.entry index))) }
+        ensures damaged { IfErr result (λ e. OnDamaged e (IsBadIndex self.now.files.entry self.now.files.index)) }
+    {
+        let field_file = opened(alloc, &self.field_file)?;
+        let mut index_file = opened(alloc, &self.index_file)?;
+        let entry = self.entry();
+        let index = read_index(alloc, &mut index_file, &entry)?;
+        Ok(Lens::new(entry, index, index_file, field_file))
+    }
+}
+
+/// Opens a file for reading.
+fn opened<F: Send, Z: Sealed<F>>(alloc: Global, file: &Z) -> Result<Z::Reader, LensFault<F>>
+    ensures bytes { IfOk result (λ r. Z.Reader.bytes r ≡ Z.bytes file.now) }
+    ensures len { IfOk result (λ r. Z.Reader.len r ≡ Z.len file.now) }
+    ensures damaged { IfErr result (λ e. OnDamaged e (λ _. ⊥)) }
+{
+    match file.reader(alloc) {
+        Ok(reader) => Ok(reader),
+        Err(Down::Fault(fault)) => Err(LensFault::Fault(fault)),
+        Err(Down::NoMemory) => Err(LensFault::NoMemory),
+    }
+}
