@@ -1,0 +1,111 @@
+-- How the entries of a table are taken up one by one.
+use Rattle.std.proofs.Common.{◌≡◌, Bool, ℕ, zero, suc, ◌+◌, ◌<◌, ◌≤◌, List, [], ◌∷◌, ◌++◌, map, length, take, drop, get_or, All, refl, sym, ◌∙◌, ap, subst, arith, append_assoc, take-append-drop, Option, Some, None, Ok, IfSome, is_some, true, option_map}
+use Rattle.std.proofs.lemmas.List.{drop_more, map-append, take_more}
+use Rattle.std.proofs.lemmas.Simd.{map-map}
+use Rattle.std.proofs.lemmas.List.Elements.{All-append}
+use Rattle.std.proofs.lemmas.Grind.{flat_map-append}
+use Rattle.std.specs.Arc.{arc_value}
+use Rattle.std.specs.declared.sync.Arc.{Arc}
+use Rattle.fd_disk.specs.declared.folders.FileName.{FileName}
+use Rattle.fd_disk.specs.declared.file.File.{File}
+use Rattle.fd_disk.specs.Folders.{Contents, without_table}
+use Rattle.fd_core.specs.declared.table.Entry.{Entry}
+use Rattle.fd_segment.specs.declared.fault.Damage.{Damage}
+use Rattle.fd_core.specs.Table.{listed}
+use Rattle.fd_segment.specs.Held.{Standing, batch_of}
+use Rattle.fd_recovery.specs.declared.fault.FileFault.{FileFault}
+use Rattle.fd_recovery.specs.declared.fault.FileFault.TheVariants.{Disk, Damaged, NoMemory}
+use Rattle.fd_recovery.specs.Causes.{OnFileDamaged}
+use Rattle.fd_recovery.specs.Damages.{IsFirst, damages, damages_at, damages_of, field_file, index_file}
+use Rattle.fd_recovery.specs.Recovered.{AreTakenUp, IsNamed, all_of, batches_listed, files_of, held, held_by, standings}
+
+pub none_taken : (dataset : List ℕ) (has : Option Contents) → AreTakenUp dataset has [] []
+none_taken dataset has = record { entries = refl; named = λ k d lt. absurd (omega arith); files = go has }
+  where
+    go : (has : Option Contents) → IfSome has (λ v. map (λ (s : Standing). s.files) [] ≡ map (files_of v.files) [])
+    go (Some v) = refl
+    go None = tt
+
+one_named : (dataset : List ℕ) (s : Standing) → IsNamed dataset s → All (IsNamed dataset) (s ∷ [])
+one_named dataset s named zero d lt = named
+one_named dataset s named (suc k) d lt = absurd (omega arith)
+
+pub one_more_taken : (dataset : List ℕ) (has : Option Contents) (es : List Entry) (segments : List Standing) (e : Entry) (s : Standing) → AreTakenUp dataset has es segments
+    → s.files.entry ≡ e → IsNamed dataset s → IfSome has (λ v. s.files ≡ files_of v.files e) → AreTakenUp dataset has (es ++ e ∷ []) (segments ++ s ∷ [])
+one_more_taken dataset has es segments e s taken entry named files = record {
+  entries = map-append (λ (t : Standing). t.files.entry) segments (s ∷ []) ∙ (λ j. taken.entries j ++ entry j ∷ []);
+  named = All-append (IsNamed dataset) segments (s ∷ []) taken.named (one_named dataset s named);
+  files = go has taken.files files;
+}
+  where
+    go : (has : Option Contents) → IfSome has (λ v. map (λ (t : Standing). t.files) segments ≡ map (files_of v.files) es) → IfSome has (λ v. s.files ≡ files_of v.files e)
+        → IfSome has (λ v. map (λ (t : Standing). t.files) (segments ++ s ∷ []) ≡ map (files_of v.files) (es ++ e ∷ []))
+    go None before here = tt
+    go (Some v) before here = map-append (λ (t : Standing). t.files) segments (s ∷ []) ∙ (λ j. before j ++ here j ∷ []) ∙ sym (map-append (files_of v.files) es (e ∷ []))
+
+pub none_damaged : (has : Option Contents) → IfSome has (λ v. damages v.files [] ≡ [])
+none_damaged (Some v) = refl
+none_damaged None = tt
+
+pub one_more_sound : (has : Option Contents) (es : List Entry) (e : Entry) → IfSome has (λ v. damages v.files es ≡ []) → IfSome has (λ v. damages_at v.files e ≡ []) → IfSome has (λ v. damages v.files (es ++ e ∷ []) ≡ [])
+one_more_sound None es e before here = tt
+one_more_sound (Some v) es e before here = flat_map-append (damages_at v.files) es (e ∷ []) ∙ (λ j. before j ++ (here j ++ []))
+
+-- the first damage is that of the first entry that has one
+first_damaged : (has : Option Contents) (es : List Entry) (i : ℕ) (x : Entry) (d : Damage) → i < length es → IfSome has (λ v. damages v.files (take i es) ≡ []) → IfSome has (λ v. IsFirst d (damages_at v.files (get_or es i x)))
+    → IfSome has (λ v. IsFirst d (damages v.files es))
+first_damaged None es i x d lt before here = tt
+first_damaged (Some v) es i x d lt before here =
+    let e = get_or es i x in
+    let rest = drop (i + 1) es in
+    let split : es ≡ take i es ++ e ∷ rest = sym (take-append-drop i es) ∙ ap (λ (l : List Entry). take i es ++ l) (drop_more es i x lt) in
+    let all : damages v.files es ≡ damages v.files (take i es) ++ (damages_at v.files e ++ damages v.files rest) = ap (damages v.files) split ∙ flat_map-append (damages_at v.files) (take i es) (e ∷ rest) in
+    (here.0 ++ damages v.files rest, all ∙ (λ j. before j ++ (here.1 j ++ damages v.files rest)))
+
+-- a field file that is damaged comes first at its entry
+pub field_damaged : {F : Type 0} (fault : FileFault F) (has : Option Contents) (e : Entry) (name : FileName) → name ≡ field_file e → OnFileDamaged fault (λ d. IfSome has (λ v. damages_of name e.fields_len (v.files name) ≡ d ∷ []))
+    → OnFileDamaged fault (λ d. IfSome has (λ v. IsFirst d (damages_at v.files e)))
+field_damaged (Disk f) has e name is here = tt
+field_damaged NoMemory has e name is here = tt
+field_damaged (Damaged d) None e name is here = tt
+field_damaged (Damaged d) (Some v) e name is here =
+    let rest = damages_of (index_file e) e.index_len (v.files (index_file e)) in
+    (rest, ap (λ (l : List Damage). l ++ rest) (subst (λ (n : FileName). damages_of n e.fields_len (v.files n) ≡ d ∷ []) is here))
+
+-- the first damage of an entry that follows sound ones
+pub entry_damaged : {F : Type 0} (fault : FileFault F) (has now : Option Contents) (es : List Entry) (i : ℕ) (x : Entry) → now ≡ has → i < length es → IfSome has (λ v. damages v.files (take i es) ≡ [])
+    → OnFileDamaged fault (λ d. IfSome now (λ v. IsFirst d (damages_at v.files (get_or es i x)))) → OnFileDamaged fault (λ d. IfSome has (λ v. IsFirst d (damages v.files es)))
+entry_damaged (Disk f) has now es i x same lt before here = tt
+entry_damaged NoMemory has now es i x same lt before here = tt
+entry_damaged (Damaged d) has now es i x same lt before here = first_damaged has es i x d lt before (subst (λ (o : Option Contents). IfSome o (λ v. IsFirst d (damages_at v.files (get_or es i x)))) same here)
+
+-- the next entry is taken up
+pub next_taken : {A : Type 0} (dataset name : List ℕ) (has now : Option Contents) (es : List Entry) (i : ℕ) (x : Entry) (old new : List (Arc Standing A)) (shared : Arc Standing A) (s : Standing) → i < length es → name ≡ dataset → now ≡ has
+    → AreTakenUp dataset has (take i es) (standings old) → new ≡ old ++ shared ∷ [] → arc_value shared ≡ s
+    → s.files.entry ≡ get_or es i x → IsNamed name s → IfSome now (λ v. s.files ≡ files_of v.files (get_or es i x)) → AreTakenUp dataset has (take (i + 1) es) (standings new)
+next_taken dataset name has now es i x old new shared s lt names sames taken grown is entry named files =
+    let e = get_or es i x in
+    let all : standings new ≡ standings old ++ s ∷ [] = ap standings grown ∙ map-append arc_value old (shared ∷ []) ∙ (λ j. standings old ++ is j ∷ []) in
+    let more = one_more_taken dataset has (take i es) (standings old) e s taken entry (subst (λ (n : List ℕ). IsNamed n s) names named) (subst (λ (o : Option Contents). IfSome o (λ v. s.files ≡ files_of v.files e)) sames files) in
+    subst (λ (l : List Entry). AreTakenUp dataset has l (standings new)) (sym (take_more es i x lt)) (subst (λ (ss : List Standing). AreTakenUp dataset has (take i es ++ e ∷ []) ss) (sym all) more)
+
+pub next_sound : (has now : Option Contents) (es : List Entry) (i : ℕ) (x : Entry) → i < length es → now ≡ has → IfSome has (λ v. damages v.files (take i es) ≡ []) → IfSome now (λ v. damages_at v.files (get_or es i x) ≡ [])
+    → IfSome has (λ v. damages v.files (take (i + 1) es) ≡ [])
+next_sound has now es i x lt same before here =
+    subst (λ (l : List Entry). IfSome has (λ v. damages v.files l ≡ [])) (sym (take_more es i x lt))
+    (one_more_sound has (take i es) (get_or es i x) before (subst (λ (o : Option Contents). IfSome o (λ v. damages_at v.files (get_or es i x) ≡ [])) same here))
+
+-- the segments that were taken up stand for the batches that the dataset holds
+pub held_taken : (dataset : List ℕ) (has now : Option Contents) (es : List Entry) (segments : List Standing) → now ≡ option_map without_table has → (some : Bool) → some ≡ true → IfSome has (λ v. some ≡ is_some v.table)
+    → IfSome has (λ v. IfSome v.table (λ f. listed dataset f.reads ≡ Ok es)) → IfSome now (λ v. map (λ s. s.files) segments ≡ map (files_of v.files) es)
+    → IfSome has (λ v. all_of (map (λ s. batch_of s.files) segments) ≡ held dataset v)
+held_taken dataset None now es segments is b is_true some lists files = tt
+held_taken dataset (Some v) now es segments is b is_true some lists files =
+    let same : map (λ (s : Standing). s.files) segments ≡ map (files_of v.files) es = subst (λ (o : Option Contents). IfSome o (λ w. map (λ (s : Standing). s.files) segments ≡ map (files_of w.files) es)) is files in
+    let batches : map (λ (s : Standing). batch_of s.files) segments ≡ map (λ (e : Entry). batch_of (files_of v.files e)) es =
+    sym (map-map batch_of (λ (s : Standing). s.files) segments) ∙ ap (map batch_of) same ∙ map-map batch_of (files_of v.files) es in
+    ap all_of batches ∙ go v.table (sym is_true ∙ some) lists
+  where
+    go : (t : Option File) → true ≡ is_some t → IfSome t (λ f. listed dataset f.reads ≡ Ok es) → all_of (map (λ (e : Entry). batch_of (files_of v.files e)) es) ≡ held_by dataset v.files t
+    go None some lists = absurd (cc some)
+    go (Some f) some lists = ap (batches_listed v.files) (sym lists)

@@ -1,0 +1,15 @@
+use Rattle.std.proofs.Common.{rules, ◌≡◌, IfSome, List, Ok, is_some, subst, true}
+use Rattle.fd_core.specs.declared.table.Entry.{Entry}
+use Rattle.fd_core.specs.Table.{listed}
+use Rattle.fd_recovery.specs.Recovered.{AreTakenUp, standings}
+use Rattle.fd_recovery.proofs.TakingUp.{held_taken}
+use Rattle.fd_recovery.proofs.recovery.recover.Goals as goal
+
+pub returns-in-Ok-clause-held : goal.returns-in-Ok-clause-held
+returns-in-Ok-clause-held g c =
+    let has = g.D.Folder.has in
+    let taken : AreTakenUp (g.D.Folder.name c.load_table.new.folder) (has c.load_table.new.folder) c.in-Ok-Some.toc.entries (standings c.in-Ok.segments.items) =
+    subst (λ (l : List Entry). AreTakenUp (g.D.Folder.name c.load_table.new.folder) (has c.load_table.new.folder) l (standings c.in-Ok.segments.items)) c.entries.ensures.entries c.in-Ok.ensures.segments in
+    let there : is_some c.in-Ok-Some.field-0 ≡ true = search rules in
+    let lists : IfSome (has c.args.folder.now) (λ v. IfSome v.table (λ f. listed c.args.dataset.now f.reads ≡ Ok c.in-Ok-Some.toc.entries)) = search rules in
+    held_taken c.args.dataset.now (has c.args.folder.now) (has c.load_table.new.folder) c.in-Ok-Some.toc.entries (standings c.in-Ok.segments.items) c.in-Ok-Some.ensures.has (is_some c.in-Ok-Some.field-0) there c.in-Ok-Some.ensures.none lists taken.files

@@ -1,0 +1,21 @@
+use Rattle.std.proofs.Common.{◌∙◌, arith}
+use Rattle.fd_recovery.proofs.TakingUp.{entry_damaged, next_sound, next_taken}
+use Rattle.fd_recovery.proofs.segments.segments_of.Goals as goal
+
+pub returns-in-Err-clause-damaged : goal.returns-in-Err-clause-damaged
+returns-in-Err-clause-damaged g c =
+    entry_damaged c.in-Err.fault (g.D.Folder.has c.args.folder.now) (g.D.Folder.has c.loop-i.folder) c.args.entries.now c.loop-i.i _ c.loop-i.invariant.has (omega arith) c.loop-i.invariant.sound c.in-Err.ensures.damaged
+
+pub loop-i-preserved : goal.loop-i-preserved
+loop-i-preserved g c =
+    let has = g.D.Folder.has in
+    record {
+      taken = next_taken (g.D.Folder.name c.args.folder.now) (g.D.Folder.name c.loop-i.folder) (has c.args.folder.now) (has c.loop-i.folder) c.args.entries.now c.loop-i.i _ c.loop-i.segments.items c.push.new.self.items c.in-Ok-new.shared c.in-Ok.segment
+          (omega arith) c.loop-i.invariant.name c.loop-i.invariant.has c.loop-i.invariant.taken c.in-Ok-push.ensures.items c.in-Ok-new.ensures.ok c.in-Ok.ensures.entry c.in-Ok.ensures.named c.in-Ok.ensures.files;
+      sound = next_sound (has c.args.folder.now) (has c.loop-i.folder) c.args.entries.now c.loop-i.i _ (omega arith) c.loop-i.invariant.has c.loop-i.invariant.sound c.in-Ok.ensures.sound;
+      has = c.in-Ok.ensures.has ∙ c.loop-i.invariant.has;
+      out = c.in-Ok.ensures.out ∙ c.loop-i.invariant.out;
+      last_writer = c.in-Ok.ensures.last_writer ∙ c.loop-i.invariant.last_writer;
+      name = c.in-Ok.ensures.name ∙ c.loop-i.invariant.name;
+      later = omega (arith, c.in-Ok.ensures.later, c.loop-i.invariant.later);
+    }

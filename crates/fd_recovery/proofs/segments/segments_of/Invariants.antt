@@ -1,0 +1,15 @@
+use Rattle.std.proofs.Common.{◌≡◌, ◌≤◌, [], IfSome, take}
+use Rattle.fd_recovery.specs.Damages.{damages}
+use Rattle.fd_recovery.specs.Recovered.{AreTakenUp, standings}
+use Rattle.fd_recovery.proofs.segments.segments_of.Given as goal
+
+abbrev pub invariant-loop-i : goal.invariant-loop-i
+invariant-loop-i g l = record {
+  taken : AreTakenUp (g.D.Folder.name l.fn.folder) (g.D.Folder.has l.fn.folder) (take l.i l.entries) (standings l.segments.items);
+  sound : IfSome (g.D.Folder.has l.fn.folder) (λ v. damages v.files (take l.i l.entries) ≡ []);
+  has : g.D.Folder.has l.folder ≡ g.D.Folder.has l.fn.folder;
+  out : g.D.Folder.table_out l.folder ≡ g.D.Folder.table_out l.fn.folder;
+  last_writer : g.D.Folder.last_writer l.folder ≡ g.D.Folder.last_writer l.fn.folder;
+  name : g.D.Folder.name l.folder ≡ g.D.Folder.name l.fn.folder;
+  later : g.D.Folder.faults l.fn.folder ≤ g.D.Folder.faults l.folder;
+}

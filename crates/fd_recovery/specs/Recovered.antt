@@ -1,0 +1,68 @@
+-- A dataset that was opened.
+use Rattle.std.specs.Prelude.{◌≡◌, ℕ, List, [], ◌∷◌, map, All, Option, Some, None, Result, Ok, Err, IfSome, option_map}
+use Rattle.std.specs.Arc.{arc_value}
+use Rattle.std.specs.declared.sync.Arc.{Arc}
+use Rattle.fd_bytes.specs.Causes.{Rose}
+use Rattle.fd_disk.specs.declared.file.File.{File}
+use Rattle.fd_disk.specs.declared.folders.FileName.{FileName}
+use Rattle.fd_disk.specs.Folders.{Contents}
+use Rattle.fd_disk.specs.Images.{synced}
+use Rattle.fd_core.specs.declared.batch.Pair.{Pair}
+use Rattle.fd_core.specs.declared.table.Entry.{Entry}
+use Rattle.fd_core.specs.declared.table.NotATable.{NotATable}
+use Rattle.fd_core.specs.Table.{listed}
+use Rattle.fd_segment.specs.Held.{Files, Standing, batch_of}
+use Rattle.fd_recovery.specs.Damages.{field_file, index_file}
+
+-- what shared segments are
+abbrev pub standings : {A : Type 0} → List (Arc Standing A) → List Standing
+standings segments = map arc_value segments
+
+abbrev pub entries_of : List Standing → List Entry
+entries_of segments = map (λ s. s.files.entry) segments
+
+-- the two files of an entry
+abbrev pub files_of : (FileName → Option (List ℕ)) → Entry → Files
+files_of files e = record { entry = e; index = files (index_file e); fields = files (field_file e) }
+
+-- The segment is of the dataset, and its files were created under its entry's names.
+pub record IsNamed (dataset : List ℕ) (s : Standing) : Type 0 where
+  pub dataset_is : s.dataset ≡ dataset
+  pub index_made : s.index_made ≡ Some (index_file s.files.entry)
+  pub fields_made : s.fields_made ≡ Some (field_file s.files.entry)
+
+-- One segment for each entry, in order, with the files that the folder has under the entry's names.
+pub record AreTakenUp (dataset : List ℕ) (has : Option Contents) (es : List Entry) (segments : List Standing) : Type 0 where
+  pub entries : entries_of segments ≡ es
+  pub named : All (IsNamed dataset) segments
+  pub files : IfSome has (λ v. map (λ s. s.files) segments ≡ map (files_of v.files) es)
+
+-- the folder with its table firm as it reads
+abbrev pub with_firm_table : Contents → Contents
+with_firm_table v = record { table = option_map synced v.table; files = v.files }
+
+-- The table that the folder handed out failed before it came back.
+pub record TableFailed {T : Type 0} (file : T → Option File) (faults : T → ℕ) (has : Option Contents) : Type 0 where
+  pub given : T
+  pub back : T
+  pub is : IfSome has (λ v. file given ≡ v.table)
+  pub rose : Rose (faults given) (faults back)
+
+-- each of these batches, or none where one of them is none
+abbrev pub all_of : List (Option (List Pair)) → Option (List (List Pair))
+all_of [] = Some []
+all_of (None ∷ bs) = None
+all_of (Some b ∷ bs) = option_map (λ more. b ∷ more) (all_of bs)
+
+abbrev pub batches_listed : (FileName → Option (List ℕ)) → Result (List Entry) NotATable → Option (List (List Pair))
+batches_listed files (Ok es) = all_of (map (λ e. batch_of (files_of files e)) es)
+batches_listed files (Err fault) = None
+
+abbrev pub held_by : List ℕ → (FileName → Option (List ℕ)) → Option File → Option (List (List Pair))
+held_by dataset files None = Some []
+held_by dataset files (Some f) = batches_listed files (listed dataset f.reads)
+
+-- The batches that a dataset holds, in the order of its table: those that the listed entries stand for. There are none
+-- where there is no table, and it isn't said where the bytes are no table or an entry stands for no batch.
+abbrev pub held : List ℕ → Contents → Option (List (List Pair))
+held dataset v = held_by dataset v.files v.table

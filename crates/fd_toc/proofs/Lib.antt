@@ -1,0 +1,5 @@
+mod SlotSteps
+mod Filled
+mod LoadSteps
+mod Meanwhile
+mod CallSteps

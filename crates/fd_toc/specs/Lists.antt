@@ -1,0 +1,17 @@
+-- Which entries bytes list.
+use Rattle.std.specs.Prelude.{◌≡◌, ◌⊎◌, ℕ, List, [], ◌∷◌, ◌++◌, Option, Some, None, Ok}
+use Rattle.fd_core.specs.declared.table.Entry.{Entry}
+use Rattle.fd_core.specs.Table.{listed}
+
+-- exactly these entries
+abbrev pub Lists : List ℕ → List Entry → List ℕ → Type 0
+Lists dataset es c = listed dataset c ≡ Ok es
+
+-- exactly these entries, or these and the one in doubt, where one is
+abbrev pub ListsOrAlso : List ℕ → List Entry → Option Entry → List ℕ → Type 0
+ListsOrAlso dataset es None c = Lists dataset es c
+ListsOrAlso dataset es (Some e) c = Lists dataset es c ⊎ Lists dataset (es ++ e ∷ []) c
+
+-- these entries, or these and the one in doubt, or these and the new one
+abbrev pub ListsOrOneMore : List ℕ → List Entry → Option Entry → Entry → List ℕ → Type 0
+ListsOrOneMore dataset es doubt e c = ListsOrAlso dataset es doubt c ⊎ Lists dataset (es ++ e ∷ []) c
