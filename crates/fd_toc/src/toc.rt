@@ -71,6 +71,13 @@ impl<F: Send, T: Disk<F>> Toc<F, T> {
         &self.entries
     }
 
+    /// The text of the dataset.
+    pub fn dataset(&self) -> &[u8]
+        ensures { result.now ≡ self.now.dataset }
+    {
+        self.dataset.as_slice()
+    }
+
     /// The entry whose gate a crash may leave open or closed, since opening it failed and it isn't mended.
     pub fn in_doubt(&self) -> Option<Entry>
         ensures { result ≡ self.now.doubt }

@@ -1,0 +1,347 @@
+ghost use Rattle.std.specs.Prelude.{◌≡◌, ◌<◌, ◌≤◌, ◌+◌, ◌*◌, ◌⊎◌, ◌++◌, List, [], ◌∷◌, length, Option, Some, None, Err, IfOk, IfErr, OnErr, Contains};
+ghost use mathlib.Core.List.{IsPrefix};
+ghost use Rattle.std.specs.Arc.{arc_value};
+ghost use Rattle.fd_core.specs.declared.batch.Listing.{Listing};
+ghost use Rattle.fd_core.specs.declared.table.Entry.{Entry};
+ghost use Rattle.fd_core.specs.Table.{greatest_writer};
+ghost use Rattle.fd_turn.specs.declared.view.Lock.TheVariants.{Free};
+ghost use Rattle.fd_turn.specs.Views.{all_parts, donor, first_view, recipient, merger};
+ghost use Rattle.fd_turn.specs.Passes.{view, IsOf, IsSame};
+ghost use Rattle.fd_dataset.specs.Listed.{AreOf, listing_of, listings, entries, entry_of, entries_of};
+ghost use Rattle.fd_dataset.specs.Causes.{AreFewer, FullAt, IsListed, LeavesDoubts};
+
+use crate::fault::{ListFault, Receipt};
+use crate::parts::{Desk, Segments};
+use crate::snapshot::Snapshot;
+use fd_bytes::{Bytes, NoMemory};
+use fd_disk::{Disk, Sealed};
+use fd_segment::Segment;
+use fd_toc::{AppendFault, Toc};
+use fd_turn::{Board, Pass};
+use std::alloc::{AllocError, Global};
+use std::marker::Model;
+use std::sync::{Arc, Wait};
+
+/// A caller's place at a dataset: what it has seen of the table.
+pub type DatasetPass<F, T, Z> = Pass<Segments<F, Z>, Desk<F, T, Z>>;
+
+/// The table of contents of a dataset, which many callers share by `&`, also in threads. It ends by `close`.
+#[derive(Drop)]
+pub struct Dataset<F: Send, T: Disk<F>, Z: Sealed<F> + Drop> {
+    board: Board<Segments<F, Z>, Desk<F, T, Z>>,
+}
+
+impl<F: Send, T: Disk<F>, Z: Sealed<F> + Drop> Model for Dataset<F, T, Z> {
+    ghost use Rattle.fd_turn.specs.Passes.{BoardId, identity};
+
+    ghost Value = { BoardId };
+
+    ghost view = { λ d. identity d.board };
+}
+
+impl<F: Send, T: Disk<F>, Z: Sealed<F> + Drop> Dataset<F, T, Z> {
+    /// A dataset over a table in which nothing is in doubt, with one segment for each of its entries, in order; and its
+    /// one pass, which has every part and no doubts. Where there is no memory the table comes back.
+    pub fn new(
+        alloc: Global,
+        toc: Toc<F, T>,
+        segments: Vec<Arc<Segment<F, Z>>>,
+    ) -> Result<(Dataset<F, T, Z>, DatasetPass<F, T, Z>), (Toc<F, T>, NoMemory)>
+        requires segments { entries segments.items ≡ toc.entries }
+        requires sure { toc.doubt ≡ None }
+        requires name { T.name toc.table ≡ toc.dataset }
+        requires names { AreOf (T.name toc.table) segments.items }
+        ensures own { IfOk result (λ r. IsOf r.0 r.1) }
+        ensures pass { IfOk result (λ r. view r.1 ≡ first_view (T.name toc.table) (listings segments.items)) }
+        ensures err { IfErr result (λ e. e.0 ≡ toc) }
+    {
+        let _ = toc.entries();
+        let Ok(shown) = copied(alloc, &segments) else {
+            return Err((toc, NoMemory));
+        };
+        let Ok(list) = Arc::new(alloc, shown) else {
+            return Err((toc, NoMemory));
+        };
+        let Ok((name, own)) = names(alloc, toc.dataset()) else {
+            return Err((toc, NoMemory));
+        };
+        let desk = Desk {
+            toc,
+            segments,
+            doubted: None,
+            name: own,
+        };
+        match Board::start(alloc, Segments { list, name }, desk) {
+            Ok((board, pass)) => Ok((Dataset { board }, pass)),
+            Err((_, desk, _)) => {
+                let Desk {
+            toc,
+            segments: _,
+            doubted: _,
+            name: _,
+        } = desk;
+                Err((toc, NoMemory))
+            }
+        }
+    }
+
+    /// Lists a segment of this dataset: appends its entry to the table, and shows it to all who look from then on. The
+    /// pass has then seen all that is listed, and has no doubts. The segment's writer is at most 65,536 times the number
+    /// after those that the pass has seen.
+    ///
+    /// After a refusal nothing was added, and the pass has seen all that was listed under the lock. `Disk` comes only
+    /// with a fault of the table, `Full` exactly where 65,535 entries are listed, and `NoMemory` before the table is
+    /// called.
+    pub fn list<R: Wait>(
+        &self,
+        rt: &R,
+        alloc: Global,
+        pass: &mut DatasetPass<F, T, Z>,
+        segment: Arc<Segment<F, Z>>,
+    ) -> Result<Receipt, ListFault<F>>
+        requires own { IsOf self.now pass.old }
+        requires free { (view pass.old).lock ≡ Free }
+        requires name { (arc_value segment).dataset ≡ (view pass.old).subject }
+        requires writer { (entry_of segment).writer ≤ greatest_writer (length (view pass.old).history) }
+        ensures own { IsSame pass.old pass.new }
+        ensures listed { IfOk result (λ r. IsListed (view pass.old).history (listing_of segment) r.number (view pass.new).history) }
+        ensures counted { IfOk result (λ r. (view pass.new).amount ≡ (view pass.old).amount + 1) }
+        ensures sure { IfOk result (λ r. (view pass.new).doubts ≡ []) }
+        ensures seen { IsPrefix (view pass.old).history (view pass.new).history }
+        ensures refused { OnErr result ((view pass.new).amount ≡ (view pass.old).amount) }
+        ensures doubts { IfErr result (LeavesDoubts (listing_of segment) (view pass.old).doubts (view pass.new).doubts) }
+        ensures full { FullAt (length (view pass.new).history) result }
+        ensures rest { view pass.new ≡ record (view pass.old) { history = (view pass.new).history; amount = (view pass.new).amount; doubts = (view pass.new).doubts } }
+    {
+        let desk = self.board.lock(rt, pass);
+        if desk.toc.entries().len() >= 65535 {
+            self.board.unlock(pass, desk);
+            return Err(ListFault::Full { count: 65535 });
+        }
+        let (desk, lists) = prepared(alloc, desk, &segment);
+        let Ok((shown, own)) = lists else {
+            self.board.unlock(pass, desk);
+            return Err(ListFault::NoMemory);
+        };
+        let (desk, answer) = appended(desk, own, segment);
+        match answer {
+            Ok(number) => {
+                self.board.post(rt, pass, shown);
+                self.board.unlock(pass, desk);
+                Ok(Receipt { number })
+            }
+            Err(fault) => {
+                self.board.unlock(pass, desk);
+                Err(ListFault::Disk(fault))
+            }
+        }
+    }
+
+    /// What is listed now, as far as this caller is told: all that the pass has seen, and what others listed since as far
+    /// as it is shown. After `NoMemory` the pass is as before.
+    pub fn snapshot<R: Wait>(
+        &self,
+        rt: &R,
+        alloc: Global,
+        pass: &mut DatasetPass<F, T, Z>,
+    ) -> Result<Snapshot<F, Z>, NoMemory>
+        requires own { IsOf self.now pass.old }
+        requires free { (view pass.old).lock ≡ Free }
+        ensures own { IsSame pass.old pass.new }
+        ensures ok { IfOk result (λ s. view pass.new ≡ record (view pass.old) { history = s }) }
+        ensures seen { IfOk result (λ s. IsPrefix (view pass.old).history s) }
+        ensures count { IfOk result (λ s. (view pass.old).parts ≡ all_parts → (view pass.old).opening + (view pass.old).amount ≡ length s) }
+        ensures err { OnErr result (view pass.new ≡ view pass.old) }
+    {
+        let segments = self.board.look(rt, alloc, pass)?;
+        Ok(Snapshot { segments })
+    }
+
+    /// Has the pass see all that is listed. Where it has every part, its amount is the number of entries that were listed
+    /// since the dataset began. Its doubts are as before, or none.
+    pub fn catch_up<R: Wait>(&self, rt: &R, pass: &mut DatasetPass<F, T, Z>)
+        requires own { IsOf self.now pass.old }
+        requires free { (view pass.old).lock ≡ Free }
+        ensures own { IsSame pass.old pass.new }
+        ensures seen { IsPrefix (view pass.old).history (view pass.new).history }
+        ensures count { (view pass.old).parts ≡ all_parts → (view pass.new).opening + (view pass.new).amount ≡ length (view pass.new).history }
+        ensures doubts { AreFewer (view pass.old).doubts (view pass.new).doubts }
+        ensures few { length (view pass.new).history ≤ 65535 }
+        ensures rest { view pass.new ≡ record (view pass.old) { history = (view pass.new).history; doubts = (view pass.new).doubts } }
+    {
+        let desk = self.board.lock(rt, pass);
+        let _ = desk.toc.entries();
+        self.board.unlock(pass, desk);
+    }
+
+    /// A pass for another caller, with one of this pass's parts, of which there are two at least, and what it has seen.
+    pub fn split(&self, pass: &mut DatasetPass<F, T, Z>) -> DatasetPass<F, T, Z>
+        requires own { IsOf self.now pass.old }
+        requires free { (view pass.old).lock ≡ Free }
+        requires parts { 2 ≤ (view pass.old).parts }
+        ensures own { IsSame pass.old pass.new × IsSame pass.old result }
+        ensures kept { view pass.new ≡ donor (view pass.old) }
+        ensures given { view result ≡ recipient (view pass.old) }
+    {
+        self.board.split(pass)
+    }
+
+    /// Takes another pass in: this one keeps the longer of the two histories, of which both are beginnings, the parts and
+    /// the amounts of both, added up, and the doubts of both.
+    pub fn join(&self, pass: &mut DatasetPass<F, T, Z>, other: DatasetPass<F, T, Z>)
+        requires own { IsOf self.now pass.old × IsOf self.now other }
+        requires free { ((view pass.old).lock ≡ Free) × ((view other).lock ≡ Free) }
+        ensures own { IsSame pass.old pass.new }
+        ensures view { view pass.new ≡ merger (view pass.old) (view other) }
+        ensures seen { IsPrefix (view pass.old).history (view pass.new).history }
+        ensures told { IsPrefix (view other).history (view pass.new).history }
+    {
+        self.board.join(pass, other)
+    }
+
+    /// Ends the dataset, by the pass that has every part, and hands the table back. Its entries begin with those of the
+    /// pass's history, and are as many as the dataset began with and the pass's amount together. An entry in doubt is that
+    /// of one of the pass's doubts.
+    pub fn close(self, pass: DatasetPass<F, T, Z>) -> Toc<F, T>
+        requires own { IsOf self pass }
+        requires free { (view pass).lock ≡ Free }
+        requires all { (view pass).parts ≡ all_parts }
+        ensures seen { IsPrefix (entries_of (view pass).history) result.entries }
+        ensures count { length result.entries ≡ (view pass).opening + (view pass).amount }
+        ensures name { T.name result.table ≡ (view pass).subject }
+        ensures doubt { (e : Entry) → result.doubt ≡ Some e → (l : Listing) × Contains (view pass).doubts l × (l.entry ≡ e) }
+    {
+        let Dataset { board } = self;
+        let (_, desk) = board.close(pass);
+        let Desk {
+            toc,
+            segments: _,
+            doubted: _,
+            name: _,
+        } = desk;
+        toc
+    }
+}
+
+type Lists<F, Z> = (Segments<F, Z>, Vec<Arc<Segment<F, Z>>>);
+
+// The list with one segment more, twice, and room for its entry in the table.
+fn prepared<F: Send, T: Disk<F>, Z: Sealed<F> + Drop>(
+    alloc: Global,
+    mut desk: Desk<F, T, Z>,
+    segment: &Arc<Segment<F, Z>>,
+) -> (Desk<F, T, Z>, Result<Lists<F, Z>, NoMemory>)
+    requires room { length desk.toc.entries < 65535 }
+    ensures desk { (result.0.segments.items ≡ desk.segments.items) × (result.0.doubted ≡ desk.doubted) }
+    ensures name { T.name result.0.toc.table ≡ T.name desk.toc.table }
+    ensures subject { IfOk result.1 (λ l. arc_value l.0.name ≡ T.name desk.toc.table) }
+    ensures shown { IfOk result.1 (λ l. listings (arc_value l.0.list).items ≡ listings desk.segments.items ++ listing_of segment.now ∷ []) }
+    ensures own { IfOk result.1 (λ l. (entries l.1.items ≡ entries desk.segments.items ++ entry_of segment.now ∷ []) × (listings l.1.items ≡ listings desk.segments.items ++ listing_of segment.now ∷ [])) }
+    ensures spare { IfOk result.1 (λ l. 0 < result.0.toc.spare) }
+{
+    let Ok(()) = desk.toc.reserve() else {
+        return (desk, Err(NoMemory));
+    };
+    let Ok(shown) = longer(alloc, &desk.segments, segment) else {
+        return (desk, Err(NoMemory));
+    };
+    let Ok(own) = longer(alloc, &desk.segments, segment) else {
+        return (desk, Err(NoMemory));
+    };
+    let Ok(name) = Arc::try_clone(&desk.name) else {
+        return (desk, Err(NoMemory));
+    };
+    match Arc::new(alloc, shown) {
+        Ok(list) => (desk, Ok((Segments { list, name }, own))),
+        Err(_) => (desk, Err(NoMemory)),
+    }
+}
+
+// The name, twice.
+fn names(alloc: Global, name: &[u8]) -> Result<(Arc<Bytes>, Arc<Bytes>), NoMemory>
+    ensures { IfOk result (λ p. (arc_value p.0 ≡ name.now) × (arc_value p.1 ≡ name.now)) }
+{
+    let first = Arc::new(alloc, Bytes::from_slice(alloc, name)?)?;
+    let second = Arc::try_clone(&first)?;
+    Ok((first, second))
+}
+
+// The segments with one more.
+fn longer<F: Send, Z: Sealed<F> + Drop>(
+    alloc: Global,
+    segments: &Vec<Arc<Segment<F, Z>>>,
+    segment: &Arc<Segment<F, Z>>,
+) -> Result<Vec<Arc<Segment<F, Z>>>, AllocError>
+    ensures listings { IfOk result (λ v. listings v.items ≡ listings segments.now.items ++ listing_of segment.now ∷ []) }
+    ensures entries { IfOk result (λ v. entries v.items ≡ entries segments.now.items ++ entry_of segment.now ∷ []) }
+{
+    let mut all = copied(alloc, segments)?;
+    all.push(Arc::try_clone(segment)?)?;
+    Ok(all)
+}
+
+// The same segments.
+fn copied<F: Send, Z: Sealed<F> + Drop>(
+    alloc: Global,
+    segments: &Vec<Arc<Segment<F, Z>>>,
+) -> Result<Vec<Arc<Segment<F, Z>>>, AllocError>
+    ensures listings { IfOk result (λ v. listings v.items ≡ listings segments.now.items) }
+    ensures entries { IfOk result (λ v. entries v.items ≡ entries segments.now.items) }
+{
+    let mut all = Vec::new(alloc);
+    for i in 0..segments.len() {
+        all.push(Arc::try_clone(&segments[i])?)?;
+    }
+    Ok(all)
+}
+
+// Lists the segment in the table. The list that is given is the new one.
+fn appended<F: Send, T: Disk<F>, Z: Sealed<F> + Drop>(
+    desk: Desk<F, T, Z>,
+    own: Vec<Arc<Segment<F, Z>>>,
+    segment: Arc<Segment<F, Z>>,
+) -> (Desk<F, T, Z>, Result<u32, F>)
+    requires own { entries own.items ≡ entries desk.segments.items ++ entry_of segment ∷ [] }
+    requires room { length desk.toc.entries < 65535 }
+    requires spare { 0 < desk.toc.spare }
+    requires writer { (entry_of segment).writer ≤ greatest_writer (length desk.toc.entries) }
+    ensures name { T.name result.0.toc.table ≡ T.name desk.toc.table }
+    ensures ok { IfOk result.1 (λ n. (result.0.segments.items ≡ own.items) × (result.0.doubted ≡ None) × (n ≡ length own.items)) }
+    ensures err { OnErr result.1 ((result.0.segments.items ≡ desk.segments.items) × ((result.0.doubted ≡ desk.doubted) ⊎ (result.0.doubted ≡ None) ⊎ (result.0.doubted ≡ Some segment))) }
+{
+    let Desk {
+        mut toc,
+        segments,
+        doubted,
+        name,
+    } = desk;
+    let entry = segment.entry();
+    match toc.append(entry) {
+        Ok(number) => (
+            Desk {
+                toc,
+                segments: own,
+                doubted: None,
+                name,
+            },
+            Ok(number),
+        ),
+        Err(AppendFault::Full { count: _ }) => unreachable!(),
+        Err(AppendFault::Disk(fault)) => {
+            let doubted = match toc.in_doubt() {
+                None => None,
+                Some(found) if found == entry => Some(segment),
+                Some(_) => doubted,
+            };
+            (
+                Desk {
+                    toc,
+                    segments,
+                    doubted,
+                    name,
+                },
+                Err(fault),
+            )
+        }
+    }
+}

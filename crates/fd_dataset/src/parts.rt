@@ -1,0 +1,60 @@
+//! What the board of a dataset keeps: the list that readers get, and the table under the lock.
+ghost use Rattle.std.specs.Prelude.{◌≡◌, ◌≤◌, length};
+ghost use Rattle.std.specs.Arc.{arc_value};
+ghost use Rattle.fd_dataset.specs.Listed.{entries, doubted_entry};
+
+use fd_bytes::{Bytes, NoMemory};
+use fd_disk::{Disk, Sealed};
+use fd_segment::Segment;
+use fd_toc::Toc;
+use fd_turn::{Guarded, Handed};
+use std::alloc::Global;
+use std::sync::Arc;
+
+/// The listed segments, as readers see them: in the order of their entries.
+#[derive(Drop)]
+pub struct Segments<F: Send, Z: Sealed<F> + Drop> {
+    pub(crate) list: Arc<Vec<Arc<Segment<F, Z>>>>,
+    pub(crate) name: Arc<Bytes>,
+    ghost few: { length (arc_value list).items ≤ 65535 },
+}
+
+/// The table of contents, with a list of its own of the same segments, the segment whose entry is in doubt, and the
+/// dataset's text. The
+/// entries of its list are those of the table, and a segment is kept as doubted exactly where its entry is in doubt.
+#[derive(Drop)]
+pub struct Desk<F: Send, T: Disk<F>, Z: Sealed<F> + Drop> {
+    pub(crate) toc: Toc<F, T>,
+    pub(crate) segments: Vec<Arc<Segment<F, Z>>>,
+    pub(crate) doubted: Option<Arc<Segment<F, Z>>>,
+    pub(crate) name: Arc<Bytes>,
+    ghost listed: { entries segments.items ≡ toc.entries },
+    ghost doubt_is: { doubted_entry doubted ≡ toc.doubt },
+    ghost named: { arc_value name ≡ T.name toc.table },
+}
+
+impl<F: Send, Z: Sealed<F> + Drop> Handed for Segments<F, Z> {
+    ghost use Rattle.fd_dataset.specs.Listed.{listings};
+    ghost use Rattle.std.specs.Arc.{arc_value};
+
+    ghost list = { λ s. listings (arc_value s.list).items };
+
+    ghost subject = { λ s. arc_value s.name };
+
+    fn again(&self, _alloc: Global) -> Result<Segments<F, Z>, NoMemory> {
+        Ok(Segments {
+            list: Arc::try_clone(&self.list)?,
+            name: Arc::try_clone(&self.name)?,
+        })
+    }
+}
+
+impl<F: Send, T: Disk<F>, Z: Sealed<F> + Drop> Guarded for Desk<F, T, Z> {
+    ghost use Rattle.fd_dataset.specs.Listed.{listings, doubted_listing};
+
+    ghost list = { λ d. listings d.segments.items };
+
+    ghost doubt = { λ d. doubted_listing d.doubted };
+
+    ghost subject = { λ d. T.name d.toc.table };
+}

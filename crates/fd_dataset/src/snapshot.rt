@@ -1,0 +1,42 @@
+ghost use Rattle.std.specs.Prelude.{◌≡◌, ◌≤◌, ◌<◌, ◌-◌, length, slice_get, Some};
+ghost use Rattle.fd_dataset.specs.Listed.{listing};
+
+use crate::parts::Segments;
+use fd_disk::Sealed;
+use fd_segment::Segment;
+use std::marker::Model;
+
+/// What is listed in a dataset, as of some moment. It stays as it is whatever is listed later.
+#[derive(Drop)]
+pub struct Snapshot<F: Send, Z: Sealed<F> + Drop> {
+    pub(crate) segments: Segments<F, Z>,
+}
+
+impl<F: Send, Z: Sealed<F> + Drop> Model for Snapshot<F, Z> {
+    ghost use Rattle.std.specs.Prelude.{List};
+    ghost use Rattle.std.specs.Arc.{arc_value};
+    ghost use Rattle.fd_core.specs.declared.batch.Listing.{Listing};
+    ghost use Rattle.fd_dataset.specs.Listed.{listings};
+
+    ghost Value = { List Listing };
+
+    ghost view = { λ s. listings (arc_value s.segments.list).items };
+}
+
+impl<F: Send, Z: Sealed<F> + Drop> Snapshot<F, Z> {
+    /// The number of entries.
+    pub fn len(&self) -> u32
+        ensures count { result ≡ length self.now }
+        ensures few { length self.now ≤ 65535 }
+    {
+        self.segments.list.len() as u32
+    }
+
+    /// The segment of the entry with this number, from 1.
+    pub fn segment(&self, number: u32) -> &Segment<F, Z>
+        requires { (1 ≤ number) × (number ≤ length self.now) }
+        ensures { slice_get self.now (number - 1) ≡ Some (listing result.now) }
+    {
+        &self.segments.list[(number - 1) as usize]
+    }
+}
