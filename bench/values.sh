@@ -1,8 +1,9 @@
 #!/usr/bin/env bash
 # Points per second of `fdb values`, and beside it of ecCodes' `grib_get_data` where it is installed, over one message of
-# 70,000 points packed in 16 bits. No part of the gate.
+# 70,000 points packed in 16 bits. FDB names the program, where it isn't to be built here. No part of the gate.
 set -eu
 top=$(cd "$(dirname "$0")/.." && pwd)
+fdb=${FDB:-$top/fdb}
 work=$(mktemp -d)
 trap 'rm -rf "$work"' EXIT
 
@@ -28,7 +29,7 @@ body = one + three + four + five + six + section(7, packed) + b"7777"
 zero = b"GRIB\xff\xff\x00\x02" + struct.pack(">Q", 16 + len(body))
 open(sys.argv[1], "wb").write(zero + body)
 PY
-"$top/fdb" values < /dev/null
+"$fdb" values < /dev/null
 
 # run NAME TIMES COMMAND.. : points per second over so many runs
 run() {
@@ -45,8 +46,8 @@ print(f"{name:24} {times * 70000 / seconds:12.0f} points/s  {seconds / times:7.3
 PY
 }
 export FIELD=$work/field.grib2 OUT=$work/out
-run "fdb values" 5 "$top/fdb" values
-run "fdb values --decimals 2" 5 "$top/fdb" values --decimals 2
+run "fdb values" 5 "$fdb" values
+run "fdb values --decimals 2" 5 "$fdb" values --decimals 2
 if command -v grib_get_data > /dev/null; then
   run grib_get_data 5 grib_get_data -F %.2f "$work/field.grib2"
 else

@@ -1,17 +1,19 @@
 #!/usr/bin/env bash
 # Compares, where ecCodes is installed (Debian: libeccodes-tools), `fdb values` with `grib_get_data` and the numbers of
-# `fdb describe` with `grib_dump`, message by message of forecast.grib2 or of the file given. No part of the gate.
+# `fdb describe` with `grib_dump`, message by message of forecast.grib2 or of the file given. FDB names the program, where it
+# isn't to be built here. No part of the gate.
 set -eu
 here=$(cd "$(dirname "$0")" && pwd)
 file=${1:-$here/forecast.grib2}
+fdb=${FDB:-$here/../fdb}
 if ! command -v grib_get_data > /dev/null || ! command -v grib_dump > /dev/null; then
   echo "ecCodes is not installed (Debian: libeccodes-tools): nothing is compared"
   exit 0
 fi
 work=$(mktemp -d)
 trap 'rm -rf "$work"' EXIT
-"$here/../fdb" values --decimals 12 < "$file" > "$work/values"
-"$here/../fdb" describe < "$file" > "$work/described"
+"$fdb" values --decimals 12 < "$file" > "$work/values"
+"$fdb" describe < "$file" > "$work/described"
 # Seventeen digits write a double exactly enough; a missing value is `missing`.
 grib_get_data -F %.17g -m missing "$file" > "$work/data"
 grib_dump -O "$file" > "$work/dump"

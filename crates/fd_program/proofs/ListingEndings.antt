@@ -1,7 +1,7 @@
 -- What a run of a listing tells at each of its exits.
-use Rattle.std.proofs.Common.{◌≡◌, ℕ, List, Option, Some, None, refl, sym, ap, subst, inl, inr}
+use Rattle.std.proofs.Common.{ℕ, List, Option, Some, None, sym, ap, subst, inl, inr}
 use Rattle.std.specs.Prelude.{IfSome}
-use Rattle.fd_io.specs.Streams.{Takes, TakesFront}
+use Rattle.fd_io.specs.Streams.{Takes}
 use Rattle.fd_io.proofs.Bytes.{Takes-none}
 use Rattle.fd_program.specs.declared.listing.Listing.{Listing}
 use Rattle.fd_program.specs.declared.refusal.Refusal.{Refusal}

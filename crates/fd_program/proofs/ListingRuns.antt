@@ -1,8 +1,8 @@
 -- The steps of a listing over an input.
-use Rattle.std.proofs.Common.{◌≡◌, ℕ, ◌+◌, ◌<◌, ◌≤◌, Bool, true, false, List, [], ◌++◌, length, take, Option, Some, None, Result, Ok, Err, refl, sym, ap, subst, ◌∙◌, append_assoc, arith, length-append}
+use Rattle.std.proofs.Common.{◌≡◌, ℕ, ◌+◌, ◌<◌, ◌≤◌, Bool, true, false, List, [], ◌++◌, length, take, Option, Some, None, Ok, Err, refl, sym, ap, subst, ◌∙◌, append_assoc, arith, length-append}
 use Rattle.std.proofs.lemmas.List.{append-nil, take_at}
 use Rattle.std.specs.Prelude.{IfSome}
-use Rattle.fd_io.specs.Streams.{Gives, IsAtEnd, Takes, TakesFront}
+use Rattle.fd_io.specs.Streams.{Gives, IsAtEnd, Takes}
 use Rattle.fd_io.proofs.Bytes.{Takes-none, Takes-more}
 use Rattle.fd_sections.specs.Progress.{Progress}
 use Rattle.fd_sections.specs.Splitting.{start, fed, answer, finished}
@@ -16,7 +16,7 @@ use Rattle.fd_program.specs.declared.refusal.Refusal.TheVariants.{Message, Input
 use Rattle.fd_program.specs.Limits.{input_limit}
 use Rattle.fd_program.specs.Listed.{Listed, ended, before, listed_after, listed}
 use Rattle.fd_program.specs.Found.{IsWaiting}
-use Rattle.fd_program.specs.Halted.{IsCut, IsRefused, IsListed, HaltedAs, Halted, ListsOn, ListedAll}
+use Rattle.fd_program.specs.Halted.{IsCut, IsRefused, IsListed, HaltedAs, Halted, ListedAll}
 use Rattle.fd_program.specs.Run.{Reads, Gone}
 use Rattle.fd_program.proofs.InputLaws.{all_of, front_of, begins_with}
 use Rattle.fd_program.proofs.Runs.{read_on, unmarked, partial, some_left, none_is_none}

@@ -1,5 +1,5 @@
 -- What is listed as the messages are gone over.
-use Rattle.std.proofs.Common.{◌≡◌, ℕ, suc, ◌+◌, ◌-◌, ◌<◌, ◌≤◌, Bool, true, false, cond, List, [], ◌∷◌, ◌++◌, length, ltb, Option, Some, None, Result, Ok, Err, refl, sym, ap, subst, ◌∙◌, append_assoc, arith}
+use Rattle.std.proofs.Common.{◌≡◌, ℕ, suc, ◌+◌, ◌-◌, ◌<◌, Bool, true, false, cond, List, [], ◌∷◌, ◌++◌, length, ltb, Option, Some, None, Result, Ok, Err, refl, sym, ap, subst, ◌∙◌, append_assoc, arith}
 use Rattle.std.proofs.lemmas.Bool.{le-ltb, lt-ltb}
 use Rattle.fd_io.specs.Streams.{Takes, TakesFront}
 use Rattle.fd_io.proofs.Bytes.{Takes-none, Takes-more}
@@ -7,7 +7,7 @@ use Rattle.fd_sections.specs.declared.refusal.BadAt.{BadAt}
 use Rattle.fd_sections.specs.Message.{Sections}
 use Rattle.fd_sections.specs.Progress.{Progress}
 use Rattle.fd_sections.specs.Splitting.{answer, progress, waiting}
-use Rattle.fd_sections.specs.Stream.{Stream, First, Takes as takes, first, gap, pending, stream, after, Bad_end}
+use Rattle.fd_sections.specs.Stream.{Stream, Takes as takes, first, gap, pending, stream, after, Bad_end}
 use Rattle.fd_sections.proofs.Pieces.{shorter, stream-takes, stream-refuses}
 use Rattle.fd_sections.proofs.Pending.{stream-pending, still_waits, waited}
 use Rattle.fd_packing.specs.declared.fault.FieldFault.{FieldFault}

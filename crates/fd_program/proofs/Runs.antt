@@ -1,9 +1,7 @@
 -- The steps of a search over an input.
-use Rattle.std.proofs.Common.{◌≡◌, ℕ, ◌+◌, ◌-◌, ◌<◌, ◌≤◌, Bool, true, false, List, [], ◌∷◌, ◌++◌, length, take, Option, Some, None, Result, Ok, Err, refl, sym, ap, subst, ◌∙◌, append_assoc, arith, length-append, inl, inr, ◌⊎◌}
+use Rattle.std.proofs.Common.{◌≡◌, ℕ, ◌+◌, ◌<◌, ◌≤◌, Bool, true, false, List, [], ◌∷◌, ◌++◌, length, take, Option, Some, None, Result, Ok, Err, refl, sym, ap, subst, ◌∙◌, append_assoc, arith, length-append}
 use Rattle.std.proofs.lemmas.List.{append-nil, take_at}
-use Rattle.std.proofs.Math.Seq.{take-append-add}
-use Rattle.std.proofs.lemmas.Bool.{le-leb, leb-false, leb-true, cases_Bool}
-use Rattle.std.specs.Prelude.{IfSome, nat_le}
+use Rattle.std.specs.Prelude.{IfSome}
 use Rattle.fd_io.specs.Streams.{Gives, IsAtEnd}
 use Rattle.fd_sections.specs.Message.{Sections}
 use Rattle.fd_sections.specs.Progress.{Progress}
@@ -15,7 +13,6 @@ use Rattle.fd_sections.proofs.Pieces.{stream-ends, stream-cut}
 use Rattle.fd_key.specs.Pairs.{Pair}
 use Rattle.fd_program.specs.declared.pick.Last.{Last}
 use Rattle.fd_program.specs.declared.pick.Stop.{Stop}
-use Rattle.fd_program.specs.declared.refusal.Refusal.{Refusal}
 use Rattle.fd_program.specs.declared.refusal.Refusal.TheVariants.{Message, Input}
 use Rattle.fd_program.specs.Limits.{input_limit}
 use Rattle.fd_program.proofs.InputLaws.{all_of, front_of, begins_with}

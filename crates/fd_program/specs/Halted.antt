@@ -1,5 +1,5 @@
 -- How far a listing is, and what it wrote where it halts.
-use Rattle.std.specs.Prelude.{◌≡◌, ◌≤◌, ℕ, List, [], ◌++◌, Bool, true, false, Option, Some, None, IfSome, Result, Ok, Err}
+use Rattle.std.specs.Prelude.{◌≡◌, ◌≤◌, ℕ, List, ◌++◌, Bool, true, false, Option, Some, None, IfSome, Result, Ok, Err}
 use Rattle.fd_io.specs.Streams.{Takes, TakesFront}
 use Rattle.fd_sections.specs.Progress.{Progress}
 use Rattle.fd_sections.specs.Stream.{stream}

@@ -1,5 +1,5 @@
 // From a stream to the lines of its messages.
-ghost use Rattle.std.specs.Prelude.{◌≡◌, ◌≤◌, [], ◌+◌, Some, Ok, IfSome, IfOk, IfErr, OnOk, true, false};
+ghost use Rattle.std.specs.Prelude.{◌≡◌, ◌≤◌, [], Some, Ok, IfSome, IfOk, IfErr, OnOk, true, false};
 ghost use Rattle.fd_bytes.specs.Causes.{Rose};
 ghost use Rattle.fd_io.specs.Streams.{Takes};
 ghost use Rattle.fd_sections.specs.Parts.{sections_of};

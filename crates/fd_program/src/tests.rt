@@ -135,6 +135,14 @@ fn refuses_words(rt: HostRuntime) -> Result<(), Fail> {
     check_usage(&rt, alloc, &["pick", "step"])?;
     check_usage(&rt, alloc, &["pick", "step=x"])?;
     check_usage(&rt, alloc, &["pick", "step=0", "STEP=0"])?;
+    check_usage(&rt, alloc, &["describe", "step=0"])?;
+    check_usage(&rt, alloc, &["values", "1"])?;
+    check_usage(&rt, alloc, &["values", "--decimals"])?;
+    check_usage(&rt, alloc, &["values", "--decimals="])?;
+    check_usage(&rt, alloc, &["values", "--decimals", "31"])?;
+    check_usage(&rt, alloc, &["values", "--decimals", "+1"])?;
+    check_usage(&rt, alloc, &["values", "--decimals=0000000001"])?;
+    check_usage(&rt, alloc, &["values", "--decimals=1", "--decimals=1"])?;
     Ok(())
 }
 
@@ -199,5 +207,126 @@ fn meets_faults(rt: HostRuntime) -> Result<(), Fail> {
     let mut run = plain(&WORDS, &FIELD, 100);
     run.fail_report = &[1];
     check(&rt, alloc, &run, Status::OutputFault, &FIELD, "")?;
+    Ok(())
+}
+
+const DESCRIBED: &str = "message 1 length 183
+ident 98 0 2 0 1 2024 1 1 0 0 0 0 1
+grid 0 points 4 6 - - - - - - 2 2 0 - 10000000 0 48 0 10000000 10000000 10000000 0
+product 0 0 0 2 0 0 0 0 1 0 100 0 100000 255 - -
+packing 0 coded 4 reference 1140457472 binary -1 decimal 1 bits 8 original 0
+map 255
+key centre=98,date=20240101,time=0000,type=1,param=0.0.0,levtype=100,levelist=100000,step=0
+";
+
+const KEYLESS: &str = "message 1 length 183
+ident 98 0 2 0 1 2024 1 1 0 0 0 0 1
+grid 0 points 4 6 - - - - - - 2 2 0 - 10000000 0 48 0 10000000 10000000 10000000 0
+product 1 unread
+packing 0 coded 4 reference 1140457472 binary -1 decimal 1 bits 8 original 0
+map 255
+key refused Product 1
+";
+
+const EXACT: &str = "1 0 1003*2^-1*10^-1
+1 1 1016*2^-1*10^-1
+1 2 1029*2^-1*10^-1
+1 3 1042*2^-1*10^-1
+";
+
+const ROUNDED: &str = "1 0 50.2
+1 1 50.8
+1 2 51.4
+1 3 52.1
+";
+
+/// The run ends with 0, this output and no report.
+fn check_listed<'a>(
+    rt: &impl Abort,
+    alloc: Global,
+    words: &'a [&'a str],
+    input: &'a [u8],
+    output: &str,
+) -> Result<(), Fail> {
+    for piece in [1, 200] {
+        let run = plain(words, input, piece);
+        check(rt, alloc, &run, Status::Done, output.as_bytes(), "")?;
+    }
+    Ok(())
+}
+
+/// A run over pieces of a message's length, of whose reads and writes these fail.
+fn failing<'a>(
+    words: &'a [&'a str],
+    input: &'a [u8],
+    fail_reads: &'a [u32],
+    fail_output: &'a [u32],
+) -> Run<'a> {
+    Run {
+        words,
+        input,
+        piece: 183,
+        fail_reads,
+        fail_output,
+        fail_report: &[],
+    }
+}
+
+#[test]
+fn lists(rt: HostRuntime) -> Result<(), Fail> {
+    let alloc = rt.alloc();
+    let mut stream = Vec::from_slice(alloc, b"junk")?;
+    stream.extend_from_slice(&FIELD)?;
+    check_listed(&rt, alloc, &["describe"], &stream, DESCRIBED)?;
+    check_listed(&rt, alloc, &["describe"], b"junk", "")?;
+    check_listed(&rt, alloc, &["values"], &stream, EXACT)?;
+    check_listed(&rt, alloc, &["values", "--decimals", "1"], &stream, ROUNDED)?;
+    check_listed(&rt, alloc, &["values", "--decimals=01"], &stream, ROUNDED)?;
+    let mut keyless = FIELD;
+    keyless[117] = 1;
+    check_listed(&rt, alloc, &["describe"], &keyless, KEYLESS)?;
+    Ok(())
+}
+
+/// What was listed before a message that is refused, or before a fault, stands.
+#[test]
+fn stops_listing(rt: HostRuntime) -> Result<(), Fail> {
+    let alloc = rt.alloc();
+    let mut unread = FIELD;
+    unread[153] = 40;
+    let mut stream = Vec::from_slice(alloc, &FIELD)?;
+    stream.extend_from_slice(&unread)?;
+    let exact = EXACT.as_bytes();
+    let run = plain(&["values"], &stream, 183);
+    let refused = "refused field 2 Template 40\n";
+    check(&rt, alloc, &run, Status::Refused, exact, refused)?;
+    let run = failing(&["values"], &stream, &[2], &[]);
+    check(
+        &rt,
+        alloc,
+        &run,
+        Status::InputFault,
+        exact,
+        "input failed\n",
+    )?;
+    let run = failing(&["values"], &stream, &[], &[1]);
+    check(
+        &rt,
+        alloc,
+        &run,
+        Status::OutputFault,
+        b"",
+        "output failed\n",
+    )?;
+    let run = failing(&["describe"], &stream, &[], &[2]);
+    let described = DESCRIBED.as_bytes();
+    check(
+        &rt,
+        alloc,
+        &run,
+        Status::OutputFault,
+        described,
+        "output failed\n",
+    )?;
     Ok(())
 }

@@ -1,4 +1,4 @@
-use Rattle.std.proofs.Common.{◌∙◌, length, ◌≡◌, List, Option, suc, ap, subst, string_bytes, arith}
+use Rattle.std.proofs.Common.{length, ◌≡◌, List, Option, suc, ap, subst, string_bytes, arith}
 use Rattle.fd_io.specs.Streams.{Takes, TakesFront}
 use Rattle.fd_scaled.specs.declared.Scaled.{Scaled}
 use Rattle.fd_packing.specs.Value.{values_of}

@@ -1,4 +1,4 @@
-use Rattle.std.proofs.Common.{◌≡◌, ◌∙◌, sym, ap, subst, inl, List, [], ◌∷◌, ◌++◌, ℕ, append_assoc}
+use Rattle.std.proofs.Common.{◌≡◌, ◌∙◌, subst, inl, List, [], ◌∷◌, ◌++◌, ℕ, append_assoc}
 use Rattle.std.specs.Fmt.{decimal}
 use Rattle.fd_program.specs.Told.{Told}
 use Rattle.fd_program.specs.declared.status.Status.TheVariants.{Refused}
