@@ -73,10 +73,10 @@ begins_failed (Some f) (Some g) at len front long (inr d) h =
     let le' : at ≤ length g.reads = omega (arith, le, d.no_shorter) in
     ext_get_or 0 (take at g.reads) (take at f.reads) (length-take-le at g.reads le' ∙ sym (length-take-le at f.reads le))
     (λ k lt.
-        let kp : k < at = omega (arith, lt, length-take-le at g.reads le') in
-        let kf : k < length f.reads = omega (arith, kp, le) in
-        let out : (nat_le at k && nat_lt k (at + len)) ≡ false = grind (arith, nat_tests, kp) in
-        get_or-take at g.reads k 0 kp ∙ d.agrees k kf out ∙ sym (get_or-take at f.reads k 0 kp))
+    let kp : k < at = omega (arith, lt, length-take-le at g.reads le') in
+    let kf : k < length f.reads = omega (arith, kp, le) in
+    let out : (nat_le at k && nat_lt k (at + len)) ≡ false = grind (arith, nat_tests, kp) in
+    get_or-take at g.reads k 0 kp ∙ d.agrees k kf out ∙ sym (get_or-take at f.reads k 0 kp))
     ∙ h
 
 -- one pair more
