@@ -1,5 +1,5 @@
 -- How the entries of a table are taken up one by one.
-use Rattle.std.proofs.Common.{◌≡◌, Bool, ℕ, zero, suc, ◌+◌, ◌<◌, ◌≤◌, List, [], ◌∷◌, ◌++◌, map, length, take, drop, get_or, All, refl, sym, ◌∙◌, ap, subst, arith, append_assoc, take-append-drop, Option, Some, None, Ok, IfSome, is_some, true, option_map}
+use Rattle.std.proofs.Common.{◌≡◌, Bool, ℕ, zero, suc, ◌+◌, ◌<◌, List, [], ◌∷◌, ◌++◌, map, length, take, drop, get_or, All, refl, sym, ◌∙◌, ap, subst, arith, take-append-drop, Option, Some, None, Ok, IfSome, is_some, true, option_map}
 use Rattle.std.proofs.lemmas.List.{drop_more, map-append, take_more}
 use Rattle.std.proofs.lemmas.Simd.{map-map}
 use Rattle.std.proofs.lemmas.List.Elements.{All-append}

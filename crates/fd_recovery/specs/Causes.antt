@@ -1,5 +1,4 @@
 -- The causes of the refusals.
-use Rattle.std.specs.Prelude.{ℕ}
 use Rattle.fd_core.specs.declared.table.NotATable as bad
 use Rattle.fd_segment.specs.declared.fault.Damage.{Damage}
 use Rattle.fd_recovery.specs.declared.fault.FileFault.{FileFault}

@@ -1,4 +1,4 @@
-ghost use Rattle.std.specs.Prelude.{◌≡◌, ◌≤◌, [], ◌∷◌, Some, IfOk, IfErr, IfSome};
+ghost use Rattle.std.specs.Prelude.{◌≡◌, ◌≤◌, [], IfOk, IfErr, IfSome};
 ghost use Rattle.fd_bytes.specs.Causes.{Rose};
 ghost use Rattle.fd_recovery.specs.Causes.{OnFileDamaged, OnFileDisk};
 ghost use Rattle.fd_recovery.specs.Damages.{IsFirst, damages, damages_at, field_file, index_file};

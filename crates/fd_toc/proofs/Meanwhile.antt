@@ -1,11 +1,11 @@
 -- What a crash may leave while bytes are written and made firm.
-use Rattle.std.proofs.Common.{◌≡◌, inl, inr, ⊎_elim, ℕ, ◌≤◌, List, length, refl, sym, ◌∙◌, ap, subst, arith, Option, Some, None, Result, Ok, Err, OnErr, option_map}
+use Rattle.std.proofs.Common.{◌≡◌, inl, inr, ⊎_elim, ℕ, List, length, refl, sym, ◌∙◌, ap, subst, arith, Option, Some, None, Result, Ok, Err, OnErr, option_map}
 use Rattle.fd_disk.specs.declared.file.File.{File}
 use Rattle.fd_disk.specs.Folders.{WhereTold}
-use Rattle.fd_disk.specs.Images.{IsAfterFailedWrite, IsImage, synced, written}
+use Rattle.fd_disk.specs.Images.{IsAfterFailedWrite, synced, written}
 use Rattle.fd_disk.specs.Moments.{Elapses, LeavesOnly, MayLeave}
 use Rattle.fd_disk.proofs.MomentLemmas.{goes_on}
-use Rattle.fd_toc.specs.Writes.{IsMeanwhile, IsUnsynced, LeftMeanwhile}
+use Rattle.fd_toc.specs.Writes.{IsUnsynced, LeftMeanwhile}
 
 module _ (at : ℕ) (bytes : List ℕ) where
   -- before the write

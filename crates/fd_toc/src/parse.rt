@@ -1,6 +1,5 @@
-ghost use Rattle.std.specs.Prelude.{◌≡◌, ◌≤◌, ◌<◌, ◌+◌, ◌*◌, ◌^◌, [], ◌∷◌, ◌++◌, List, ℕ, Option, Some, None, Ok, Err, length, drop, IfOk, IfErr, MatchResult, MatchOption, replicate};
-ghost use Rattle.std.specs.Int.{w32, w64, from_be_bytes};
-ghost use Rattle.fd_core.specs.Table.{mismatch, fixed, any_octets, exceeds, entry_fault, entry_in, run_from, header, listed, IsTable};
+ghost use Rattle.std.specs.Prelude.{◌≡◌, ◌≤◌, ◌<◌, ◌+◌, ◌*◌, ◌^◌, [], ◌∷◌, ◌++◌, Option, Some, None, Ok, Err, length, IfOk, MatchResult, replicate};
+ghost use Rattle.fd_core.specs.Table.{mismatch, fixed, any_octets, exceeds, entry_fault, run_from, listed, IsTable};
 ghost use Rattle.fd_toc.specs.Slots.{slot_at, last_fault, OnNot, IfNext};
 
 use crate::found::header_bytes;

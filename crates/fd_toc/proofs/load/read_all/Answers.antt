@@ -1,6 +1,4 @@
 use Rattle.std.proofs.Common.{rules, ◌≡◌, ◌∙◌, length, take, ◌++◌, arith}
-use Rattle.fd_disk.proofs.MomentLemmas.{started}
-use Rattle.fd_disk.specs.Moments.{MayLeave}
 use Rattle.fd_toc.proofs.LoadSteps.{read_more}
 use Rattle.fd_toc.proofs.Meanwhile.{leaves_same}
 use Rattle.fd_toc.proofs.load.read_all.Goals as goal

@@ -1,4 +1,4 @@
-use Rattle.std.proofs.Common.{◌≡◌, ℕ, ◌+◌, ◌<◌, ◌^◌, List, [], ◌∷◌, ◌++◌, length, sym, ◌∙◌, ap, subst, arith, Option, Some, None, IfSome, option_map}
+use Rattle.std.proofs.Common.{◌≡◌, ℕ, ◌+◌, ◌<◌, List, [], ◌∷◌, ◌++◌, length, sym, ◌∙◌, ap, subst, arith, Option, Some, None, IfSome, option_map}
 use Rattle.fd_disk.specs.Folders.{WhereTold}
 use Rattle.fd_disk.specs.Images.{synced, written}
 use Rattle.fd_disk.specs.Moments.{LeavesOnly}

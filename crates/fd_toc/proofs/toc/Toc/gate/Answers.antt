@@ -2,7 +2,7 @@ use Rattle.std.proofs.Common.{◌≡◌, ℕ, ◌+◌, ◌-◌, ◌<◌, ◌^◌
 use Rattle.std.proofs.lemmas.List.{length_push}
 use Rattle.fd_disk.specs.Folders.{WhereTold}
 use Rattle.fd_disk.specs.Images.{synced, written}
-use Rattle.fd_disk.specs.Moments.{LeavesOnly, MayLeave}
+use Rattle.fd_disk.specs.Moments.{LeavesOnly}
 use Rattle.fd_core.specs.declared.table.Entry.{Entry}
 use Rattle.fd_core.specs.Table.{gate_at}
 use Rattle.fd_toc.specs.Calls.{OpeningFails, opened}

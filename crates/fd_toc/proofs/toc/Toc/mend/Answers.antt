@@ -1,4 +1,4 @@
-use Rattle.std.proofs.Common.{◌≡◌, ℕ, ◌+◌, ◌<◌, List, [], ◌∷◌, length, ◌∙◌, ap, subst, arith, None, option_map, is_some, true}
+use Rattle.std.proofs.Common.{◌≡◌, ℕ, [], ◌∷◌, length, ◌∙◌, ap, subst, arith, None, option_map, is_some, true}
 use Rattle.fd_disk.specs.Folders.{WhereTold}
 use Rattle.fd_disk.specs.Images.{synced, written}
 use Rattle.fd_disk.specs.Moments.{LeavesOnly}
