@@ -8,7 +8,7 @@ use Rattle.fd_request.specs.declared.fault.RequestFault.{RequestFault}
 use Rattle.fd_request.specs.declared.fault.RequestFault.TheVariants as faults
 use Rattle.fd_request.specs.Expansion.{Keyword, expand}
 use Rattle.fd_request.specs.Grammar.{Fault, ◌>>=◌, wrong, TooLong, TooMany, KeyTooLong, keywords_of}
-use Rattle.fd_request.specs.Limits.{too_many, longest_key, within_length, within_count, within_limits, too_long, within_size, request_of}
+use Rattle.fd_request.specs.Limits.{too_many, longest_key, within_length, within_count, within_limits, too_long, within_size, request_of, partial_of}
 use Rattle.fd_request.specs.Reading.{Fails, GivesKeywords, seen_kind}
 use Rattle.fd_request.specs.Requests.{IsFaultOf, IsPlace}
 use Rattle.fd_request.proofs.Places.{Within, fails_within, places_within}
@@ -104,3 +104,18 @@ unfolding request_of
 request_is text ks le h f =
     small_size (length text) (keywords_of (codes "retrieve") text >>= λ ks. within_limits (length text) ks) le
     ∙ ap (λ (x : Result (List Keyword) Fault). x >>= λ ks. within_limits (length text) ks) h ∙ f
+
+-- ---- partial requests
+
+pub partial_refused : (text : List ℕ) (e : Refusal) (fault : RequestFault) → Fails e (keywords_of (codes "list") text) → IsFaultOf (length text) e fault → GivesKeywords (Err fault) (partial_of text)
+unfolding partial_of
+partial_refused text e fault h is = is (keywords_of (codes "list") text) h
+
+pub partial_too_long : (text : List ℕ) (ks : List Keyword) (fault : RequestFault) → 65536 < length text → keywords_of (codes "list") text ≡ Ok ks → GivesKeywords (Err fault) (wrong 65536 TooLong) → GivesKeywords (Err fault) (partial_of text)
+unfolding partial_of
+partial_too_long text ks fault large h is =
+    subst (λ (r : Result (List Keyword) Fault). GivesKeywords (Err fault) r) (sym (large_size (length text) (keywords_of (codes "list") text) large ∙ ap too_long h)) is
+
+pub partial_is : (text : List ℕ) (ks : List Keyword) → length text ≤ 65536 → keywords_of (codes "list") text ≡ Ok ks → partial_of text ≡ Ok ks
+unfolding partial_of
+partial_is text ks le h = small_size (length text) (keywords_of (codes "list") text) le ∙ h

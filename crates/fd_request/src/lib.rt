@@ -8,6 +8,7 @@ mod keyword;
 mod laws;
 mod limits;
 mod part;
+mod partial;
 mod range;
 mod reading;
 mod request;
@@ -17,6 +18,7 @@ mod word;
 
 pub use fault::{RequestFault, RequestKind};
 pub use laws::{count_of_keys, key_by_division};
+pub use partial::Partial;
 pub use request::Request;
 
 #[cfg(test)]

@@ -38,7 +38,7 @@ impl Model for Request {
     ghost invariant = { λ r. IsRequest r.count (seen_keywords r.keywords.items) };
 }
 
-fn too_long() -> RequestFault
+pub(crate) fn too_long() -> RequestFault
     ensures { GivesKeywords (Err result) (wrong 65536 TooLong) }
 {
     RequestFault::At {

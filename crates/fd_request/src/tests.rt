@@ -98,6 +98,25 @@ fn places_and_kinds(rt: HostRuntime) -> Result<(), Fail> {
 }
 
 #[test]
+fn partial_requests(rt: HostRuntime) -> Result<(), Fail> {
+    let rows = [
+        ("list", "read"),
+        ("LIST, step = 0/to/999999999999999, class=od/rd", "read"),
+        ("retrieve", "At { at: 0, kind: Verb }"),
+        ("list,class=", "At { at: 11, kind: Value }"),
+        ("list,step=1/to/0", "At { at: 10, kind: Range }"),
+    ];
+    for (text, want) in rows {
+        let got = match Partial::read(rt.alloc(), text.as_bytes()) {
+            Ok(_) => String::from_str(rt.alloc(), "read")?,
+            Err(fault) => format!(in rt.alloc(); "{fault:?}")?,
+        };
+        assert_eq!(rt; got.as_str(), want);
+    }
+    Ok(())
+}
+
+#[test]
 fn limits(rt: HostRuntime) -> Result<(), Fail> {
     let alloc = rt.alloc();
     let rows = [
@@ -138,14 +157,17 @@ fn long_keys_and_texts(rt: HostRuntime) -> Result<(), Fail> {
     let alloc = rt.alloc();
     let fits = long_value(alloc, 242)?;
     match Request::read(alloc, &fits) {
-        Ok(request) => assert_eq!(rt; request.key(alloc, 99)?.text(alloc)?.len(), 255),
+        Ok(request) => {
+            assert_eq!(rt; request.count(), 100);
+            assert_eq!(rt; request.key(alloc, 99)?.text(alloc)?.len(), 255);
+        }
         Err(_) => assert_eq!(rt; 0, 1),
     }
     let over = long_value(alloc, 243)?;
     let want = "At { at: 270, kind: KeyTooLong { len: 256 } }";
     assert_eq!(rt; keys(alloc, &over)?.as_str(), want);
     let mut text = b"retrieve,class=od".to_vec(alloc)?;
-    while text.len() < 65_536 {
+    for _ in 0..65_519 {
         text.push(b' ')?;
     }
     assert_eq!(rt; keys(alloc, &text)?.as_str(), "class=od");
@@ -159,7 +181,9 @@ fn long_keys_and_texts(rt: HostRuntime) -> Result<(), Fail> {
         keys(alloc, &text)?.as_str(),
         "At { at: 65536, kind: TooLong }"
     );
-    text[14] = b'$';
+    if let Some(byte) = text.get_mut(14) {
+        *byte = b'$';
+    }
     assert_eq!(rt; keys(alloc, &text)?.as_str(), "At { at: 14, kind: Pair }");
     Ok(())
 }

@@ -1,0 +1,45 @@
+ghost use Rattle.std.specs.Prelude.{length, codes};
+ghost use Rattle.fd_request.specs.Limits.{partial_of};
+ghost use Rattle.fd_request.specs.Reading.{GivesKeywords};
+
+use crate::fault::RequestFault;
+use crate::keyword::Keyword;
+use crate::reading::keywords_of;
+use crate::request::{BYTES, refused, too_long};
+use std::alloc::Global;
+use std::marker::Model;
+
+/// A partial request: names, each with the values that a key may have for it.
+#[derive(Debug, Drop)]
+pub struct Partial {
+    keywords: Vec<Keyword>,
+}
+
+impl Model for Partial {
+    ghost use Rattle.std.specs.Prelude.{List};
+    ghost use Rattle.fd_request.specs.Expansion as expansion;
+    ghost use Rattle.fd_request.specs.Keywords.{seen_keywords};
+
+    ghost Value = { List expansion.Keyword };
+
+    ghost view = { λ p. seen_keywords p.keywords.items };
+}
+
+impl Partial {
+    /// Reads a partial request: `list`, and for each keyword a comma, a name, `=` and values, as a request has them. It may
+    /// have any number of values.
+    ///
+    /// The answer `At` names the first place that is wrong.
+    pub fn read(alloc: Global, text: &[u8]) -> Result<Partial, RequestFault>
+        ensures { GivesKeywords result (partial_of text.now) }
+    {
+        let keywords = match keywords_of(alloc, b"list", text) {
+            Ok(keywords) => keywords,
+            Err(refusal) => return Err(refused(text.len(), refusal)),
+        };
+        if BYTES < text.len() {
+            return Err(too_long());
+        }
+        Ok(Partial { keywords })
+    }
+}
