@@ -1,16 +1,17 @@
 -- A place that reading names is the first against the format.
-use Rattle.std.proofs.Common.{◌≡◌, ◌≢◌, ◌⊎◌, inl, inr, ℕ, zero, suc, ◌+◌, ◌-◌, ◌*◌, ◌%◌, ◌^◌, ◌<◌, ◌≤◌, Bool, true, false, true≢false, ◌||◌, ◌&&◌, ltb, leb, eqb, ◌==◌, if◌then◌else◌, List, [], ◌∷◌, ◌++◌, length, take, drop, replicate, slice_index, bytes_eq, codes, Result, Ok, Err, is_ok, refl, sym, ap, ◌∙◌, subst, append_assoc, append-nil, arith, length-append, length-drop, take-append-drop, ltb-true, ltb-false, leb-true, leb-false, eqb-true, lt-ltb, le-ltb, le-leb, eq-eqb}
+use Rattle.std.proofs.Common.{◌≡◌, ◌≢◌, ◌⊎◌, inl, inr, ℕ, zero, suc, ◌+◌, ◌-◌, ◌*◌, ◌%◌, ◌^◌, ◌<◌, ◌≤◌, Bool, true, false, true≢false, ◌||◌, ◌&&◌, ltb, leb, ◌==◌, if◌then◌else◌, List, [], ◌∷◌, ◌++◌, length, take, drop, replicate, slice_index, bytes_eq, codes, Result, Ok, Err, is_ok, refl, sym, ap, ◌∙◌, subst, append_assoc, append-nil, arith, length-append, length-drop, take-append-drop, ltb-true, ltb-false, leb-true, eqb-true, lt-ltb, le-ltb, le-leb, eq-eqb}
 use Rattle.std.proofs.lemmas.List.{length-take-le}
 use Rattle.std.proofs.lemmas.Slice.Eq.{bytes_eq-Decides}
 use Rattle.fd_index.specs.declared.fault.IndexFault.{IndexFault}
 use Rattle.fd_index.specs.declared.fault.IndexFault.TheVariants as faults
 use Rattle.fd_index.specs.Records.{Record, Rising, AllFit}
-use Rattle.fd_index.specs.Pages.{ArePages, IsPage, joined, page_bytes, pages_bytes, record_bytes, records_bytes, room_after}
+use Rattle.fd_index.specs.Pages.{ArePages, joined, page_bytes, pages_bytes, record_bytes, records_bytes}
 use Rattle.fd_index.specs.Reading.{◌>>=◌, body_of, check, counts_of, index_at, is_above, key_len_at, number_2, number_4, number_8, page_at, pages_at, pages_in, record_at, record_of, records_at, zeros_at}
 use Rattle.fd_index.specs.Index.{AreOctets, Fails}
-use Rattle.fd_index.specs.First.{BeginsRecord, CountsItsRecords, HasShape, IsFaultBehind, IsFaultOnPage, IsFirstPlace, IsPageFault, IsRecordFault, IsZeroFault, NamesFirstPlace, RefusesAtFirstPlace, room_behind}
+use Rattle.fd_index.specs.First.{BeginsRecord, CountsItsRecords, HasShape, IsFaultBehind, IsFaultOnPage, IsFirstPlace, IsPageFault, IsRecordFault, NamesFirstPlace, RefusesAtFirstPlace, room_behind}
+use Rattle.fd_index.proofs.FaultRead.{first_place_read}
 use Rattle.fd_index.proofs.ReadBack.{Follow, length-pages}
-use Rattle.fd_index.proofs.Spelled.{KeyLen, One, OnePage, Some, all_fit, all_follow, octets_back, octets_drop, octets_take, key_len_says, one_says, no_record_rises, page_says, rising_from_follow, some_says}
+use Rattle.fd_index.proofs.Spelled.{One, OnePage, all_fit, all_follow, octets_back, octets_drop, octets_take, key_len_says, one_says, no_record_rises, page_says, rising_from_follow, some_says}
 
 -- ---- Where steps failed
 
@@ -312,9 +313,9 @@ is_so true true h = (refl, refl)
 is_so true false h = absurd (true≢false (sym h))
 is_so false b h = absurd (true≢false (sym h))
 
-pub names_first_place : NamesFirstPlace
+pub first_place_of : (bytes : List ℕ) (at : ℕ) → AreOctets bytes → index_at bytes ≡ Err at → IsFirstPlace bytes at
 unfolding index_at
-names_first_place bytes at o h =
+first_place_of bytes at o h =
     let n = length bytes in
     let all : Unit {0} → Result (List Record) ℕ = λ _. pages_at (pages_in bytes) (n - 16) 0 [] (body_of bytes) in
     let sum = counts_of (pages_in bytes) (body_of bytes) in
@@ -361,6 +362,9 @@ names_first_place bytes at o h =
           )
     ]
 
+pub names_first_place : NamesFirstPlace
+names_first_place bytes at o = (first_place_of bytes at o, first_place_read bytes at)
+
 pub refuses_at_first : (fault : IndexFault) (bytes : List ℕ) → AreOctets bytes → Fails fault (index_at bytes) → RefusesAtFirstPlace bytes (Err fault)
-refuses_at_first (faults.BadIndex at) bytes o failed = names_first_place bytes at o failed
+refuses_at_first (faults.BadIndex at) bytes o failed = first_place_of bytes at o failed
 refuses_at_first faults.NoMemory bytes o failed = tt

@@ -7,3 +7,4 @@ pub mod ReadBack
 pub mod Spelled
 pub mod Same
 pub mod FirstFault
+pub mod FaultRead

@@ -1,8 +1,8 @@
 -- Records stand on the pages on which the format has them, and on no others.
-use Rattle.std.proofs.Common.{◌≡◌, ◌↔◌, ◌⊎◌, inl, inr, ℕ, ◌+◌, ◌-◌, ◌<◌, ◌≤◌, Bool, true, false, leb, List, [], ◌∷◌, ◌++◌, length, refl, sym, ap, ◌∙◌, subst, append_assoc, arith, length-append, le-leb, leb-true, leb-false}
+use Rattle.std.proofs.Common.{◌≡◌, ◌⊎◌, inl, inr, ℕ, ◌+◌, ◌-◌, ◌<◌, ◌≤◌, Bool, true, false, leb, List, [], ◌∷◌, ◌++◌, length, refl, sym, ap, ◌∙◌, subst, arith, length-append, le-leb, leb-true, leb-false}
 use Rattle.std.proofs.lemmas.Bool.{lt-leb}
-use Rattle.fd_index.specs.Records.{Record, Fits, AllFit}
-use Rattle.fd_index.specs.Pages.{ArePages, IsPage, StandOnTheirPages, cut, joined, onto, pages_of, record_bytes, records_bytes, room_after, size}
+use Rattle.fd_index.specs.Records.{Record, AllFit}
+use Rattle.fd_index.specs.Pages.{ArePages, StandOnTheirPages, cut, joined, onto, pages_of, record_bytes, records_bytes, room_after, size}
 use Rattle.fd_index.proofs.Paging.{cut_begins, cut_fits, length-record}
 
 pub length_one_more : (r : Record) (rs : List Record) → length (records_bytes (r ∷ rs)) ≡ size r + length (records_bytes rs)

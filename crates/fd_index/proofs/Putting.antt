@@ -1,5 +1,5 @@
 -- The records of a builder's map, and one put more.
-use Rattle.std.proofs.Common.{◌≡◌, ℕ, ◌+◌, ◌^◌, ◌<◌, ◌≤◌, Bool, true, false, true≢false, not, ◌&&◌, ◌||◌, cond, ltb, leb, ltb-true, leb-true, if◌then◌else◌, List, [], ◌∷◌, ◌++◌, length, map, bytes_eq, Option, Some, None, is_some, Result, Ok, Err, is_ok, Ordering, Less, Equal, Greater, refl, sym, ap, ◌∙◌, subst, add_comm, add_assoc, add-zero, arith}
+use Rattle.std.proofs.Common.{◌≡◌, ℕ, ◌+◌, ◌^◌, ◌<◌, ◌≤◌, Bool, true, false, true≢false, not, ◌&&◌, ◌||◌, cond, ltb, leb, ltb-true, leb-true, if◌then◌else◌, List, [], ◌∷◌, ◌++◌, length, bytes_eq, Option, Some, None, is_some, Result, Ok, Err, is_ok, Ordering, Less, Equal, Greater, refl, sym, ap, ◌∙◌, subst, add_comm, add_assoc, add-zero, arith}
 use Rattle.std.specs.Global.{Vec}
 use Rattle.std.specs.Ordering.{nat_cmp, is_eq, match_ordering}
 use Rattle.std.specs.Cmp.Lexicographic.{slice_cmp}
@@ -17,7 +17,7 @@ use Rattle.std.proofs.lemmas.Map.Lookups.{exact_bytes}
 use Rattle.std.proofs.lemmas.Map.Text.{is_eq-slice_cmp}
 use Rattle.std.proofs.lemmas.Slice.Eq.{bytes_eq-Decides}
 use Rattle.fd_index.specs.declared.builder.IndexBuilder.TheInside.{Inside}
-use Rattle.fd_index.specs.Records.{Record, Rising, Fits, AllFit, StandsFor, keys, place_of, newest}
+use Rattle.fd_index.specs.Records.{Record, Rising, Fits, AllFit, StandsFor, keys, place_of}
 use Rattle.fd_index.specs.Held.{Held, key_bytes, left_of}
 use Rattle.fd_index.specs.Seen.{record_of, records_of, with_record, held_of, IsPut, IsSound}
 use Rattle.fd_index.specs.declared.fault.Full.{Full}

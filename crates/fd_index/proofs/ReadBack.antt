@@ -1,15 +1,12 @@
 -- An index file is read back as its records.
-use Rattle.std.proofs.Common.{◌≡◌, ℕ, zero, suc, ◌+◌, ◌-◌, ◌*◌, ◌/◌, ◌%◌, ◌^◌, ◌<◌, ◌≤◌, Bool, true, false, true≢false, ◌||◌, ◌&&◌, ltb, leb, eqb, ◌==◌, if◌then◌else◌, List, [], ◌∷◌, ◌++◌, length, take, drop, replicate, bytes_eq, codes, Result, Ok, Err, Less, refl, sym, ap, ◌∙◌, subst, append_assoc, append-nil, arith, length-append, take_at, drop_at, lt-ltb, le-ltb, eq-eqb, le-leb}
-use Rattle.std.specs.Int.{w16, w32, w64, to_be_bytes, from_be_bytes}
-use Rattle.std.specs.Ordering.{nat_cmp, is_lt}
-use Rattle.std.specs.Cmp.Lexicographic.{slice_cmp}
-use Rattle.std.specs.List.{AllByRecursion}
+use Rattle.std.proofs.Common.{◌≡◌, ℕ, zero, suc, ◌+◌, ◌-◌, ◌*◌, ◌%◌, ◌^◌, ◌<◌, ◌≤◌, Bool, true, false, ◌||◌, ◌&&◌, ltb, leb, ◌==◌, if◌then◌else◌, List, [], ◌∷◌, ◌++◌, length, take, drop, replicate, bytes_eq, codes, Result, Ok, Err, refl, sym, ap, ◌∙◌, subst, append_assoc, append-nil, arith, length-append, take_at, drop_at, lt-ltb, le-ltb, eq-eqb, le-leb}
+use Rattle.std.specs.Int.{w16, w32, w64, to_be_bytes}
+use Rattle.std.specs.Ordering.{is_lt}
 use Rattle.std.specs.List.Sorted.{IsStrictlySortedBy}
-use Rattle.std.proofs.lemmas.Cmp.{nat_list_cmp_total}
 use Rattle.std.proofs.lemmas.List.{length-replicate}
 use Rattle.std.proofs.lemmas.Nat.{from_be_bytes-to_be_bytes_2, from_be_bytes-to_be_bytes_4, from_be_bytes-to_be_bytes_8}
-use Rattle.fd_index.specs.Records.{Record, Rising, Fits, AllFit, keys}
-use Rattle.fd_index.specs.Pages.{ArePages, IsIndex, IsPage, closed, index_of, joined, page_bytes, pages_bytes, pages_of, record_bytes, records_bytes, room_after, size}
+use Rattle.fd_index.specs.Records.{Record, Rising, Fits, AllFit}
+use Rattle.fd_index.specs.Pages.{ArePages, IsIndex, IsPage, index_of, joined, page_bytes, pages_bytes, pages_of, record_bytes, records_bytes, room_after}
 use Rattle.fd_index.specs.Reading.{◌>>=◌, body_of, check, counts_of, index_at, is_above, key_len_at, number_2, number_4, number_8, page_at, pages_at, pages_in, record_at, record_of, records_at, zeros_at}
 use Rattle.fd_index.proofs.Paging.{length-record}
 use Rattle.fd_index.proofs.PageLaws.{length_one_more, made}
@@ -17,10 +14,10 @@ use Rattle.fd_index.proofs.ReadTurns.{one_more, none_left, page_more, no_page, c
 
 -- ---- One step passes
 
-checked : {B : Type 0} (good : Bool) (place : ℕ) (next : Unit {0} → Result B ℕ) → good ≡ true → (check good place >>= next) ≡ next tt
+pub checked : {B : Type 0} (good : Bool) (place : ℕ) (next : Unit {0} → Result B ℕ) → good ≡ true → (check good place >>= next) ≡ next tt
 checked good place next h = ap (λ b. check b place >>= next) h
 
-passed : {A B : Type 0} (step : Result A ℕ) (x : A) (next : A → Result B ℕ) → step ≡ Ok x → (step >>= next) ≡ next x
+pub passed : {A B : Type 0} (step : Result A ℕ) (x : A) (next : A → Result B ℕ) → step ≡ Ok x → (step >>= next) ≡ next x
 passed step x next h = ap (λ s. s >>= next) h
 
 -- ---- One record
@@ -177,7 +174,7 @@ length-page p le =
 pub count_is : (p : List Record) → length (records_bytes p) ≤ 4094 → number_2 (page_bytes p) ≡ length p
 count_is p le = ap number_2 (page_parts p) ∙ from_be_bytes-to_be_bytes_2 (length p) (let few = few_records p in omega (arith, few, le))
 
-page_length : (room : ℕ) (p : List Record) → IsPage room p → length (records_bytes p) ≤ 4094
+pub page_length : (room : ℕ) (p : List Record) → IsPage room p → length (records_bytes p) ≤ 4094
 page_length room [] page = absurd page
 page_length room (r ∷ rs) page = page.1
 
@@ -198,19 +195,19 @@ read_page end room before (r ∷ rs) page fit follow =
 
 -- ---- All pages
 
-fit_front : (p rs : List Record) → AllFit (p ++ rs) → AllFit p
+pub fit_front : (p rs : List Record) → AllFit (p ++ rs) → AllFit p
 fit_front [] rs fit = tt
 fit_front (r ∷ p) rs fit = (fit.0, fit_front p rs fit.1)
 
-fit_back : (p rs : List Record) → AllFit (p ++ rs) → AllFit rs
+pub fit_back : (p rs : List Record) → AllFit (p ++ rs) → AllFit rs
 fit_back [] rs fit = fit
 fit_back (r ∷ p) rs fit = fit_back p rs fit.1
 
-follow_front : (before p rs : List Record) → Follow before (p ++ rs) → Follow before p
+pub follow_front : (before p rs : List Record) → Follow before (p ++ rs) → Follow before p
 follow_front before [] rs follow = tt
 follow_front before (r ∷ p) rs follow = (follow.0, follow_front (before ++ r ∷ []) p rs follow.1)
 
-follow_back : (before p rs : List Record) → Follow before (p ++ rs) → Follow (before ++ p) rs
+pub follow_back : (before p rs : List Record) → Follow before (p ++ rs) → Follow (before ++ p) rs
 follow_back before [] rs follow = subst (λ b. Follow b rs) (sym (append-nil before)) follow
 follow_back before (r ∷ p) rs follow = subst (λ b. Follow b rs) (append_assoc before (r ∷ []) p) (follow_back (before ++ r ∷ []) p rs follow.1)
 

@@ -1,12 +1,12 @@
 -- Reading the records of a page one after the other.
-use Rattle.std.proofs.Common.{◌≡◌, ℕ, zero, suc, ◌+◌, ◌-◌, ◌<◌, ◌≤◌, Bool, true, false, cond, List, [], ◌∷◌, ◌++◌, length, take, drop, map, slice_get, Option, Some, None, Result, Ok, Err, is_some, refl, sym, ap, ◌∙◌, true≢false, arith, unwrap_or, get_or, drop-cons, length-drop, ◌==◌}
+use Rattle.std.proofs.Common.{◌≡◌, ℕ, suc, ◌+◌, ◌-◌, List, [], ◌∷◌, length, take, drop, slice_get, Option, Some, Result, Ok, Err, is_some, sym, ap, ◌∙◌, true≢false, arith, unwrap_or}
 use Rattle.std.specs.Ordering.{nat_cmp, is_lt}
 use Rattle.std.specs.Cmp.Lexicographic.{slice_cmp}
 use Rattle.fd_index.specs.declared.fault.IndexFault.{IndexFault}
 use Rattle.fd_index.specs.declared.fault.IndexFault.TheVariants as faults
 use Rattle.fd_index.specs.Records.{Record}
 use Rattle.fd_index.specs.Index.{Fails}
-use Rattle.fd_index.specs.Reading.{◌>>=◌, counts_of, is_above, number_2, page_at, pages_at, record_at, records_at, zeros_at}
+use Rattle.fd_index.specs.Reading.{◌>>=◌, counts_of, is_above, number_2, page_at, pages_at, record_at, records_at}
 
 same_some : (a b : Record) → Some a ≡ Some b → a ≡ b
 same_some a b h = ap (λ (o : Option Record). unwrap_or o a) h

@@ -1,5 +1,5 @@
 -- Looking a key up by halving, among records whose keys rise.
-use Rattle.std.proofs.Common.{◌≡◌, ℕ, ◌+◌, ◌-◌, ◌/◌, ◌<◌, ◌≤◌, ◌⊎◌, cond, List, [], ◌∷◌, length, map, Option, Some, None, option_map, slice_get, get_or, Less, Greater, Equal, refl, sym, ap, ◌∙◌, subst, eq-or-lt_of_le, ⊎_elim, arith}
+use Rattle.std.proofs.Common.{◌≡◌, ℕ, ◌+◌, ◌-◌, ◌/◌, ◌<◌, ◌≤◌, cond, List, [], ◌∷◌, length, map, Some, None, option_map, slice_get, get_or, Less, Greater, Equal, refl, sym, ap, ◌∙◌, subst, eq-or-lt_of_le, ⊎_elim, arith}
 use Rattle.std.specs.Ordering.{nat_cmp, ordering_reverse}
 use Rattle.std.specs.Cmp.Lexicographic.{slice_cmp}
 use Rattle.std.specs.List.Sorted.{IsStrictlySortedBy}

@@ -1,22 +1,21 @@
 -- What is read as an index is the index file of its records.
-use Rattle.std.proofs.Common.{◌≡◌, ◌↔◌, ◌⊎◌, inl, inr, ℕ, zero, suc, ◌+◌, ◌-◌, ◌*◌, ◌/◌, ◌%◌, ◌^◌, ◌<◌, ◌≤◌, Bool, true, false, true≢false, ◌||◌, ◌&&◌, ltb, leb, eqb, ◌==◌, cond, if◌then◌else◌, List, [], ◌∷◌, ◌++◌, length, take, drop, replicate, slice_index, get_or, bytes_eq, codes, Result, Ok, Err, is_ok, Less, Equal, Greater, Ordering, refl, sym, ap, ◌∙◌, subst, append_assoc, append-nil, arith, length-append, length-drop, take-append-drop, take-add, drop_at, ltb-true, ltb-false, leb-true, eqb-true}
+use Rattle.std.proofs.Common.{◌≡◌, ◌⊎◌, inl, inr, ℕ, zero, suc, ◌+◌, ◌-◌, ◌*◌, ◌%◌, ◌^◌, ◌<◌, ◌≤◌, Bool, true, false, true≢false, ◌||◌, ◌&&◌, ltb, leb, ◌==◌, if◌then◌else◌, List, [], ◌∷◌, ◌++◌, length, take, drop, replicate, get_or, bytes_eq, codes, Result, Ok, Err, is_ok, Less, Equal, Greater, Ordering, refl, sym, ap, ◌∙◌, subst, append_assoc, append-nil, arith, length-append, length-drop, take-append-drop, take-add, drop_at, ltb-true, ltb-false, leb-true, eqb-true}
 use Rattle.std.specs.Int.{w16, w32, w64, to_be_bytes, from_be_bytes}
 use Rattle.std.specs.Ordering.{nat_cmp, is_lt}
 use Rattle.std.specs.Cmp.Lexicographic.{slice_cmp}
 use Rattle.std.specs.List.{AllByRecursion}
 use Rattle.std.specs.List.Sorted.{IsStrictlySortedBy}
 use Rattle.std.proofs.lemmas.Cmp.{nat_list_cmp_total}
-use Rattle.std.proofs.lemmas.List.{length-replicate, length-take-le, get_or-take, get_or-drop, get_or_past}
+use Rattle.std.proofs.lemmas.List.{length-take-le, get_or-take, get_or-drop, get_or_past}
 use Rattle.std.proofs.lemmas.Nat.{be_bytes_2, be_bytes_4, be_bytes_8}
 use Rattle.std.proofs.lemmas.Slice.Eq.{bytes_eq-Decides}
 use Rattle.fd_index.specs.declared.fault.IndexFault.{IndexFault}
 use Rattle.fd_index.specs.declared.fault.IndexFault.TheVariants as faults
 use Rattle.fd_index.specs.Records.{Record, Rising, Fits, AllFit, keys}
-use Rattle.fd_index.specs.Pages.{ArePages, IsIndex, IsPage, closed, index_of, joined, page_bytes, pages_bytes, pages_of, record_bytes, records_bytes, room_after, size}
+use Rattle.fd_index.specs.Pages.{ArePages, IsIndex, IsPage, index_of, joined, page_bytes, pages_bytes, pages_of, record_bytes, records_bytes, room_after}
 use Rattle.fd_index.specs.Reading.{◌>>=◌, body_of, check, counts_of, index_at, is_above, key_len_at, number_2, number_4, number_8, page_at, pages_at, pages_in, record_at, record_of, records_at, zeros_at}
 use Rattle.fd_index.specs.Index.{AreOctets, Fails, ReadsItsRecords, RefusesNoIndex}
-use Rattle.fd_index.proofs.Paging.{length-record}
-use Rattle.fd_index.proofs.PageLaws.{length_one_more, only}
+use Rattle.fd_index.proofs.PageLaws.{only}
 use Rattle.fd_index.proofs.ReadBack.{Follow, number_is, page_parts, read_counts, reads_back}
 
 -- ---- Steps that passed

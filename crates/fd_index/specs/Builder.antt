@@ -1,5 +1,5 @@
 -- What a builder answers.
-use Rattle.std.specs.Prelude.{◌≡◌, ℕ, ◌^◌, ◌+◌, ◌≤◌, ◌<◌, Bool, ◌||◌, ◌&&◌, nat_lt, nat_le, if◌then◌else◌, List, [], ◌∷◌, ◌++◌, length, is_some, Result, Ok, Err}
+use Rattle.std.specs.Prelude.{◌≡◌, ℕ, Bool, ◌||◌, ◌&&◌, nat_lt, nat_le, if◌then◌else◌, List, [], ◌∷◌, ◌++◌, length, is_some, Result, Ok, Err}
 use Rattle.fd_index.specs.declared.fault.Full.{Full}
 use Rattle.fd_index.specs.declared.fault.IndexPut.{IndexPut}
 use Rattle.fd_index.specs.declared.fault.IndexPut.TheVariants as answers

@@ -1,5 +1,5 @@
 -- The first place of bytes that is against the format of an index file, in the format's order.
-use Rattle.std.specs.Prelude.{◌≡◌, ◌≢◌, ◌⊎◌, ℕ, ◌+◌, ◌-◌, ◌*◌, ◌%◌, ◌^◌, ◌<◌, ◌≤◌, false, List, [], ◌∷◌, ◌++◌, length, take, drop, replicate, slice_index, codes, Result, Ok, Err}
+use Rattle.std.specs.Prelude.{◌≡◌, ◌≢◌, ◌↔◌, ◌⊎◌, ℕ, ◌+◌, ◌-◌, ◌*◌, ◌%◌, ◌^◌, ◌<◌, ◌≤◌, false, List, [], ◌∷◌, ◌++◌, length, take, drop, replicate, slice_index, codes, Result, Ok, Err}
 use Rattle.fd_index.specs.declared.fault.IndexFault.{IndexFault}
 use Rattle.fd_index.specs.declared.fault.IndexFault.TheVariants as faults
 use Rattle.fd_index.specs.Records.{Record, Rising, AllFit}
@@ -91,9 +91,9 @@ IsFirstPlace bytes at =
     ⊎ (CountsItsPages bytes × (((CountsItsRecords bytes → ⊥) × (at ≡ length bytes - 16))
     ⊎ (CountsItsRecords bytes × IsFaultOnPage bytes at)))))))))
 
--- A place is named only where it is the first against the format.
+-- A place is named exactly where it is the first against the format.
 abbrev pub NamesFirstPlace : Type 0
-NamesFirstPlace = (bytes : List ℕ) (at : ℕ) → AreOctets bytes → index_at bytes ≡ Err at → IsFirstPlace bytes at
+NamesFirstPlace = (bytes : List ℕ) (at : ℕ) → AreOctets bytes → (index_at bytes ≡ Err at) ↔ IsFirstPlace bytes at
 
 -- the same of what reading an index answers
 abbrev pub RefusesAtFirstPlace : List ℕ → Result (List Record) IndexFault → Type 0

@@ -1,9 +1,9 @@
 -- What reading an index answers.
-use Rattle.std.specs.Prelude.{◌≡◌, ◌↔◌, ◌<◌, ◌≤◌, ℕ, List, length, slice_index, Result, Ok, Err}
+use Rattle.std.specs.Prelude.{◌≡◌, ◌↔◌, ◌<◌, ℕ, List, slice_index, Result, Ok, Err}
 use Rattle.std.specs.Borrow.{Bor}
 use Rattle.fd_index.specs.declared.fault.IndexFault.{IndexFault}
 use Rattle.fd_index.specs.declared.fault.IndexFault.TheVariants as faults
-use Rattle.fd_index.specs.Records.{Record, StandsFor}
+use Rattle.fd_index.specs.Records.{Record}
 use Rattle.fd_index.specs.Pages.{IsIndex}
 use Rattle.fd_index.specs.Reading.{index_at}
 

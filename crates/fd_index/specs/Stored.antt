@@ -1,8 +1,7 @@
 -- What an index's fields stand for.
-use Rattle.std.specs.Prelude.{◌<◌, ◌^◌, List, length, map}
-use Rattle.fd_index.specs.declared.stored.Stored.{Stored}
+use Rattle.std.specs.Prelude.{◌<◌, ◌^◌, List, length}
 use Rattle.fd_index.specs.declared.index.Index.TheInside.{Inside}
-use Rattle.fd_index.specs.Records.{Record, Rising, AllFit}
+use Rattle.fd_index.specs.Records.{Record, Rising}
 use Rattle.fd_index.specs.StoredRecords.{records_of}
 
 abbrev pub read_of : Inside → List Record

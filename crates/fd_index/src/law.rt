@@ -3,9 +3,9 @@ ghost use Rattle.fd_index.specs.Index.{ReadsItsRecords};
 ghost use Rattle.fd_index.specs.Pages.{StandOnTheirPages};
 ghost use Rattle.fd_index.specs.Records.{OneForItsPuts};
 
-/// What holds of every index file: bytes are read as records exactly where they are the index file of these, and
-/// else the place that is named is the first against the format; records stand on the pages on which the format has them and on no others, and records that stand for the same puts are the
-/// same.
+/// What holds of every index file: bytes are read as records exactly where they are the index file of these, and a
+/// place is named exactly where it is the first against the format; records stand on the pages on which the format has
+/// them, and on no others; and records that stand for the same puts are the same.
 pub fn every_index()
     ensures records { ReadsItsRecords }
     ensures faults { NamesFirstPlace }

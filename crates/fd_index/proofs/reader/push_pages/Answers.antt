@@ -1,5 +1,4 @@
-use Rattle.std.proofs.Common.{◌≡◌, ◌+◌, ◌-◌, ◌*◌, ℕ, suc, List, Ok, Result, take, drop, length, ap, sym, ◌∙◌, subst, subst₂, arith}
-use Rattle.fd_index.specs.Records.{Record}
+use Rattle.std.proofs.Common.{◌≡◌, ◌+◌, ◌-◌, ℕ, suc, List, Ok, take, drop, length, ap, sym, ◌∙◌, subst₂, arith}
 use Rattle.fd_index.specs.StoredRecords.{records_of}
 use Rattle.fd_index.specs.Index.{Fails}
 use Rattle.fd_index.specs.Reading.{page_at, pages_at}

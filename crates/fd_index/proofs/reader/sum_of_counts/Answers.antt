@@ -1,4 +1,4 @@
-use Rattle.std.proofs.Common.{◌≡◌, ◌+◌, ◌-◌, ◌*◌, ◌<◌, ◌^◌, ℕ, suc, List, take, drop, length, ap, sym, ◌∙◌, add_assoc, add-zero, arith}
+use Rattle.std.proofs.Common.{◌≡◌, ◌+◌, ◌-◌, ◌<◌, ◌^◌, ℕ, suc, List, take, drop, ap, sym, ◌∙◌, add_assoc, add-zero, arith}
 use Rattle.fd_index.specs.Reading.{counts_of, number_2}
 use Rattle.fd_index.proofs.ReadTurns.{count_more, no_count}
 use Rattle.fd_index.proofs.reader.sum_of_counts.Goals as goal

@@ -1,7 +1,7 @@
-use Rattle.std.proofs.Common.{◌∙◌, sym, ap, arith, nat_cmp}
+use Rattle.std.proofs.Common.{◌∙◌, sym, ap, nat_cmp}
 use Rattle.std.specs.Cmp.Lexicographic.{slice_cmp}
 use Rattle.fd_index.specs.StoredRecords.{record_of, records_of}
-use Rattle.fd_index.proofs.Searching.{at_first, gone, found, lower, higher, middle, length_kept}
+use Rattle.fd_index.proofs.Searching.{gone, found, lower, higher, middle}
 use Rattle.fd_index.proofs.stored.place_in.Goals as goal
 
 pub loop-low-preserved-in-Less : goal.loop-low-preserved-in-Less

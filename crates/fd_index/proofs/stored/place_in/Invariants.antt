@@ -1,4 +1,4 @@
-use Rattle.std.proofs.Common.{◌-◌, List}
+use Rattle.std.proofs.Common.{◌-◌}
 use Rattle.fd_index.specs.StoredRecords.{records_of}
 use Rattle.fd_index.proofs.Searching.{Between, pairs_of}
 use Rattle.fd_index.proofs.stored.place_in.Given as goal

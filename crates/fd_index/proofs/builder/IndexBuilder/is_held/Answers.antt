@@ -1,4 +1,4 @@
-use Rattle.std.proofs.Common.{◌∙◌, sym, ap, is_some}
+use Rattle.std.proofs.Common.{◌∙◌, ap, is_some}
 use Rattle.fd_index.specs.Records.{place_of}
 use Rattle.fd_index.proofs.Putting.{look_up}
 use Rattle.fd_index.proofs.builder.IndexBuilder.is_held.Goals as goal

@@ -1,4 +1,4 @@
-use Rattle.std.proofs.Common.{◌≡◌, ◌+◌, ◌-◌, Bool, true, ap, sym, ◌∙◌, subst, refl, length, arith, sub-add_cancel}
+use Rattle.std.proofs.Common.{◌≡◌, ◌+◌, ◌-◌, true, ap, sym, ◌∙◌, subst, refl, length, arith}
 use Rattle.fd_index.specs.Builder.{has_room}
 use Rattle.fd_index.specs.Records.{StandsFor}
 use Rattle.fd_index.specs.Seen.{records_of, held_of}

@@ -1,4 +1,4 @@
-use Rattle.std.proofs.Common.{◌<◌, ◌^◌, length, subst}
+use Rattle.std.proofs.Common.{◌<◌, ◌^◌, subst}
 use Rattle.std.proofs.lemmas.List.{length-map}
 use Rattle.fd_index.specs.Pages.{IsIndex}
 use Rattle.fd_index.specs.StoredRecords.{record_of, records_of}
