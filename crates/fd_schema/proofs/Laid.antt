@@ -260,8 +260,8 @@ joined_laid {A} read mark clean P text separator lays before x (y ∷ ys) all at
       ts = l.ts ++ s.token ∷ m.ts;
       end = m.end;
       is =
-      ap (tokens at) whole ∙ l.is ∙ ap (λ (us : List Piece). l.ts ++ us) s.is ∙ ap (λ (us : List Piece). l.ts ++ s.token ∷ us) m.is
-      ∙ sym (append_assoc l.ts (s.token ∷ m.ts) (tokens m.end rest));
+          ap (tokens at) whole ∙ l.is ∙ ap (λ (us : List Piece). l.ts ++ us) s.is ∙ ap (λ (us : List Piece). l.ts ++ s.token ∷ us) m.is
+          ∙ sym (append_assoc l.ts (s.token ∷ m.ts) (tokens m.end rest));
       holds = (
         More before x (y ∷ ys) l.ts s.token m.ts l.holds.0 s.marks m.holds.0,
         clean_joined clean l.ts (s.token ∷ m.ts) l.holds.1 (and_from (clean s.token) (are_clean clean m.ts) s.cleans m.holds.1),

@@ -144,9 +144,9 @@ item_laid level before i is at rest ends =
           some = omega arith;
           whole = no_comma (first ∷ l.ts) clean;
           reads = λ stop.
-            ap (λ r. r >>= λ name. want_of name stop l.ts >>= λ want. Ok (record { level = level; name = name; want = want })) (name_reads before i.name at is.named)
-            ∙ ap (λ r. r >>= λ want. Ok (record { level = level; name = i.name; want = want })) (l.holds.0 stop)
-            ∙ ap (λ v. Ok (record { level = v; name = i.name; want = i.want })) (sym is.at);
+              ap (λ r. r >>= λ name. want_of name stop l.ts >>= λ want. Ok (record { level = level; name = name; want = want })) (name_reads before i.name at is.named)
+              ∙ ap (λ r. r >>= λ want. Ok (record { level = level; name = i.name; want = want })) (l.holds.0 stop)
+              ∙ ap (λ v. Ok (record { level = v; name = i.name; want = i.want })) (sym is.at);
         },
         no_bracket (first ∷ l.ts) clean,
       );
