@@ -1,10 +1,10 @@
 -- Tokens and words, one after the other.
-use Rattle.std.proofs.Common.{◌≡◌, ℕ, zero, suc, ◌+◌, ◌<◌, ◌≤◌, Bool, true, false, cond, eqb, List, [], ◌∷◌, ◌++◌, length, take, drop, get_or, map, Option, Some, None, refl, sym, ap, ◌∙◌, arith, append_assoc}
+use Rattle.std.proofs.Common.{◌≡◌, ℕ, ◌+◌, ◌<◌, ◌≤◌, true, false, cond, eqb, List, [], ◌∷◌, ◌++◌, length, drop, get_or, map, Option, Some, None, refl, sym, ap, ◌∙◌, append_assoc}
 use Rattle.std.specs.Prelude.{is_some}
 use Rattle.std.proofs.lemmas.Bool.{cond-true, cond-false, eq-eqb, ne_eqb}
 use Rattle.std.proofs.lemmas.List.{at_drop_more, at_drop_all, append-nil, map_push}
 use Rattle.fd_schema.specs.declared.token.Token.{Token}
-use Rattle.fd_schema.specs.Tokens.{Piece, Part, parts, view, views}
+use Rattle.fd_schema.specs.Tokens.{Part, views}
 use Rattle.fd_request.specs.declared.word.Word as code_word
 use Rattle.fd_request.specs.Grammar.{Word, side_by_side, joined, behind_words, first_of_two, word_in}
 use Rattle.fd_request.specs.Seen.{seen_word, seen_words}

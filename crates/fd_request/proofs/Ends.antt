@@ -1,21 +1,20 @@
 -- Ends of ranges, and the values behind them.
-use Rattle.std.proofs.Common.{◌≡◌, ℕ, zero, suc, ◌+◌, ◌-◌, ◌*◌, ◌^◌, ◌<◌, ◌≤◌, ◌⊎◌, inl, inr, Bool, true, false, cond, ltb, List, [], ◌∷◌, ◌++◌, length, refl, sym, ap, subst, ◌∙◌, arith, to_z, of_z, FitsSigned, w16, w64, ℤ, pos, negsuc, neg_ℤ, ◌+ℤ◌, ◌-ℤ◌, ◌<ℤ◌, ◌≤ℤ◌, unsigned_abs}
+use Rattle.std.proofs.Common.{◌≡◌, ℕ, zero, suc, ◌+◌, ◌^◌, ◌<◌, ◌≤◌, Bool, true, false, cond, ltb, [], ◌∷◌, length, refl, sym, ap, subst, ◌∙◌, arith, to_z, of_z, FitsSigned, w16, w64, ℤ, pos, negsuc, neg_ℤ, ◌+ℤ◌, ◌<ℤ◌, ◌≤ℤ◌, unsigned_abs}
 use Rattle.std.specs.Fmt.{decimal, signed_decimal}
 use Rattle.std.proofs.lemmas.Int.{ints, to_z-of_z}
 use Rattle.std.proofs.lemmas.Fmt.{length-decimal-le_wide}
 use borrow.Author.Tests.{ltb-true, ltb-false}
 use Rattle.jiff_core.proofs.CalendarLemmas.{days_in_month_bounds}
 use Rattle.jiff_core.specs.declared.civil.date.Date.{Date}
-use Rattle.jiff_core.specs.Calendar.{days_from_civil, days_in_month, IsCivilDate, IsEpochDay}
+use Rattle.jiff_core.specs.Calendar.{days_from_civil, IsCivilDate, IsEpochDay}
 use Rattle.jiff_core.specs.Date.{epoch_day}
-use Rattle.jiff_core.proofs.SignedLemmas.{signed_arith}
 use Rattle.jiff_core.proofs.DateLemmas.{civil, epoch_day_range, epoch_day_injective, days_from_civil-day, days_from_civil-next_month, days_from_civil-next_year, days_from_civil-max}
 use Rattle.fd_key.specs.Civil.{month_days, date_text}
 use Rattle.fd_key.specs.Names.{is_value}
 use Rattle.fd_key.proofs.ValueLaws.{value_from, joined, decimal_bytes, decimal_some}
 use Rattle.fd_request.specs.declared.day.Day as code_day
-use Rattle.fd_request.specs.Ranges.{Day, End, Number, Hour, OnDay, place, later, next_day, text_behind}
-use Rattle.fd_request.specs.Seen.{seen_date, seen_day, Fits, most}
+use Rattle.fd_request.specs.Ranges.{Day, Number, Hour, OnDay, place, later, next_day, text_behind}
+use Rattle.fd_request.specs.Seen.{seen_day, Fits, most}
 
 pub number_fits : (z : ℤ) → neg_ℤ (pos (10 ^ 15)) ≤ℤ z → z ≤ℤ pos (10 ^ 15) → Fits (Number z) 0
 unfolding place most

@@ -1,16 +1,15 @@
 -- Worked examples of requests, computed from the definitions.
-use Rattle.std.proofs.Common.{◌≡◌, ℕ, List, [], ◌∷◌, Option, Some, None, Result, Ok, codes, refl}
+use Rattle.std.proofs.Common.{◌≡◌, ℕ, List, [], ◌∷◌, Result, Ok, codes, refl}
 use Rattle.std.specs.Fmt.{digits}
 use Rattle.jiff_core.specs.Calendar.{days_of_years, days_of_months, day_count, days_from_civil}
-use Rattle.fd_key.specs.Numerals.{number_up_to, cut}
-use Rattle.fd_key.specs.Civil.{date_text, time_text, date_in, date_spelling, time_in, time_spelling}
-use Rattle.fd_key.specs.Levels.{levelist_spelling, level_spelling, unsigned_level, level_text}
+use Rattle.fd_key.specs.Numerals.{number_up_to}
+use Rattle.fd_key.specs.Civil.{date_text, date_in, date_spelling}
 use Rattle.fd_key.specs.Steps.{step_text, unit_of, unsigned_step, step_spelling}
 use Rattle.fd_key.specs.Canonical.{canonical, spelling}
 use Rattle.fd_schema.specs.Tokens.{tokens, parts}
 use Rattle.fd_request.specs.Expansion.{Keyword, expand, each_before}
-use Rattle.fd_request.specs.Ranges.{later, whole, signed_whole, hour_of, day_of, end_in, end_of, place, distance, text_behind, values_from, step_of, between, range_of}
-use Rattle.fd_request.specs.Grammar.{Fault, wrong, Verb, Pair, Value, Range, Repeated, each_of, verb_of, side_by_side, joined, word_in, value_of, behind_words, values_of, behind_name, name_of, keyword_of, request_in, keywords_of}
+use Rattle.fd_request.specs.Ranges.{later, whole, signed_whole, day_of, end_in, end_of, place, distance, text_behind, values_from, step_of, between, range_of}
+use Rattle.fd_request.specs.Grammar.{Fault, wrong, Pair, Value, Range, Repeated, each_of, verb_of, side_by_side, joined, word_in, value_of, behind_words, values_of, behind_name, name_of, keyword_of, request_in, keywords_of}
 
 abbrev asked : List ℕ → Result (List Keyword) Fault
 asked text = keywords_of (codes "retrieve") text

@@ -1,19 +1,18 @@
 -- The number of keys, and how long the longest key is.
-use Rattle.std.proofs.Common.{◌≡◌, ℕ, zero, suc, ◌+◌, ◌-◌, ◌*◌, ◌<◌, ◌≤◌, Bool, true, false, cond, ltb, leb, max, List, [], ◌∷◌, ◌++◌, length, get_or, drop, map, Option, Some, None, Result, Ok, Err, refl, ap, ◌∙◌, sym, arith, length-append}
+use Rattle.std.proofs.Common.{◌≡◌, ℕ, zero, suc, ◌+◌, ◌-◌, ◌*◌, ◌<◌, ◌≤◌, Bool, true, cond, ltb, leb, max, List, [], ◌∷◌, ◌++◌, length, get_or, drop, map, Option, Some, None, refl, ap, ◌∙◌, sym, arith}
 use Rattle.std.specs.Prelude.{◌&&◌}
 use Rattle.std.specs.List.{list_all}
 use Rattle.std.proofs.Math.Nat.{mul_assoc}
 use Rattle.std.proofs.lemmas.Bool.{cond-true, cond-false, lt-ltb, le-ltb, and_parts, leb-true}
 use Rattle.fd_key.specs.Names.{is_name, is_value, is_letter, is_name_byte}
 use Rattle.fd_key.proofs.ValueLaws.{value_few}
-use Rattle.std.proofs.lemmas.List.{at_drop_more, at_drop_all, length-map}
-use Rattle.fd_key.specs.Pairs.{Pair, pair_text, rest_text, key_text}
-use Rattle.fd_key.proofs.PairLaws.{length-pair_text, length-rest_text, length-key_text}
+use Rattle.std.proofs.lemmas.List.{at_drop_more, at_drop_all}
+use Rattle.fd_key.specs.Pairs.{Pair, rest_text, key_text}
+use Rattle.fd_key.proofs.PairLaws.{length-rest_text, length-key_text}
 use Rattle.fd_request.specs.declared.keyword.Keyword as code_keyword
 use Rattle.fd_request.specs.Expansion.{Keyword, each_before, expand}
 use Rattle.fd_request.specs.Limits.{longest_text, longest_key, too_many}
 use Rattle.fd_request.specs.Keywords.{seen_keyword, seen_keywords}
-use Rattle.fd_request.specs.Values.{AreValues}
 use Rattle.fd_request.proofs.Products.{length-expand}
 
 -- ---- the longest text

@@ -1,6 +1,6 @@
 -- The places that are named are those of the text, or its end.
-use Rattle.std.proofs.Common.{◌≡◌, ℕ, zero, suc, ◌+◌, ◌<◌, ◌≤◌, Bool, true, false, cond, not, eqb, ltb, List, [], ◌∷◌, ◌++◌, length, take, drop, map, Option, Some, None, Result, Ok, Err, refl, ap, subst, ◌∙◌, sym, arith}
-use Rattle.std.specs.Prelude.{◌&&◌, ◌||◌, IfSome, codes}
+use Rattle.std.proofs.Common.{◌≡◌, ℕ, zero, suc, ◌+◌, ◌≤◌, Bool, true, false, cond, not, eqb, ltb, List, [], ◌∷◌, ◌++◌, length, take, drop, map, Option, Some, None, Result, Ok, Err, refl, subst, arith}
+use Rattle.std.specs.Prelude.{◌&&◌, IfSome}
 use Rattle.std.specs.List.{list_any, prefix_len}
 use Rattle.std.specs.Str.{bytes_eq}
 use Rattle.std.specs.Char.{to_ascii_lowercase}
@@ -16,7 +16,7 @@ use Rattle.fd_request.specs.Reading.{Fails}
 use Rattle.fd_request.specs.Requests.{IsPlace}
 use Rattle.fd_request.specs.Expansion.{Keyword}
 use Rattle.fd_request.specs.Ranges.{range_of}
-use Rattle.fd_request.specs.Grammar.{Fault, Wrong, ◌>>=◌, wrong, Verb, Pair, Repeated, Value, Range, each_of, front_place, verb_of, Word, first_place, side_by_side, joined, word_in, value_or, value_of, value_in, word_texts, is_range_word, first_of_two, behind_words, range_or, values_of, has_name, words_of, behind_name, name_of, keyword_of, keyword_in, behind_verb, request_in, keywords_of}
+use Rattle.fd_request.specs.Grammar.{Fault, ◌>>=◌, wrong, Verb, Pair, Repeated, each_of, front_place, verb_of, Word, first_place, side_by_side, word_in, value_or, value_of, value_in, word_texts, is_range_word, first_of_two, behind_words, range_or, values_of, has_name, words_of, behind_name, name_of, keyword_of, keyword_in, behind_verb, request_in, keywords_of}
 
 -- what is wrong is wrong at most at this place
 abbrev pub Within : {A : Type 0} → ℕ → Result A Fault → Type 0

@@ -1,26 +1,24 @@
 -- The values of ranges.
-use Rattle.std.proofs.Common.{◌≡◌, ℕ, zero, suc, ◌+◌, ◌-◌, ◌*◌, ◌/◌, ◌^◌, ◌<◌, ◌≤◌, Bool, true, false, cond, ltb, max, List, [], ◌∷◌, ◌++◌, length, get_or, drop, Option, Some, None, refl, sym, ap, subst, ◌∙◌, arith, ℤ, pos, negsuc, neg_ℤ, ◌+ℤ◌, ◌-ℤ◌, ◌≤ℤ◌, unsigned_abs}
+use Rattle.std.proofs.Common.{◌≡◌, ℕ, zero, suc, ◌+◌, ◌-◌, ◌*◌, ◌/◌, ◌^◌, ◌<◌, ◌≤◌, Bool, true, false, cond, ltb, max, List, length, get_or, drop, Some, None, refl, sym, ap, ◌∙◌, arith, ℤ, pos, negsuc, ◌+ℤ◌, ◌-ℤ◌, ◌≤ℤ◌, unsigned_abs}
 use Rattle.std.proofs.Math.Nat.{mul-le-mul_right, div-le_self, div-mul-le_self}
-use Rattle.std.specs.Prelude.{slice_get, ◌&&◌, string_bytes, map, String}
+use Rattle.std.specs.Prelude.{slice_get, string_bytes, String}
 use Rattle.std.specs.List.{list_all}
-use Rattle.std.specs.Int.{is_negative}
 use Rattle.std.specs.Fmt.{decimal, signed_decimal}
 use Rattle.std.specs.Str.Parse.{digits_value}
 use Rattle.std.specs.declared.alloc.Global.{Global}
-use borrow.Author.Tests.{ltb-true, ltb-false}
+use borrow.Author.Tests.{ltb-true}
 use Rattle.std.proofs.lemmas.Int.{ints}
-use Rattle.std.proofs.lemmas.Bool.{and_parts, and_from}
+use Rattle.std.proofs.lemmas.Bool.{and_from}
 use Rattle.std.proofs.lemmas.List.{at_drop_more, at_drop_all}
 use Rattle.std.proofs.lemmas.Fmt.{length-decimal-le_wide, digits_decimal, digits_value-decimal, decimal_nonempty}
 use Rattle.std.proofs.lemmas.Str.Parse.{digits_value_short}
 use Rattle.fd_key.specs.Civil.{date_text, time_text}
 use Rattle.fd_key.proofs.Digits.{numerals}
-use Rattle.jiff_core.specs.Calendar.{days_from_civil}
 use Rattle.fd_key.specs.Names.{is_value}
 use Rattle.fd_key.proofs.ValueLaws.{date_is_value, time_is_value}
 use Rattle.fd_schema.specs.Seen.{texts}
 use Rattle.fd_request.specs.declared.range.Range as code_range
-use Rattle.fd_request.specs.Ranges.{Day, End, Number, Hour, OnDay, place, same_kind, distance, distance_if, later, text_behind, values_from}
+use Rattle.fd_request.specs.Ranges.{End, Number, Hour, OnDay, place, same_kind, distance, distance_if, later, text_behind, values_from}
 use Rattle.fd_request.specs.Limits.{longest_text}
 use Rattle.fd_request.specs.Seen.{Fits, most, seen_end}
 use Rattle.fd_request.specs.Values.{AreValues, seen_range}

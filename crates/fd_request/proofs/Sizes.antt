@@ -8,7 +8,7 @@ use Rattle.fd_request.specs.declared.fault.RequestFault.{RequestFault}
 use Rattle.fd_request.specs.declared.fault.RequestFault.TheVariants as faults
 use Rattle.fd_request.specs.Expansion.{Keyword, expand}
 use Rattle.fd_request.specs.Grammar.{Fault, ◌>>=◌, wrong, TooLong, TooMany, KeyTooLong, keywords_of}
-use Rattle.fd_request.specs.Limits.{too_many, longest_key, within_length, within_count, within_limits, too_long, within_size, request_of, partial_of}
+use Rattle.fd_request.specs.Limits.{too_many, longest_key, within_count, within_limits, too_long, within_size, request_of, partial_of}
 use Rattle.fd_request.specs.Reading.{Fails, GivesKeywords, seen_kind}
 use Rattle.fd_request.specs.Requests.{IsFaultOf, IsPlace}
 use Rattle.fd_request.proofs.Places.{Within, fails_within, places_within}

@@ -1,8 +1,7 @@
 -- One step of each reading.
-use Rattle.std.proofs.Common.{◌≡◌, ℕ, zero, suc, ◌+◌, ◌<◌, ◌≤◌, Bool, true, false, cond, not, List, [], ◌∷◌, ◌++◌, length, get_or, drop, map, Option, Some, None, Result, Ok, Err, eqb, refl, ap, subst, ◌∙◌, sym, arith, append_assoc}
-use Rattle.std.specs.Prelude.{◌&&◌, ◌||◌, String, string_bytes}
-use Rattle.std.specs.List.{list_all, list_any}
-use Rattle.std.specs.Str.{bytes_eq}
+use Rattle.std.proofs.Common.{◌≡◌, ℕ, ◌+◌, ◌<◌, ◌≤◌, Bool, true, false, cond, not, List, [], ◌∷◌, ◌++◌, length, get_or, drop, Option, Result, Ok, eqb, refl, ap, subst, ◌∙◌, sym, arith, append_assoc}
+use Rattle.std.specs.Prelude.{◌&&◌, String, string_bytes}
+use Rattle.std.specs.List.{list_all}
 use Rattle.std.specs.declared.alloc.Global.{Global}
 use Rattle.std.proofs.lemmas.Bool.{and_parts, and_from}
 use Rattle.std.proofs.lemmas.List.{at_drop_more, at_drop_all, map_push, append-nil}
@@ -14,7 +13,7 @@ use Rattle.fd_request.specs.declared.keyword.Keyword as code_keyword
 use Rattle.fd_request.specs.declared.fault.Refusal.{Refusal}
 use Rattle.fd_request.specs.declared.fault.Refusal.TheVariants as refusals
 use Rattle.fd_request.specs.Expansion.{Keyword}
-use Rattle.fd_request.specs.Grammar.{Fault, ◌>>=◌, wrong, Word, each_of, value_of, value_in, keyword_in, has_name, verb_of, first_place, behind_verb, request_in}
+use Rattle.fd_request.specs.Grammar.{Fault, each_of, value_of, value_in, keyword_in, has_name, verb_of, first_place, behind_verb, request_in}
 use Rattle.fd_request.specs.Seen.{seen_word, seen_words}
 use Rattle.fd_request.specs.Keywords.{seen_keyword, seen_keywords, differ_after}
 use Rattle.fd_request.specs.Reading.{Fails}

@@ -1,5 +1,5 @@
 -- What the code that reads answers.
-use Rattle.std.specs.Prelude.{◌≡◌, ℕ, List, Result, Ok, Err, string_bytes}
+use Rattle.std.specs.Prelude.{◌≡◌, List, Result, Ok, Err, string_bytes}
 use Rattle.fd_request.specs.declared.fault.RequestKind.{RequestKind}
 use Rattle.fd_request.specs.declared.fault.RequestKind.TheVariants as kinds
 use Rattle.fd_request.specs.declared.fault.RequestFault.{RequestFault}

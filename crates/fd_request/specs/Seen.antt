@@ -1,17 +1,12 @@
 -- What the code's parts, words, ranges and keywords are, and what holds of them.
-use Rattle.std.specs.Prelude.{◌≡◌, ℕ, ◌+◌, ◌-◌, ◌*◌, ◌^◌, ◌<◌, ◌≤◌, ℤ, pos, neg_ℤ, ◌+ℤ◌, ◌≤ℤ◌, unsigned_abs, max, Bool, true, List, [], ◌∷◌, length, drop, map, Option, Some, None, String, string_bytes, IsTrue}
-use Rattle.std.specs.List.{list_all}
-use Rattle.std.specs.declared.alloc.Global.{Global}
+use Rattle.std.specs.Prelude.{ℕ, ◌^◌, ℤ, pos, neg_ℤ, ◌+ℤ◌, ◌≤ℤ◌, unsigned_abs, List, [], drop, map, Option, Some, None}
 use Rattle.jiff_core.specs.declared.civil.date.Date as code_date
-use Rattle.fd_key.specs.Names.{is_name, is_value}
-use Rattle.fd_schema.specs.Tokens.{Piece, Part, parts, view, views}
-use Rattle.fd_schema.specs.Seen.{texts}
+use Rattle.fd_schema.specs.Tokens.{Piece, Part, parts, views}
 use Rattle.fd_schema.specs.declared.token.Token.{Token}
 use Rattle.fd_request.specs.declared.word.Word as code_word
 use Rattle.fd_request.specs.declared.day.Day as code_day
 use Rattle.fd_request.specs.declared.end.End as code_end
 use Rattle.fd_request.specs.declared.end.End.TheVariants as ends
-use Rattle.fd_request.specs.Expansion.{Keyword}
 use Rattle.fd_request.specs.Ranges.{Day, End, Number, Hour, OnDay, place}
 use Rattle.fd_request.specs.Grammar.{Word}
 

@@ -1,4 +1,4 @@
-use Rattle.std.proofs.Common.{◌≡◌, false, true, arith, sym, ◌∙◌}
+use Rattle.std.proofs.Common.{◌≡◌, false, true, arith, ◌∙◌}
 use Rattle.std.proofs.lemmas.Int.{ints}
 use Rattle.std.proofs.lemmas.Result.{IfOk-weaker}
 use Rattle.fd_request.proofs.Ends.{day_in, day_far, day_text_is}

@@ -1,4 +1,4 @@
-use Rattle.std.proofs.Common.{◌≡◌, ◌≤◌, ◌+◌, ◌*◌, length, drop}
+use Rattle.std.proofs.Common.{◌≡◌, ◌≤◌, ◌+◌, ◌*◌, drop}
 use Rattle.fd_request.specs.Keywords.{seen_keywords}
 use Rattle.fd_request.proofs.Lengths.{total}
 use Rattle.fd_request.proofs.limits.longest_key.Given as goal

@@ -1,4 +1,4 @@
-use Rattle.std.proofs.Common.{◌≡◌, ◌*◌, ap, sym, ◌∙◌}
+use Rattle.std.proofs.Common.{◌*◌, ap, sym, ◌∙◌}
 use Rattle.fd_request.proofs.Lengths.{many_is, few_is, none_many, keys_more, no_keys_more}
 use Rattle.fd_request.proofs.limits.product_of.Goals as goal
 

@@ -1,4 +1,4 @@
-use Rattle.std.proofs.Common.{◌≡◌, ◌∷◌, [], List, None, Some, ap, sym, ◌∙◌, arith, drop}
+use Rattle.std.proofs.Common.{◌≡◌, [], ap, sym, ◌∙◌, arith, drop}
 use Rattle.fd_schema.specs.Tokens.{Part, parts, view, views}
 use Rattle.fd_request.specs.Grammar.{each_of, keyword_in}
 use Rattle.fd_request.specs.Seen.{parts_if}

@@ -1,8 +1,8 @@
-use Rattle.std.proofs.Common.{arith, length, List, ℕ, ◌≡◌, ◌≤◌, ap, sym, ◌∙◌}
+use Rattle.std.proofs.Common.{arith, length, ap}
 use Rattle.std.proofs.lemmas.List.{length-map}
 use Rattle.std.proofs.lemmas.Result.{IfOk-weaker}
 use Rattle.std.specs.Char.{to_ascii_lowercase}
-use Rattle.fd_schema.specs.Tokens.{view, views}
+use Rattle.fd_schema.specs.Tokens.{view}
 use Rattle.fd_request.proofs.Turns.{tokens_few}
 use Rattle.fd_request.proofs.reading.keywords_of.Goals as goal
 

@@ -1,8 +1,8 @@
-use Rattle.std.proofs.Common.{◌≡◌, ◌∷◌, [], List, None, Some, Result, Ok, ap, subst, sym, ◌∙◌, drop}
-use Rattle.fd_schema.specs.Tokens.{Part, parts, view, views}
+use Rattle.std.proofs.Common.{[], List, None, Some, Result, Ok, ap, subst, sym, ◌∙◌}
+use Rattle.fd_schema.specs.Tokens.{Part, view, views}
 use Rattle.fd_request.specs.declared.keyword.Keyword as code_keyword
 use Rattle.fd_request.specs.Expansion as expansion
-use Rattle.fd_request.specs.Grammar.{Fault, each_of, keyword_in, behind_verb}
+use Rattle.fd_request.specs.Grammar.{Fault, each_of, keyword_in}
 use Rattle.fd_request.specs.Seen.{parts_if}
 use Rattle.fd_request.specs.Keywords.{seen_keywords}
 use Rattle.fd_request.specs.Reading.{Gives}

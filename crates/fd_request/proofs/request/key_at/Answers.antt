@@ -1,11 +1,11 @@
-use Rattle.std.proofs.Common.{◌≡◌, ◌<◌, ◌≤◌, ◌+◌, ◌/◌, ◌%◌, ◌∷◌, [], ◌++◌, List, ℕ, length, Some, ap, sym, ◌∙◌, arith, length-append}
+use Rattle.std.proofs.Common.{◌≡◌, ◌+◌, ◌/◌, ◌∷◌, [], ◌++◌, List, ℕ, length, Some, ap, sym, ◌∙◌, arith, length-append}
 use Rattle.std.specs.Prelude.{string_bytes}
 use Rattle.fd_key.specs.Names.{is_value}
 use Rattle.fd_key.specs.Pairs.{Pair, text_of, with_pair}
 use Rattle.fd_request.specs.Expansion.{expand}
 use Rattle.fd_request.specs.Keywords.{seen_keyword, seen_keywords}
 use Rattle.fd_request.specs.Values.{seen_values}
-use Rattle.fd_request.proofs.Choices.{left, next_block, some_block, value_place, front_more, rest_less, front_all, differ_more, pair_behind, absent_more, value_in_list}
+use Rattle.fd_request.proofs.Choices.{next_block, some_block, value_place, front_more, rest_less, front_all, differ_more, pair_behind, absent_more, value_in_list}
 use Rattle.fd_request.proofs.request.key_at.Goals as goal
 
 pub nonzero_div-rest : goal.nonzero_div-rest

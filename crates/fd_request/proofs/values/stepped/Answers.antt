@@ -1,4 +1,4 @@
-use Rattle.std.proofs.Common.{◌≡◌, ◌+◌, ◌/◌, ℕ, refl, ap, arith}
+use Rattle.std.proofs.Common.{◌+◌, ◌/◌, refl, ap, arith}
 use Rattle.fd_request.specs.Seen.{seen_end}
 use Rattle.fd_request.proofs.RangeLaws.{fits_small, quotient_small, last_fits, stepped_is}
 use Rattle.fd_request.proofs.values.stepped.Goals as goal

@@ -1,4 +1,4 @@
-use Rattle.std.proofs.Common.{◌≡◌, ◌<◌, ◌-◌, ◌*◌, ◌∙◌, sym, ap, refl, arith, length, List, ℕ}
+use Rattle.std.proofs.Common.{◌≡◌, ◌<◌, ◌-◌, ◌*◌, ◌∙◌, ap, refl, arith, length}
 use Rattle.std.specs.Prelude.{string_bytes}
 use Rattle.fd_request.specs.Ranges.{text_behind}
 use Rattle.fd_request.specs.Seen.{seen_end}

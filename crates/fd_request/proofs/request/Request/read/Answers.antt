@@ -1,4 +1,4 @@
-use Rattle.std.proofs.Common.{◌≡◌, codes, sym, ap, ◌∙◌, arith}
+use Rattle.std.proofs.Common.{codes}
 use Rattle.fd_request.specs.Keywords.{seen_keywords}
 use Rattle.fd_request.proofs.Sizes.{reading_place, limit_place, reading_refused, size_refused, limit_refused, request_is}
 use Rattle.fd_request.proofs.request.Request.read.Goals as goal

@@ -1,4 +1,4 @@
-use Rattle.std.proofs.Common.{List, ℕ, length, sym, ap, ◌∙◌}
+use Rattle.std.proofs.Common.{length, sym, ap, ◌∙◌}
 use Rattle.fd_request.specs.declared.values.Values as code_values
 use Rattle.fd_request.specs.Values.{seen_values}
 use Rattle.fd_request.proofs.RangeLaws.{count_is}
