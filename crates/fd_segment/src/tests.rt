@@ -3,8 +3,8 @@ ghost use Rattle.std.specs.Prelude.{◌≡◌, ◌≤◌, ◌<◌, ◌+◌, ◌^
 
 use super::*;
 use fd_core::Entry;
-use fd_disk::{FileKind, FileName, Folder, Reader, Sealed, Shelf, Store};
-use fd_disk_mem::{MemFault, MemFolder, MemReader, MemSealed, MemShelf, MemStore, Op};
+use fd_disk::{Folder, Reader, Sealed, Shelf, Store};
+use fd_disk_mem::{MemFault, MemReader, MemSealed, MemShelf, MemStore, Op};
 use fd_io::MemSink;
 use std::alloc::Global;
 use std::test::Fail;
@@ -229,7 +229,6 @@ fn three_puts_of_two_keys(rt: HostRuntime) -> Result<(), Fail> {
     let Ok(segment) = draft.seal(alloc) else {
         return Err("seal".into());
     };
-    segment.keep(alloc, &mut shelf)?;
     let want = Entry {
         writer: 1,
         seq: 1,
@@ -248,32 +247,8 @@ fn three_puts_of_two_keys(rt: HostRuntime) -> Result<(), Fail> {
     Ok(())
 }
 
-/// The segment of the two files of writer 1's first batch, with these lengths.
-fn listed(
-    alloc: Global,
-    folder: &mut MemFolder,
-    index_len: u64,
-    fields_len: u64,
-) -> Result<MemSegment, Fail> {
-    let name = |kind| FileName {
-        writer: 1,
-        seq: 1,
-        kind,
-    };
-    let Ok(Some(fields)) = folder.sealed(alloc, name(FileKind::Fields)) else {
-        return Err("fields".into());
-    };
-    let Ok(Some(index)) = folder.sealed(alloc, name(FileKind::Index)) else {
-        return Err("index".into());
-    };
-    if index.len() < index_len || fields.len() < fields_len {
-        return Err("short".into());
-    }
-    Ok(Segment::new(1, 1, 1, index_len, fields_len, fields, index))
-}
-
 #[test]
-fn damage(rt: HostRuntime) -> Result<(), Fail> {
+fn kept_by_its_shelf(rt: HostRuntime) -> Result<(), Fail> {
     let alloc = rt.alloc();
     let mut store = MemStore::new(alloc, 65_536, 256)?;
     let mut folder = store.folder(alloc, "a=1").ok().ok_or("folder")?;
@@ -290,29 +265,6 @@ fn damage(rt: HostRuntime) -> Result<(), Fail> {
         return Err("seal".into());
     };
     segment.keep(alloc, &mut shelf)?;
-    folder.give_shelf(shelf);
-    let cut = listed(alloc, &mut folder, 4119, 183)?.lens(alloc);
-    assert!(rt;
-        matches!(
-            cut,
-            Err(LensFault::Damaged(Damage::Index { file: _, at: 0 }))
-        )
-    );
-    let mut lens = listed(alloc, &mut folder, 4120, 182)?
-        .lens(alloc)
-        .ok()
-        .ok_or("lens")?;
-    let beyond = lens.find(b"i|a");
-    assert!(rt;
-        matches!(
-            beyond,
-            Err(LensFault::Damaged(Damage::Beyond {
-                file: _,
-                end: 183,
-                len: 182
-            }))
-        )
-    );
     Ok(())
 }
 
