@@ -6,8 +6,6 @@ mod dataset;
 mod fault;
 mod parts;
 mod snapshot;
-#[cfg(test)]
-mod tests;
 
 pub use dataset::{Dataset, DatasetPass};
 pub use fault::{ListFault, Receipt};
