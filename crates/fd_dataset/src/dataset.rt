@@ -75,11 +75,11 @@ impl<F: Send, T: Disk<F>, Z: Sealed<F> + Drop> Dataset<F, T, Z> {
             Ok((board, pass)) => Ok((Dataset { board }, pass)),
             Err((_, desk, _)) => {
                 let Desk {
-            toc,
-            segments: _,
-            doubted: _,
-            name: _,
-        } = desk;
+                    toc,
+                    segments: _,
+                    doubted: _,
+                    name: _,
+                } = desk;
                 Err((toc, NoMemory))
             }
         }

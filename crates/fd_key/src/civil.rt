@@ -60,12 +60,7 @@ pub fn date_text(alloc: Global, year: u32, month: u32, day: u32) -> Result<Strin
 
 /// `HHMM`, and `SS` behind it where the seconds aren't 0.
 #[tactic(auto, unfolding(crate::specs::Civil::time_text))]
-pub fn time_text(
-    alloc: Global,
-    hour: u32,
-    minute: u32,
-    second: u32,
-) -> Result<String, NoMemory>
+pub fn time_text(alloc: Global, hour: u32, minute: u32, second: u32) -> Result<String, NoMemory>
     ensures text { IfOk result (λ s. string_bytes s ≡ time_text hour minute second) }
     ensures short { IfOk result (λ s. length (string_bytes s) ≤ 6) }
     ensures value { IfOk result (λ s. IsTrue (is_value (string_bytes s))) }
