@@ -247,27 +247,6 @@ fn three_puts_of_two_keys(rt: HostRuntime) -> Result<(), Fail> {
     Ok(())
 }
 
-#[test]
-fn kept_by_its_shelf(rt: HostRuntime) -> Result<(), Fail> {
-    let alloc = rt.alloc();
-    let mut store = MemStore::new(alloc, 65_536, 256)?;
-    let mut folder = store.folder(alloc, "a=1").ok().ok_or("folder")?;
-    let mut shelf = folder.shelf(alloc, 1).ok().ok_or("shelf")?;
-    let room = Room { keys: 2, bytes: 6 };
-    let Ok(mut draft) = Draft::new(alloc, &mut shelf, 1, 1, room) else {
-        return Err("draft".into());
-    };
-    put(&mut draft, b"i|a", FIRST)?;
-    if draft.len() == 0 {
-        return Err("nothing was put".into());
-    }
-    let Ok(segment) = draft.seal(alloc) else {
-        return Err("seal".into());
-    };
-    segment.keep(alloc, &mut shelf)?;
-    Ok(())
-}
-
 fn shared<T: Send + Sync>(_: &T) {}
 
 fn moved<T: Send>(_: &T) {}
