@@ -2,6 +2,7 @@
 ghost use Rattle.std.specs.Prelude.{◌≡◌, ◌≤◌, ◌<◌, ◌+◌, ◌^◌, length, IfOk};
 
 use super::*;
+use fd_core::Entry;
 use fd_disk::{Folder, Reader, Sealed, Shelf, Store};
 use fd_disk_mem::{MemFault, MemReader, MemSealed, MemShelf, MemStore, Op};
 use fd_io::MemSink;
@@ -201,6 +202,48 @@ fn each_call_fails_in_turn(rt: HostRuntime) -> Result<(), Fail> {
         }
     );
     assert_eq!(rt; sink.taken(), THIRD);
+    Ok(())
+}
+
+#[test]
+fn three_puts_of_two_keys(rt: HostRuntime) -> Result<(), Fail> {
+    let alloc = rt.alloc();
+    let mut store = MemStore::new(alloc, 65_536, 256)?;
+    let mut folder = store.folder(alloc, "a=1").ok().ok_or("folder")?;
+    let mut shelf = folder.shelf(alloc, 1).ok().ok_or("shelf")?;
+    let room = Room { keys: 2, bytes: 6 };
+    let Ok(mut draft) = Draft::new(alloc, &mut shelf, 1, 1, room) else {
+        return Err("draft".into());
+    };
+    assert!(rt; draft.is_empty());
+    put(&mut draft, b"i|a", FIRST)?;
+    put(&mut draft, b"i|b", SECOND)?;
+    put(&mut draft, b"i|a", THIRD)?;
+    assert!(rt;
+        matches!(
+            draft.put(b"i|c", FIRST),
+            Err(PutFault::Full { keys: 2, left: 0 })
+        )
+    );
+    assert_eq!(rt; draft.len(), 2);
+    let Ok(segment) = draft.seal(alloc) else {
+        return Err("seal".into());
+    };
+    let want = Entry {
+        writer: 1,
+        seq: 1,
+        fields: 2,
+        index_len: 4120,
+        fields_len: 549,
+    };
+    assert_eq!(rt; segment.entry(), want);
+    let mut lens = segment.lens(alloc).ok().ok_or("lens")?;
+    assert!(rt; matches!(lens.find(b"i|a"), Ok(Some((366, 183)))));
+    assert!(rt; matches!(lens.find(b"i|c"), Ok(None)));
+    let index = lens.records(alloc).ok().ok_or("records")?;
+    assert_eq!(rt; index.len(), 2);
+    assert_eq!(rt; index.record(0), (b"i|a".as_slice(), 366, 183));
+    assert_eq!(rt; index.record(1), (b"i|b".as_slice(), 183, 183));
     Ok(())
 }
 
