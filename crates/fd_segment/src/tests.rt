@@ -1,5 +1,7 @@
 //! One batch written and read, each of its calls failing in turn, and what threads may do with its parts.
-ghost use Rattle.std.specs.Prelude.{◌≡◌, ◌≤◌, ◌<◌, ◌+◌, ◌^◌, length, IfOk};
+ghost use Rattle.std.specs.Prelude.{◌≡◌, ◌≤◌, ◌<◌, ◌+◌, ◌^◌, length, false, IfOk};
+ghost use Rattle.fd_disk.specs.declared.folders.FileKind.TheVariants.{Fields, Index};
+ghost use Rattle.fd_disk.specs.Names.{name_of};
 
 use super::*;
 use fd_core::Entry;
@@ -244,6 +246,43 @@ fn three_puts_of_two_keys(rt: HostRuntime) -> Result<(), Fail> {
     assert_eq!(rt; index.len(), 2);
     assert_eq!(rt; index.record(0), (b"i|a".as_slice(), 366, 183));
     assert_eq!(rt; index.record(1), (b"i|b".as_slice(), 183, 183));
+    Ok(())
+}
+
+/// Writes a batch of one pair, has the shelf hold it, and gives its number of keys.
+fn write_and_keep<F: Send + Drop, H: Shelf<F>>(
+    alloc: Global,
+    shelf: &mut H,
+    writer: u32,
+) -> Result<u32, Fail>
+where
+    H::File: Drop,
+    H::Sealed: Drop,
+    requires writer { H.writer shelf.old ≡ writer }
+    requires fields { H.created shelf.old (name_of writer 1 Fields) ≡ false }
+    requires index { H.created shelf.old (name_of writer 1 Index) ≡ false }
+{
+    let room = Room { keys: 1, bytes: 3 };
+    let Ok(mut draft) = Draft::new(alloc, shelf, writer, 1, room) else {
+        return Err("draft".into());
+    };
+    if draft.put(b"i|a", FIRST).is_err() || draft.is_empty() {
+        return Err("put".into());
+    }
+    let Ok(segment) = draft.seal(alloc) else {
+        return Err("seal".into());
+    };
+    segment.keep(alloc, shelf)?;
+    Ok(segment.fields)
+}
+
+#[test]
+fn kept_by_its_shelf(rt: HostRuntime) -> Result<(), Fail> {
+    let alloc = rt.alloc();
+    let mut store = MemStore::new(alloc, 65_536, 256)?;
+    let mut folder = store.folder(alloc, "a=1").ok().ok_or("folder")?;
+    let mut shelf = folder.shelf(alloc, 1).ok().ok_or("shelf")?;
+    assert_eq!(rt; write_and_keep(alloc, &mut shelf, 1)?, 1);
     Ok(())
 }
 
