@@ -84,6 +84,10 @@ pub record Texts : Type 0 where
   pub index : List ℕ
   pub datum : List ℕ
 
+-- the key of a place in the files of its dataset: the index text, a vertical line, the datum text
+abbrev pub file_key : Texts → List ℕ
+file_key t = t.index ++ 124 ∷ t.datum
+
 abbrev pub texts_of : ℕ → Rule → List Pair → Texts
 texts_of number rule key = record {
   rule = number;

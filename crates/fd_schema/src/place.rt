@@ -3,9 +3,9 @@ ghost use Rattle.std.specs.Prelude.{◌≡◌, ◌≤◌, ◌++◌, ◌∷◌, [
 ghost use Rattle.std.specs.List.{list_all, list_any};
 ghost use Rattle.std.specs.Str.{bytes_eq};
 ghost use Rattle.std.specs.Option.{option_copied};
-ghost use Rattle.fd_schema.specs.Rules.{suits, suits_key, has_meaning, is_known, admits, joined_behind, level_text, place_from};
+ghost use Rattle.fd_schema.specs.Rules.{suits, suits_key, has_meaning, is_known, admits, file_key, joined_behind, level_text, place_from};
 ghost use Rattle.fd_schema.specs.Seen.{seen_items, seen_want, seen_rules, texts};
-ghost use Rattle.fd_schema.specs.Reading.{GivesPlace};
+ghost use Rattle.fd_schema.specs.Reading.{GivesPlace, seen_place};
 
 use crate::fault::PlaceFault;
 use crate::grammar::same_level;
@@ -26,6 +26,20 @@ pub struct Place {
     pub index: String,
     /// The text of its third level.
     pub datum: String,
+}
+
+impl Place {
+    /// The key under which a message of this place stands in the files of its dataset: the index text, a vertical line,
+    /// the datum text.
+    pub fn file_key(&self, alloc: Global) -> Result<Vec<u8>, NoMemory>
+        ensures { IfOk result (λ v. v.items ≡ file_key (seen_place self.now)) }
+    {
+        let mut key = Vec::new(alloc);
+        key.extend_from_slice(self.index.as_bytes())?;
+        key.push(b'|')?;
+        key.extend_from_slice(self.datum.as_bytes())?;
+        Ok(key)
+    }
 }
 
 /// Tells that one of the values is this text.
