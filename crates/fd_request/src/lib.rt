@@ -7,6 +7,7 @@ mod fault;
 mod keyword;
 mod laws;
 mod limits;
+mod matching;
 mod part;
 mod partial;
 mod range;
