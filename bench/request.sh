@@ -18,7 +18,8 @@ for crate in fd_bytes fd_sections fd_key fd_schema fd_request; do
 done
 echo "reading_times: fd_schema fd_request anyhow" >> "$work/crates.txt"
 cat > "$driver/src/main.rt" <<'RT'
-//! Reads the text on standard input so many times, by the verb that it begins with, and prints the nanoseconds.
+//! Reads the text on standard input so many times, by the byte that it begins with, and prints the nanoseconds and the
+//! times, or `0 0` where it isn't read.
 #![tactic(auto)]
 
 use anyhow::Result;
@@ -40,15 +41,15 @@ fn is_read(alloc: Global, text: &[u8]) -> bool {
 
 fn main(rt: HostRuntime) -> Result<()> {
     let text = io::read_to_string(rt.alloc(), rt.stdin().lock())?;
-    let mut count = 0;
     let start = Instant::now(&rt)?;
     for _ in 0..TIMES {
-        if is_read(rt.alloc(), text.as_bytes()) {
-            count += 1;
+        if !is_read(rt.alloc(), text.as_bytes()) {
+            println!(rt; "0 0")?;
+            return Ok(());
         }
     }
     let nanoseconds = start.elapsed(&rt)?.as_nanos();
-    println!(rt; "{} {} {}", nanoseconds, TIMES, count)?;
+    println!(rt; "{nanoseconds} {TIMES}")?;
     Ok(())
 }
 RT
@@ -96,8 +97,8 @@ def schema(size):
 
 def seconds(program, text):
     out = subprocess.run([program], input=text.encode(), stdout=subprocess.PIPE, check=True).stdout.split()
-    nanoseconds, times, count = map(int, out)
-    if count != times:
+    nanoseconds, times = map(int, out)
+    if times == 0:
         sys.exit(f"not read: {text[:60]}")
     return nanoseconds / 1e9 / times
 
