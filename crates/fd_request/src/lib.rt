@@ -4,6 +4,7 @@
 mod day;
 mod end;
 mod fault;
+mod found;
 mod keyword;
 mod laws;
 mod limits;
