@@ -1,5 +1,5 @@
 -- Which texts are values, and which keys are asked for.
-use Rattle.std.proofs.Common.{◌≡◌, ℕ, zero, suc, ◌+◌, ◌-◌, ◌*◌, ◌/◌, ◌%◌, ◌<◌, ◌≤◌, Bool, true, false, eqb, ltb, List, length, get_or, Option, Some, None, refl, sym, ap, subst, ◌∙◌, arith}
+use Rattle.std.proofs.Common.{◌≡◌, ℕ, zero, suc, ◌+◌, ◌-◌, ◌*◌, ◌/◌, ◌%◌, ◌<◌, ◌≤◌, Bool, true, eqb, ltb, List, length, get_or, Option, Some, None, sym, ap, subst, ◌∙◌, arith}
 use Rattle.std.specs.Prelude.{slice_index_or, ◌&&◌, IsTrue, ◌↔◌}
 use Rattle.std.specs.List.{Contains, list_any}
 use Rattle.std.specs.Str.{bytes_eq}
@@ -22,7 +22,7 @@ use Rattle.fd_request.specs.Behind.{end_behind, ReadsBehind}
 use Rattle.fd_request.specs.Expansion.{Keyword}
 use Rattle.fd_request.specs.Keywords.{seen_keyword, seen_keywords}
 use Rattle.fd_request.specs.Matching.{Admits, Matches}
-use Rattle.fd_request.proofs.RangeLaws.{length_values, fits_less, place_within, fits_small}
+use Rattle.fd_request.proofs.RangeLaws.{length_values, fits_less, place_within}
 use Rattle.fd_request.proofs.ReadAgain.{text_again, far_again, behind_is}
 
 -- ---- the values of a range, by their places

@@ -1,5 +1,5 @@
 -- The values behind an end, read again.
-use Rattle.std.proofs.Common.{◌≡◌, ◌<◌, ◌≤◌, ◌+◌, ◌-◌, ◌/◌, ◌%◌, ◌∙◌, ◌^◌, ℕ, Bool, true, false, cond, List, [], ◌∷◌, ◌++◌, ltb, leb, Some, None, refl, sym, ap, rules, arith, ℤ, pos, negsuc, neg_ℤ, ◌+ℤ◌, ◌-ℤ◌, ◌≤ℤ◌, FitsSigned, w64}
+use Rattle.std.proofs.Common.{◌≡◌, ◌<◌, ◌≤◌, ◌+◌, ◌-◌, ◌/◌, ◌%◌, ◌∙◌, ◌^◌, ℕ, true, List, ◌++◌, ltb, leb, Some, None, refl, ap, arith, ℤ, pos, negsuc, neg_ℤ, ◌+ℤ◌, ◌-ℤ◌, ◌≤ℤ◌, FitsSigned, w64}
 use Rattle.std.specs.Prelude.{◌&&◌}
 use Rattle.std.specs.List.{list_all}
 use Rattle.std.specs.Char.{is_ascii_digit, digit_value}
@@ -8,10 +8,10 @@ use Rattle.std.specs.Str.Parse.{digits_value}
 use Rattle.std.proofs.lemmas.Int.{ints}
 use Rattle.std.proofs.lemmas.Bool.{and_from, cond-true, cond-false, lt-ltb, le-ltb, le-leb}
 use lib.Signed.{mag}
-use Rattle.jiff_core.specs.Calendar.{days_from_civil, IsCivilDate}
+use Rattle.jiff_core.specs.Calendar.{IsCivilDate}
 use Rattle.jiff_core.specs.Date.{epoch_day}
 use Rattle.jiff_core.proofs.CalendarLemmas.{days_in_month_bounds}
-use Rattle.fd_key.specs.Numerals.{is_numeral, number_up_to}
+use Rattle.fd_key.specs.Numerals.{number_up_to}
 use Rattle.fd_key.specs.Civil.{is_date, month_days, two_digits, date_text, time_text}
 use Rattle.fd_key.proofs.Again.{number_is}
 use Rattle.fd_request.specs.declared.day.Day as code_day

@@ -1,4 +1,4 @@
-use Rattle.std.proofs.Common.{◌≡◌, ◌+◌, ℤ, ℕ, pos, ◌+ℤ◌, w64, to_z, refl, sym, ap, ◌∙◌, List, arith}
+use Rattle.std.proofs.Common.{◌≡◌, ◌+◌, ℤ, ℕ, pos, ◌+ℤ◌, w64, to_z, sym, ap, ◌∙◌, List, arith}
 use Rattle.std.proofs.lemmas.Int.{ints}
 use Rattle.std.specs.Str.{bytes_eq}
 use Rattle.std.specs.Fmt.{signed_decimal}

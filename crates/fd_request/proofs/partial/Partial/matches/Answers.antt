@@ -1,4 +1,4 @@
-use Rattle.std.proofs.Common.{◌≡◌, true, false, refl, sym, ap, ◌∙◌, List}
+use Rattle.std.proofs.Common.{◌≡◌, false, refl, sym, ap, ◌∙◌, List}
 use Rattle.fd_request.specs.declared.keyword.Keyword as code_keyword
 use Rattle.fd_request.specs.Keywords.{seen_keywords}
 use Rattle.fd_request.proofs.Members.{admit_none, admit_more, admit_all, admits_at}

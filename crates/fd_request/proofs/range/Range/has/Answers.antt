@@ -1,7 +1,4 @@
-use Rattle.std.proofs.Common.{◌≡◌, true, false, sym, ap, ◌∙◌, Some, None}
-use Rattle.std.specs.Prelude.{IsTrue}
-use Rattle.fd_request.specs.Ranges.{text_behind, distance}
-use Rattle.fd_request.specs.Seen.{seen_end}
+use Rattle.std.proofs.Common.{◌≡◌, false, sym, ◌∙◌}
 use Rattle.fd_request.proofs.Members.{unread, no_distance, has_value, is_in_reach, is_so_spelled}
 use Rattle.fd_request.proofs.range.Range.has.Goals as goal
 
