@@ -1,8 +1,8 @@
 #!/usr/bin/env bash
 # Seconds for reading one text of a request, a partial request and a schema, at the largest size that is allowed, 65,536
-# bytes, and at half of it. Linear time shows where twice the length takes at most about 2.3 times as long. The calls have
-# no command yet, so a copy of their crates is proved with a small program above them, which takes minutes the first time.
-# No part of the gate.
+# bytes, and at half of it: the least of nine runs of 40 reads. Linear time shows where twice the length takes at most about
+# 2.3 times as long; beside other work on the machine the times say little. The calls have no command yet, so a copy of
+# their crates is proved with a small program above them, which takes minutes the first time. No part of the gate.
 set -eu
 top=$(cd "$(dirname "$0")/.." && pwd)
 work=$(mktemp -d)
@@ -102,7 +102,14 @@ def seconds(program, text):
         sys.exit(f"not read: {text[:60]}")
     return nanoseconds / 1e9 / times
 
-for name, text in [("a request of one list", listed), ("a partial request of many names", named), ("a partial request of dates", dates), ("a schema of full rules", schema)]:
-    half, whole = (min(seconds(sys.argv[1], text(size)) for _ in range(3)) for size in (32768, 65536))
+shapes = [
+    ("a request of one list", listed),
+    ("a partial request of many names", named),
+    ("a partial request of dates", dates),
+    ("a schema of full rules", schema),
+]
+for name, text in shapes:
+    runs = [[seconds(sys.argv[1], text(size)) for size in (32768, 65536)] for _ in range(9)]
+    half, whole = map(min, zip(*runs))
     print(f"{name:34} 32768 bytes {half:9.6f} s   65536 bytes {whole:9.6f} s   {whole / half:5.2f} times")
 PY
