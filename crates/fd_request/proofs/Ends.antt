@@ -70,9 +70,9 @@ day_far d far f =
 -- ---- days
 
 -- a day of the years 0 to 9999, whose number is this
-record IsNumbered (number : ℤ) (d : Day) : Type 0 where
-  civil : IsCivilDate (pos d.year) d.month d.day
-  is : days_from_civil (pos d.year) d.month d.day ≡ number
+pub record IsNumbered (number : ℤ) (d : Day) : Type 0 where
+  pub civil : IsCivilDate (pos d.year) d.month d.day
+  pub is : days_from_civil (pos d.year) d.month d.day ≡ number
 
 abbrev one_later : ℕ → ℕ → ℕ → Day
 one_later y m d = next_day (record { year = y; month = m; day = d })
@@ -119,16 +119,21 @@ later_is first d (suc far) n high =
     let next = next_is (first +ℤ pos far) (later far d) before (omega (arith, ints)) in
     record { civil = next.civil; is = next.is ∙ omega (arith, ints) }
 
--- the day so far behind another, by its day number
-pub later_day : (d : code_day.Day) (far : ℕ) (e : Date) → Fits (OnDay (seen_day d)) far → epoch_day e ≡ epoch_day d.date +ℤ pos far
-    → (unsigned_abs e.year ≡ (later far (seen_day d)).year) × (e.month ≡ (later far (seen_day d)).month) × (e.day ≡ (later far (seen_day d)).day)
-later_day d far e f is =
+-- the day so far behind another has the number so far behind
+pub numbered : (d : code_day.Day) (far : ℕ) → Fits (OnDay (seen_day d)) far → IsNumbered (epoch_day d.date +ℤ pos far) (later far (seen_day d))
+numbered d far f =
     let first : IsNumbered (epoch_day d.date) (seen_day d) = record {
       civil = (let P : ℤ → Type 0 = λ y. IsCivilDate y d.date.month d.date.day in subst P (sym (abs_pos d.date.year d.since_zero)) (civil d.date));
       is = place_is_numbered d;
     } in
     let range = day_in d far f in
-    let n = later_is (epoch_day d.date) (seen_day d) far first range.1 in
+    later_is (epoch_day d.date) (seen_day d) far first range.1
+
+-- the day so far behind another, by its day number
+pub later_day : (d : code_day.Day) (far : ℕ) (e : Date) → Fits (OnDay (seen_day d)) far → epoch_day e ≡ epoch_day d.date +ℤ pos far
+    → (unsigned_abs e.year ≡ (later far (seen_day d)).year) × (e.month ≡ (later far (seen_day d)).month) × (e.day ≡ (later far (seen_day d)).day)
+later_day d far e f is =
+    let n = numbered d far f in
     let l = later far (seen_day d) in
     let same : Date = record { year = pos l.year; month = l.month; day = l.day; year_in = n.civil.0; month_in = n.civil.1; day_in = n.civil.2 } in
     let parts = epoch_day_injective e same (is ∙ sym n.is) in

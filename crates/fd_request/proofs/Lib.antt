@@ -8,3 +8,5 @@ pub mod Lengths
 pub mod Places
 pub mod Sizes
 pub mod Choices
+pub mod ReadAgain
+pub mod Members

@@ -48,7 +48,7 @@ most_same (Hour x) (OnDay y) h = absurd cc
 most_same (OnDay x) (Number y) h = absurd cc
 most_same (OnDay x) (Hour y) h = absurd cc
 
-distance_is : (z : ℤ) (far : ℕ) → distance_if z ≡ Some far → z ≡ pos far
+pub distance_is : (z : ℤ) (far : ℕ) → distance_if z ≡ Some far → z ≡ pos far
 distance_is (pos n) far h = go (ltb n 0) refl h
   where
     go : (b : Bool) → ltb n 0 ≡ b → cond b None (Some n) ≡ Some far → pos n ≡ pos far

@@ -1,6 +1,11 @@
 -- One step of each reading.
 use Rattle.std.proofs.Common.{◌≡◌, ℕ, ◌+◌, ◌<◌, ◌≤◌, Bool, true, false, cond, not, List, [], ◌∷◌, ◌++◌, length, get_or, drop, Option, Result, Ok, eqb, refl, ap, subst, ◌∙◌, sym, arith, append_assoc}
-use Rattle.std.specs.Prelude.{◌&&◌, String, string_bytes}
+use Rattle.std.specs.Prelude.{◌&&◌, ◌||◌, String, string_bytes}
+use Rattle.std.specs.String.{string_cmp}
+use Rattle.std.specs.Str.{bytes_eq}
+use Rattle.std.specs.BTreeSet.{BTreeSet, UpdatesBy, contains_text}
+use Rattle.std.proofs.lemmas.Map.Text.{btree_set_updates_text}
+use Rattle.std.proofs.lemmas.List.Folds.{list_any-append}
 use Rattle.std.specs.List.{list_all}
 use Rattle.std.specs.declared.alloc.Global.{Global}
 use Rattle.std.proofs.lemmas.Bool.{and_parts, and_from}
@@ -15,7 +20,7 @@ use Rattle.fd_request.specs.declared.fault.Refusal.TheVariants as refusals
 use Rattle.fd_request.specs.Expansion.{Keyword}
 use Rattle.fd_request.specs.Grammar.{Fault, each_of, value_of, value_in, keyword_in, has_name, verb_of, first_place, behind_verb, request_in}
 use Rattle.fd_request.specs.Seen.{seen_word, seen_words}
-use Rattle.fd_request.specs.Keywords.{seen_keyword, seen_keywords, differ_after}
+use Rattle.fd_request.specs.Keywords.{seen_keyword, seen_keywords, differ_after, AreNames}
 use Rattle.fd_request.specs.Reading.{Fails}
 
 pub goes : {A B : Type 0} (read : List A → B → Result A Fault) (before : List A) (p : B) (ps : List B) (x : A) → read before p ≡ Ok x → each_of read before (p ∷ ps) ≡ each_of read (before ++ x ∷ []) ps
@@ -94,6 +99,23 @@ pub one_more_name : (ks new : List code_keyword.Keyword) (k : code_keyword.Keywo
 one_more_name ks new k pushed h fresh =
     ap (λ (us : List code_keyword.Keyword). differ_after [] (seen_keywords us)) pushed
     ∙ ap (differ_after []) (map_push seen_keyword ks k) ∙ differ_push [] (seen_keywords ks) (seen_keyword k) h fresh
+
+last_or : (b h : Bool) → cond b true h ≡ (h || (b || false))
+last_or true true = refl
+last_or true false = refl
+last_or false true = refl
+last_or false false = refl
+
+-- the set of the names has one more
+pub names_more : (s n : BTreeSet (String Global)) (name : String Global) (ks new : List code_keyword.Keyword) (k : code_keyword.Keyword) → UpdatesBy string_cmp (string_cmp name) s n true → string_bytes name ≡ string_bytes k.name → new ≡ ks ++ k ∷ []
+    → AreNames s ks → AreNames n new
+names_more s n name ks new k updates same pushed names q =
+    let one : contains_text n q ≡ cond (bytes_eq (string_bytes name) q) true (contains_text s q) = btree_set_updates_text (string_bytes name) s n true updates q in
+    let last : has_name (seen_keywords ks ++ seen_keyword k ∷ []) q ≡ (has_name (seen_keywords ks) q || (bytes_eq (string_bytes k.name) q || false)) =
+    list_any-append (λ (j : Keyword). bytes_eq j.name q) (seen_keywords ks) (seen_keyword k ∷ []) in
+    one ∙ ap (λ (bs : List ℕ). cond (bytes_eq bs q) true (contains_text s q)) same ∙ ap (λ (b : Bool). cond (bytes_eq (string_bytes k.name) q) true b) (names q)
+    ∙ last_or (bytes_eq (string_bytes k.name) q) (has_name (seen_keywords ks) q) ∙ sym last
+    ∙ ap (λ (us : List Keyword). has_name us q) (sym (map_push seen_keyword ks k)) ∙ ap (λ (us : List code_keyword.Keyword). has_name (seen_keywords us) q) (sym pushed)
 
 -- ---- there are no more tokens than bytes
 

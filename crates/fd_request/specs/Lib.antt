@@ -7,3 +7,5 @@ pub mod Values
 pub mod Keywords
 pub mod Reading
 pub mod Requests
+pub mod Behind
+pub mod Matching

@@ -60,7 +60,7 @@ fn signed_whole(text: &[u8]) -> Option<i64>
 
 /// The hour of `HHMM`, where the minutes are 0.
 #[tactic(auto, unfolding(crate::specs::Ranges::hour_of))]
-fn hour_of(text: &[u8]) -> Option<u32>
+pub(crate) fn hour_of(text: &[u8]) -> Option<u32>
     ensures hour { result ≡ hour_of text.now }
     ensures small { IfSome result (λ h. h ≤ 23) }
 {
@@ -85,7 +85,7 @@ fn day_if(year: u32, month: u32, day: u32) -> Option<Day>
 
 /// The day of `YYYYMMDD`.
 #[tactic(auto, unfolding(crate::specs::Ranges::day_of))]
-fn day_of(text: &[u8]) -> Option<Day>
+pub(crate) fn day_of(text: &[u8]) -> Option<Day>
     ensures { option_map seen_day result ≡ day_of text.now }
 {
     match text {

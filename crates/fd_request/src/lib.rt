@@ -4,9 +4,11 @@
 mod day;
 mod end;
 mod fault;
+mod found;
 mod keyword;
 mod laws;
 mod limits;
+mod matching;
 mod part;
 mod partial;
 mod range;

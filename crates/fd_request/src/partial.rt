@@ -1,11 +1,13 @@
-ghost use Rattle.std.specs.Prelude.{length, codes};
+ghost use Rattle.std.specs.Prelude.{◌↔◌, IsTrue, length, codes};
 ghost use Rattle.fd_request.specs.Limits.{partial_of};
 ghost use Rattle.fd_request.specs.Reading.{GivesKeywords};
+ghost use Rattle.fd_request.specs.Matching.{Matches};
 
 use crate::fault::RequestFault;
 use crate::keyword::Keyword;
 use crate::reading::keywords_of;
 use crate::request::{BYTES, refused, too_long};
+use fd_key::Key;
 use std::alloc::Global;
 use std::marker::Model;
 
@@ -41,5 +43,17 @@ impl Partial {
             return Err(too_long());
         }
         Ok(Partial { keywords })
+    }
+    /// Tells that a key is one of those asked for: it has each name, with one of the values that are listed for the name. A
+    /// partial request without names asks for every key.
+    pub fn matches(&self, key: &Key) -> bool
+        ensures { IsTrue result ↔ Matches self.now key.now }
+    {
+        for keyword in &self.keywords {
+            if !keyword.admits(key) {
+                return false;
+            }
+        }
+        true
     }
 }

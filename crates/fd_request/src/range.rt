@@ -10,5 +10,6 @@ pub(crate) struct Range {
     pub(crate) step: u32,
     pub(crate) count: u64,
     ghost some: { 0 < count },
+    ghost moves: { 0 < step },
     ghost fits: { Fits (seen_end first) ((count - 1) * step) },
 }

@@ -13,6 +13,7 @@ ghost use Rattle.fd_request.specs.Keywords.{seen_keyword, seen_keywords, differ_
 ghost use Rattle.fd_request.specs.Reading.{Gives, Fails};
 
 use crate::fault::{Refusal, RequestKind};
+use crate::found::Found;
 use crate::keyword::Keyword;
 use crate::part::part_from;
 use crate::value::spelled;
@@ -100,24 +101,12 @@ fn behind_name(alloc: Global, name: &str, stop: &Token, tokens: &[Token]) -> Res
     values(alloc, name, front_place(stop, others), &words)
 }
 
-/// Tells that one of the keywords has the name.
-fn has_name(keywords: &[Keyword], name: &str) -> bool
-    ensures { result ≡ has_name (seen_keywords keywords.now) name.now }
-{
-    for keyword in keywords {
-        if keyword.name.as_str() == name {
-            return true;
-        }
-    }
-    false
-}
-
 /// The name that a token is, behind these keywords.
 #[tactic(auto, unfolding(crate::specs::Grammar::name_of))]
-fn name_of(alloc: Global, before: &[Keyword], token: &Token) -> Result<String, Refusal>
-    ensures gives { Gives string_bytes result (name_of (seen_keywords before.now) (view token.now)) }
+fn name_of(alloc: Global, before: &Found, token: &Token) -> Result<String, Refusal>
+    ensures gives { Gives string_bytes result (name_of (seen_keywords before.now.keywords.items) (view token.now)) }
     ensures name { IfOk result (λ s. is_name (string_bytes s) ≡ true) }
-    ensures new { IfOk result (λ s. has_name (seen_keywords before.now) (string_bytes s) ≡ false) }
+    ensures new { IfOk result (λ s. has_name (seen_keywords before.now.keywords.items) (string_bytes s) ≡ false) }
 {
     let end = name_end(token.text);
     let (front, _) = token.text.split_at(end);
@@ -125,7 +114,7 @@ fn name_of(alloc: Global, before: &[Keyword], token: &Token) -> Result<String, R
         return Err(Refusal::At(token.at, RequestKind::Pair));
     }
     let name = String::from_str(alloc, name_text(front))?;
-    if has_name(before, name.as_str()) {
+    if before.has(name.as_str()) {
         return Err(Refusal::At(token.at, RequestKind::Repeated(name)));
     }
     if end < token.text.len() {
@@ -138,12 +127,12 @@ fn name_of(alloc: Global, before: &[Keyword], token: &Token) -> Result<String, R
 #[tactic(auto, unfolding(crate::specs::Grammar::keyword_of))]
 fn keyword(
     alloc: Global,
-    before: &[Keyword],
+    before: &Found,
     stop: &Token,
     tokens: &[Token],
 ) -> Result<Keyword, Refusal>
-    ensures gives { Gives seen_keyword result (keyword_of (seen_keywords before.now) (view stop.now) (views tokens.now)) }
-    ensures new { IfOk result (λ k. has_name (seen_keywords before.now) (string_bytes k.name) ≡ false) }
+    ensures gives { Gives seen_keyword result (keyword_of (seen_keywords before.now.keywords.items) (view stop.now) (views tokens.now)) }
+    ensures new { IfOk result (λ k. has_name (seen_keywords before.now.keywords.items) (string_bytes k.name) ≡ false) }
 {
     let [first, others @ ..] = tokens else {
         return Err(Refusal::At(stop.at, RequestKind::Pair));
@@ -165,16 +154,16 @@ fn keywords<'s, 't>(
     ensures differ { IfOk result (λ v. differ_after [] (seen_keywords v.items) ≡ true) }
     ensures few { IfOk result (λ v. length v.items ≤ length tokens.now + 1) }
 {
-    let mut found = Vec::new(alloc);
+    let mut found = Found::new(alloc);
     let mut from = first;
     'parts: loop {
         let (inside, behind, next) = part_from(b',', stop, tokens, from);
         match keyword(alloc, &found, behind, inside) {
-            Ok(keyword) => found.push(keyword)?,
+            Ok(keyword) => found = found.with(keyword)?,
             Err(refusal) => return Err(refusal),
         }
         match next {
-            None => return Ok(found),
+            None => return Ok(found.keywords),
             Some(place) => from = place,
         }
     }

@@ -1,4 +1,5 @@
 use super::*;
+use fd_key::Key;
 use std::alloc::Global;
 use std::process::Abort;
 use std::test::Fail;
@@ -113,6 +114,94 @@ fn partial_requests(rt: HostRuntime) -> Result<(), Fail> {
         };
         assert_eq!(rt; got.as_str(), want);
     }
+    Ok(())
+}
+
+// Whether a partial request asks for the first key of a request.
+fn asked(alloc: Global, partial: &str, request: &str) -> Result<bool, Fail> {
+    let partial = Partial::read(alloc, partial.as_bytes())
+        .ok()
+        .ok_or("no partial request")?;
+    let request = Request::read(alloc, request.as_bytes())
+        .ok()
+        .ok_or("no request")?;
+    if request.count() == 0 {
+        return Ok(false);
+    }
+    let key = request.key(alloc, 0)?;
+    Ok(partial.matches(&key))
+}
+
+#[test]
+fn keys_asked_for(rt: HostRuntime) -> Result<(), Fail> {
+    let rows = [
+        ("list", "retrieve", true),
+        ("list", "retrieve,class=od", true),
+        ("list,class=od/rd", "retrieve,step=6,class=rd", true),
+        ("list,class=od/rd", "retrieve,class=xd", false),
+        ("list,class=od,expver=1", "retrieve,class=od", false),
+        (
+            "list,class=od,expver=1",
+            "retrieve,class=od,expver=2",
+            false,
+        ),
+        ("list,step=0/to/24/by/6", "retrieve,step=12", true),
+        ("list,step=0/to/24/by/6", "retrieve,step=24", true),
+        ("list,step=0/to/24/by/6", "retrieve,step=13", false),
+        ("list,step=0/to/24/by/6", "retrieve,step=30", false),
+        ("list,step=0/to/24/by/6", "retrieve,step=-6", false),
+        ("list,step=0/to/24/by/6", "retrieve,step=6m", false),
+        ("list,step=-6/to/6/by/4", "retrieve,step=-2", true),
+        (
+            "list,step=0/to/999999999999999",
+            "retrieve,step=123456789012345",
+            true,
+        ),
+        (
+            "list,date=20240228/to/20240301",
+            "retrieve,date=2024-02-29",
+            true,
+        ),
+        (
+            "list,date=20240228/to/20240301",
+            "retrieve,date=20240302",
+            false,
+        ),
+        ("list,time=0/to/18/by/6", "retrieve,time=18", true),
+        ("list,time=0/to/18/by/6", "retrieve,time=1830", false),
+        (
+            "list,levelist=850/to/1000/by/50",
+            "retrieve,levelist=950.0",
+            true,
+        ),
+        (
+            "list,levelist=850/to/1000/by/50",
+            "retrieve,levelist=950_900",
+            false,
+        ),
+    ];
+    for (partial, request, want) in rows {
+        assert_eq!(rt; asked(rt.alloc(), partial, request)?, want);
+    }
+    Ok(())
+}
+
+#[test]
+fn only_the_one_spelling(rt: HostRuntime) -> Result<(), Fail> {
+    let alloc = rt.alloc();
+    let partial = Partial::read(alloc, b"list,step=0/to/24/by/6")
+        .ok()
+        .ok_or("no partial request")?;
+    let mut key = Key::new(alloc)?;
+    key.set(alloc, "step", "06")?;
+    let other = partial.matches(&key);
+    key.set(alloc, "step", "+6")?;
+    let signed = partial.matches(&key);
+    key.set(alloc, "step", "6")?;
+    assert_eq!(rt;
+        (other, signed, partial.matches(&key)),
+        (false, false, true)
+    );
     Ok(())
 }
 
