@@ -12,3 +12,6 @@ mod toc;
 pub use faults::{AppendFault, LoadFault};
 pub use fd_core::Entry;
 pub use toc::Toc;
+
+#[cfg(test)]
+mod tests;
