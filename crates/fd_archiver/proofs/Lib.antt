@@ -1,0 +1,4 @@
+pub mod Keeping
+pub mod Owning
+pub mod Sealing
+pub mod Listing
