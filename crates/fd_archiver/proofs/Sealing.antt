@@ -8,7 +8,7 @@ use Rattle.fd_core.specs.declared.batch.Pair.{Pair}
 use Rattle.fd_segment.specs.Filling.{Filling, HoldsSame, IsOf, IsSealed, Origin, Puts}
 use Rattle.fd_segment.specs.Held.{Standing, batch_of}
 use Rattle.fd_archiver.specs.Whole.{IsDraftOf, IsNextOf, IsSegmentOf, IsWhole, Owner}
-use Rattle.fd_archiver.specs.Writing.{IsKept, IsPendingIn, IsSealedFrom}
+use Rattle.fd_archiver.specs.Writing.{IsKept, IsPendingIn, IsSealedFrom, Writing}
 use Rattle.fd_archiver.proofs.Keeping.{told_files}
 
 pub sealed_from : (told : Bool) (d : Filling) (b : List Pair) (s : Standing) → d.origin.told ≡ told → b ≢ [] → IsSealed d b s → IsSealedFrom told b s
@@ -99,3 +99,11 @@ whole_kept w keys bytes last name name' told told' d n u u' names tells same is 
 -- where a segment waits, its number was used
 pub waits_used : (o : Owner) (d : Filling) (n : Option Filling) (s : Standing) → IsWhole o d n (Some s) → s.files.entry.seq ≤ o.last
 waits_used o d n s is = let a = is.segment_of.earlier in let b = is.draft_of.seq in omega (arith, a, b)
+
+pub kept_at : (kept : Option (FileName → Option (List ℕ))) (s : Standing) (u : Option Standing) → u ≡ Some s → IsKept kept s → (t : Standing) → u ≡ Some t → IsKept kept t
+kept_at kept s u is h t also = let same : s ≡ t = cc (is, also) in subst (IsKept kept) same h
+
+-- the shelf was called: all else is as it was
+pub all_else : {H : Type 0} (v w : Writing H) → v.writer ≡ w.writer → v.dataset ≡ w.dataset → v.told ≡ w.told → v.last ≡ w.last → v.has_next ≡ w.has_next → v.draft ≡ w.draft → v.unlisted ≡ w.unlisted → v.shelf_faults ≡ w.shelf_faults
+    → v ≡ record w { is_kept = v.is_kept; shelf = v.shelf }
+all_else v w e0 e1 e2 e3 e4 e5 e6 e7 = λ i. record { writer = e0 i; dataset = e1 i; told = e2 i; last = e3 i; has_next = e4 i; draft = e5 i; unlisted = e6 i; is_kept = v.is_kept; shelf = v.shelf; shelf_faults = e7 i }
