@@ -64,10 +64,6 @@ waits_told o d n s is tells = told_files s.files (is.pending.1.batch tells)
 pub whole_listed : (o : Owner) (d : Filling) (n : Option Filling) (s : Standing) → IsWhole o d n (Some s) → IsWhole o d n None
 whole_listed o d n s is = record { draft_of = is.draft_of; next_of = is.next_of; segment_of = tt; pairs = []; pending = is.pending.0 }
 
-pub none_of : (r : Bool) (u : Option Standing) → (IsTrue r ↔ IsSome u) → r ≡ false → u ≡ None
-none_of r None h off = refl
-none_of r (Some s) h off = absurd (cc (h.1 refl, off))
-
 -- a pair more in the draft
 pub whole_put : (o : Owner) (d e : Filling) (n : Option Filling) (u : Option Standing) (p : Pair) → u ≡ None → e.origin ≡ d.origin → e.held.keys ≡ d.held.keys → e.held.bytes ≡ d.held.bytes
     → ((b : List Pair) → Puts d b → Puts e (b ++ p ∷ [])) → IsWhole o d n u → IsWhole o e n u
@@ -93,8 +89,8 @@ pub whole_kept : (w keys bytes last : ℕ) (name name' : List ℕ) (told told' :
     → IsWhole (record { writer = w; dataset = name'; told = told'; keys = keys; bytes = bytes; last = last }) d n u'
 whole_kept w keys bytes last name name' told told' d n u u' names tells same is =
     subst (λ (x : Option Standing). IsWhole (record { writer = w; dataset = name'; told = told'; keys = keys; bytes = bytes; last = last }) d n x) (sym same)
-        (subst (λ (x : Bool). IsWhole (record { writer = w; dataset = name'; told = x; keys = keys; bytes = bytes; last = last }) d n u) (sym tells)
-        (subst (λ (x : List ℕ). IsWhole (record { writer = w; dataset = x; told = told; keys = keys; bytes = bytes; last = last }) d n u) (sym names) is))
+    (subst (λ (x : Bool). IsWhole (record { writer = w; dataset = name'; told = x; keys = keys; bytes = bytes; last = last }) d n u) (sym tells)
+    (subst (λ (x : List ℕ). IsWhole (record { writer = w; dataset = x; told = told; keys = keys; bytes = bytes; last = last }) d n u) (sym names) is))
 
 -- where a segment waits, its number was used
 pub waits_used : (o : Owner) (d : Filling) (n : Option Filling) (s : Standing) → IsWhole o d n (Some s) → s.files.entry.seq ≤ o.last

@@ -1,10 +1,11 @@
-ghost use Rattle.std.specs.Prelude.{◌≡◌, ◌≤◌, ◌<◌, ◌+◌, ◌^◌, ◌↔◌, ◌++◌, [], ◌∷◌, List, true, false, length, Some, None, Err, IsSome, IsTrue, IfOk, IfErr, IfSome, OnOk, OnErr};
+ghost use Rattle.std.specs.Prelude.{◌≡◌, ◌≢◌, ◌≤◌, ◌<◌, ◌+◌, ◌^◌, ◌↔◌, ◌++◌, [], ◌∷◌, List, true, false, length, Some, None, Err, IsSome, is_some, IsTrue, IfOk, IfErr, IfSome, OnOk, OnErr};
 ghost use Rattle.fd_bytes.specs.Causes.{Rose};
 ghost use Rattle.fd_disk.specs.declared.folders.FileName.{FileName};
 ghost use Rattle.fd_disk.specs.Causes.{OnFault};
 ghost use Rattle.fd_core.specs.declared.batch.Pair.{Pair};
 ghost use Rattle.fd_core.specs.Batches.{distinct};
 ghost use Rattle.fd_index.specs.Builder.{room_for};
+ghost use Rattle.fd_segment.specs.Filling.{Puts};
 ghost use Rattle.fd_schema.specs.Rules.{file_key};
 ghost use Rattle.fd_schema.specs.Reading.{seen_place};
 ghost use Rattle.fd_archiver.specs.Causes.{FullAs, OnArchiveDisk, OnUntouched};
@@ -119,6 +120,7 @@ where
         ensures room { IfOk result (λ a. (a.draft.held.keys ≡ room.keys) × (a.draft.held.bytes ≡ room.bytes)) }
         ensures nothing { IfOk result (λ a. (a.unlisted ≡ None) × IsPending a []) }
         ensures kept { IfOk result (λ a. H.kept a.shelf ≡ H.kept shelf) }
+        ensures told { IfOk result (λ a. a.told ≡ is_some (H.kept shelf)) }
         ensures later { IfOk result (λ a. H.faults shelf ≤ a.shelf_faults) }
         ensures back { IfErr result (λ e. (H.writer e.0 ≡ writer) × (H.name e.0 ≡ H.name shelf) × (H.kept e.0 ≡ H.kept shelf)) }
         ensures created { IfErr result (λ e. Created writer 1 (H.created e.0)) }
@@ -170,6 +172,26 @@ where
         if self.unlisted() {
             return Err(ArchiveFault::Unlisted);
         }
+        self.put(alloc, place, bytes)
+    }
+
+    // Puts a field into the batch, where none waits.
+    fn put(&mut self, alloc: Global, place: &Place, bytes: &[u8]) -> Result<(), ArchiveFault<F>>
+        requires none { self.old.unlisted ≡ None }
+        requires key { length (file_key (seen_place place.now)) ≤ 256 }
+        requires sum { self.old.draft.end + length bytes.now < 2 ^ 63 }
+        ensures listed { result ≢ Err ArchiveFault.Unlisted }
+        ensures ok { OnOk result ((b : List Pair) → IsPending self.old b → IsPending self.new (b ++ record { key = file_key (seen_place place.now); bytes = bytes.now } ∷ [])) }
+        ensures end { OnOk result (self.new.draft.end ≡ self.old.draft.end + length bytes.now) }
+        ensures err { OnErr result ((b : List Pair) → IsPending self.old b → IsPending self.new b) }
+        ensures refused { OnErr result ((self.new.draft.held ≡ self.old.draft.held) × (self.new.draft.end ≡ self.old.draft.end)) }
+        ensures untouched { IfErr result (λ e. OnUntouched e (self.new ≡ self.old)) }
+        ensures full { FullAs (room_for self.old.draft.held (file_key (seen_place place.now))) result }
+        ensures cause { IfErr result (λ e. OnArchiveDisk e (Rose self.old.draft.field_faults self.new.draft.field_faults)) }
+        ensures origin { self.new.draft.origin ≡ self.old.draft.origin }
+        ensures room { (self.new.draft.held.keys ≡ self.old.draft.held.keys) × (self.new.draft.held.bytes ≡ self.old.draft.held.bytes) }
+        ensures rest { self.new ≡ record self.old { draft = self.new.draft } }
+    {
         let Ok(key) = place.file_key(alloc) else {
             return Err(ArchiveFault::NoMemory);
         };
@@ -181,9 +203,10 @@ where
         }
     }
 
-    /// Tells that a sealed batch waits to be listed.
+    /// Tells that a sealed batch waits to be listed. Nothing else is pending then.
     pub fn unlisted(&self) -> bool
-        ensures { IsTrue result ↔ IsSome self.now.unlisted }
+        ensures waits { IsTrue result ↔ IsSome self.now.unlisted }
+        ensures empty { IsTrue result → Puts self.now.draft [] }
     {
         match &self.unlisted {
             Unlisted::No => false,

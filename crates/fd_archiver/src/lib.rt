@@ -5,6 +5,8 @@ mod archiver;
 mod fault;
 mod flush;
 mod steps;
+#[cfg(test)]
+mod tests;
 
 pub use archiver::Archiver;
 pub use fault::{ArchiveFault, Flush, FlushFault};

@@ -42,7 +42,7 @@ returns-in-Ok-new-clause-others g c =
     let unlisted : c.args.self.now.unlisted ≡ Some s = ap (λ w. w.unlisted) (sym c.self.view_is) ∙ was in
     let shelf = ap (λ w. g.H.Shelf.kept w.shelf) (sym c.self.view_is) in
     subst (λ k. KeepsOthers (number_in c.args.self.now.unlisted c.args.self.now.draft) k (g.H.Shelf.kept c.keep.new.shelf)) (sym shelf)
-        (others_kept _ _ s.files.entry.seq _ _ _ _ (ap (λ u. number_in u c.args.self.now.draft) unlisted) c.in-Ok.ensures.ok (waits_told _ _ _ s whole))
+    (others_kept _ _ s.files.entry.seq _ _ _ _ (ap (λ u. number_in u c.args.self.now.draft) unlisted) c.in-Ok.ensures.ok (waits_told _ _ _ s whole))
 
 pub returns-in-Ok-new-clause-rest : goal.returns-in-Ok-new-clause-rest
 returns-in-Ok-new-clause-rest g c =
@@ -52,7 +52,7 @@ returns-in-Ok-new-clause-rest g c =
     let whole = subst (IsWhole _ c.self.inside.draft c.self.inside.next) was c.self.invariant.2 in
     let told = told_kept _ _ _ _ _ _ c.in-Ok.ensures.ok (waits_told _ _ _ s whole) in
     all_else _ c.args.self.now (ap (λ w. w.writer) v) (c.in-Ok.ensures.name ∙ ap (λ w. w.dataset) v) (told ∙ ap (λ w. w.told) v) (ap (λ w. w.last) v) (ap (λ w. w.has_next) v) (ap (λ w. w.draft) v)
-        (ap Some c.in-Ok-new.ensures.ok ∙ sym was ∙ ap (λ w. w.unlisted) v) (c.in-Ok.ensures.faults ∙ ap (λ w. w.shelf_faults) v)
+    (ap Some c.in-Ok-new.ensures.ok ∙ sym was ∙ ap (λ w. w.unlisted) v) (c.in-Ok.ensures.faults ∙ ap (λ w. w.shelf_faults) v)
 
 pub returns-in-Err-clause-others : goal.returns-in-Err-clause-others
 returns-in-Err-clause-others g c =
@@ -62,7 +62,7 @@ returns-in-Err-clause-others g c =
     let unlisted : c.args.self.now.unlisted ≡ Some s = ap (λ w. w.unlisted) (sym c.self.view_is) ∙ was in
     let shelf = ap (λ w. g.H.Shelf.kept w.shelf) (sym c.self.view_is) in
     subst (λ k. KeepsOthers (number_in c.args.self.now.unlisted c.args.self.now.draft) k (g.H.Shelf.kept c.keep.new.shelf)) (sym shelf)
-        (others_kept _ _ s.files.entry.seq _ _ _ _ (ap (λ u. number_in u c.args.self.now.draft) unlisted) c.in-Ok.ensures.ok (waits_told _ _ _ s whole))
+    (others_kept _ _ s.files.entry.seq _ _ _ _ (ap (λ u. number_in u c.args.self.now.draft) unlisted) c.in-Ok.ensures.ok (waits_told _ _ _ s whole))
 
 pub returns-in-Err-clause-rest : goal.returns-in-Err-clause-rest
 returns-in-Err-clause-rest g c =
@@ -72,4 +72,4 @@ returns-in-Err-clause-rest g c =
     let whole = subst (IsWhole _ c.self.inside.draft c.self.inside.next) was c.self.invariant.2 in
     let told = told_kept _ _ _ _ _ _ c.in-Ok.ensures.ok (waits_told _ _ _ s whole) in
     all_else _ c.args.self.now (ap (λ w. w.writer) v) (c.in-Ok.ensures.name ∙ ap (λ w. w.dataset) v) (told ∙ ap (λ w. w.told) v) (ap (λ w. w.last) v) (ap (λ w. w.has_next) v) (ap (λ w. w.draft) v)
-        (ap Some c.in-Err.ensures.value_returned ∙ sym was ∙ ap (λ w. w.unlisted) v) (c.in-Ok.ensures.faults ∙ ap (λ w. w.shelf_faults) v)
+    (ap Some c.in-Err.ensures.value_returned ∙ sym was ∙ ap (λ w. w.unlisted) v) (c.in-Ok.ensures.faults ∙ ap (λ w. w.shelf_faults) v)
