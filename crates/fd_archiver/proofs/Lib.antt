@@ -2,4 +2,4 @@ pub mod Keeping
 pub mod Owning
 pub mod Sealing
 pub mod Listing
-pub mod Opening
+pub mod Emptied

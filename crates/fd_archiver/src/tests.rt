@@ -1,6 +1,6 @@
 //! Batches written and flushed over a store in memory, each call of a flush failing in turn, and what is refused.
-ghost use Rattle.std.specs.Prelude.{◌≡◌, ◌≤◌, ◌<◌, ◌+◌, ◌∷◌, [], length, false, All, IfOk, None};
-ghost use Rattle.fd_recovery.specs.Recovered.{IsNamed, entries_of, standings};
+ghost use Rattle.std.specs.Prelude.{◌≡◌, ◌≤◌, ◌<◌, ◌+◌, ◌∷◌, [], length, false, IfOk};
+ghost use Rattle.fd_disk.specs.declared.folders.FileName.{FileName};
 ghost use Rattle.fd_schema.specs.Rules.{file_key};
 ghost use Rattle.fd_schema.specs.Reading.{seen_place};
 ghost use Rattle.fd_turn.specs.declared.view.Lock.TheVariants.{Free};
@@ -9,9 +9,8 @@ ghost use Rattle.fd_turn.specs.Passes.{view, IsOf};
 use super::*;
 use fd_core::Entry;
 use fd_dataset::{Dataset, DatasetPass, Receipt};
-use fd_disk::{Disk, FileKind, FileName, Folder, Shelf, Store};
-use fd_disk_mem::{MemStore, Op};
-use fd_recovery::{Recovered, recover};
+use fd_disk::{Disk, FileKind, FileName, Folder, Sealed, Shelf, Store};
+use fd_disk_mem::{MemDisk, MemFault, MemFolder, MemShelf, MemStore, Op};
 use fd_schema::Place;
 use fd_segment::Room;
 use fd_toc::Toc;
@@ -19,61 +18,26 @@ use std::alloc::Global;
 use std::sync::Wait;
 use std::test::Fail;
 
-type Opened<F, D> = (
-    Dataset<F, <D as Folder<F>>::Table, <D as Folder<F>>::Sealed>,
-    DatasetPass<F, <D as Folder<F>>::Table, <D as Folder<F>>::Sealed>,
-);
+type Opened<F, T, Z> = (Dataset<F, T, Z>, DatasetPass<F, T, Z>);
 
-/// Opens the dataset of this folder, which is founded where it has no table.
-fn opened<F: Send + Drop, D: Folder<F>>(
+/// The dataset over a table without entries.
+fn opened<F: Send + Drop, T: Disk<F> + Drop, Z: Sealed<F> + Drop>(
     alloc: Global,
-    folder: &mut D,
+    table: T,
     name: &str,
-) -> Result<Opened<F, D>, Fail>
-where
-    D::Sealed: Drop,
-    D::Table: Drop,
-    requires back { D.table_out folder.old ≡ false }
-    requires dataset { D.name folder.old ≡ name.now }
+) -> Result<Opened<F, T, Z>, Fail>
+    requires table { T.name table ≡ name.now }
     requires short { length name.now ≤ 255 }
     ensures own { IfOk result (λ r. IsOf r.0 r.1) }
     ensures pass { IfOk result (λ r. ((view r.1).subject ≡ name.now) × ((view r.1).lock ≡ Free)) }
-    ensures name { D.name folder.new ≡ D.name folder.old }
-    ensures last_writer { D.last_writer folder.new ≡ D.last_writer folder.old }
 {
-    match recover(alloc, folder, name) {
-        Ok(Some(recovered)) => started(alloc, recovered),
-        Ok(None) => {
-            let first = Toc::<F, D::Table>::create_bytes(alloc, name)?;
-            let Ok(()) = folder.found(alloc, &first) else {
-                return Err("found".into());
-            };
-            match recover(alloc, folder, name) {
-                Ok(Some(recovered)) => started(alloc, recovered),
-                _ => Err("recover".into()),
-            }
-        }
-        Err(_) => Err("recover".into()),
+    let Ok(toc) = Toc::load(alloc, table, name) else {
+        return Err("load".into());
+    };
+    if !toc.entries().is_empty() {
+        return Err("entries".into());
     }
-}
-
-/// The dataset over a table that was opened.
-fn started<F: Send + Drop, D: Folder<F>>(
-    alloc: Global,
-    recovered: Recovered<F, D>,
-) -> Result<Opened<F, D>, Fail>
-where
-    D::Sealed: Drop,
-    D::Table: Drop,
-    requires sure { recovered.toc.doubt ≡ None }
-    requires name { D.Table.name recovered.toc.table ≡ recovered.toc.dataset }
-    requires entries { entries_of (standings recovered.segments.items) ≡ recovered.toc.entries }
-    requires named { All (IsNamed recovered.toc.dataset) (standings recovered.segments.items) }
-    ensures own { IfOk result (λ r. IsOf r.0 r.1) }
-    ensures pass { IfOk result (λ r. ((view r.1).subject ≡ recovered.toc.dataset) × ((view r.1).lock ≡ Free)) }
-{
-    let Recovered { toc, segments } = recovered;
-    match Dataset::new(alloc, toc, segments) {
+    match Dataset::new(alloc, toc, Vec::new(alloc)) {
         Ok(made) => Ok(made),
         Err(_) => Err("dataset".into()),
     }
@@ -165,7 +129,7 @@ where
     flush_twice(rt, alloc, archiver, dataset, pass, place)
 }
 
-#[tactic(auto, using(crate::proofs::Opening::listed_end))]
+#[tactic(auto, using(crate::proofs::Emptied::listed_end))]
 /// Flushes, and flushes again where that was refused.
 fn flush_twice<F: Send + Drop, T: Disk<F>, H: Shelf<F>, R: Wait>(
     rt: &R,
@@ -209,55 +173,82 @@ where
     }
 }
 
-/// A writer on a shelf of this folder, with room for one key.
-fn begun<F: Send + Drop, D: Folder<F>>(
+/// A writer on this shelf, with room for one key.
+fn begun<F: Send + Drop, H: Shelf<F> + Drop>(
     alloc: Global,
-    folder: &mut D,
-) -> Result<Archiver<F, D::Shelf>, Fail>
+    shelf: H,
+) -> Result<Archiver<F, H>, Fail>
 where
-    D::Sealed: Drop,
-    D::Shelf: Drop,
-    <D::Shelf as Shelf<F>>::File: Drop,
-    requires { D.last_writer folder.old ≡ 0 }
-    ensures name { D.name folder.new ≡ D.name folder.old }
-    ensures archiver { IfOk result (λ a. (a.dataset ≡ D.name folder.old) × (a.writer ≡ 1) × (a.last ≡ 1) × (a.draft.end ≡ 0)) }
+    H::File: Drop,
+    H::Sealed: Drop,
+    requires writer { H.writer shelf ≡ 1 }
+    requires new { (n : FileName) → H.created shelf n ≡ false }
+    ensures archiver { IfOk result (λ a. (a.dataset ≡ H.name shelf) × (a.writer ≡ 1) × (a.last ≡ 1) × (a.draft.end ≡ 0)) }
 {
-    let Ok(shelf) = folder.shelf(alloc, 1) else {
-        return Err("shelf".into());
-    };
     match Archiver::new(alloc, shelf, 1, Room { keys: 1, bytes: 3 }) {
         Ok(archiver) => Ok(archiver),
         Err(_) => Err("archiver".into()),
     }
 }
 
-/// Writes a batch into this folder.
-fn run_in<F: Send + Drop, D: Folder<F>, R: Wait>(
+/// Writes a batch on this shelf, and lists it in this table.
+fn one_batch<F: Send + Drop, T: Disk<F> + Drop, H: Shelf<F> + Drop, R: Wait>(
     rt: &R,
     alloc: Global,
-    folder: &mut D,
+    table: T,
+    shelf: H,
+    place: &Place,
 ) -> Result<Seen, Fail>
 where
-    D::Sealed: Drop,
-    D::Table: Drop,
-    D::Shelf: Drop,
-    <D::Shelf as Shelf<F>>::File: Drop,
-    requires back { D.table_out folder.old ≡ false }
-    requires name { D.name folder.old ≡ 97 ∷ 61 ∷ 49 ∷ [] }
-    requires none { D.last_writer folder.old ≡ 0 }
+    H::File: Drop,
+    H::Sealed: Drop,
+    requires table { T.name table ≡ 97 ∷ 61 ∷ 49 ∷ [] }
+    requires shelf { H.name shelf ≡ 97 ∷ 61 ∷ 49 ∷ [] }
+    requires writer { H.writer shelf ≡ 1 }
+    requires new { (n : FileName) → H.created shelf n ≡ false }
+    requires place { (seen_place place.now).dataset ≡ 97 ∷ 61 ∷ 49 ∷ [] }
+    requires key { length (file_key (seen_place place.now)) ≤ 256 }
 {
-    let place = place(alloc, "a")?;
-    let (dataset, mut pass) = opened(alloc, folder, "a=1")?;
-    let mut archiver = begun(alloc, folder)?;
-    write_batch(rt, alloc, &mut archiver, &dataset, &mut pass, &place)
+    let mut archiver = begun(alloc, shelf)?;
+    let (dataset, mut pass) = opened(alloc, table, "a=1")?;
+    write_batch(rt, alloc, &mut archiver, &dataset, &mut pass, place)
+}
+
+/// The table and a shelf of a folder in memory, which has none.
+fn parts(alloc: Global, folder: &mut MemFolder) -> Result<(MemDisk, MemShelf), Fail>
+    requires back { ⟦<MemFolder as Folder<MemFault>>⟧.table_out folder.old ≡ false }
+    requires name { ⟦<MemFolder as Folder<MemFault>>⟧.name folder.old ≡ 97 ∷ 61 ∷ 49 ∷ [] }
+    requires none { ⟦<MemFolder as Folder<MemFault>>⟧.last_writer folder.old ≡ 0 }
+    ensures table { IfOk result (λ r. ⟦<MemDisk as Disk<MemFault>>⟧.name r.0 ≡ 97 ∷ 61 ∷ 49 ∷ []) }
+    ensures shelf { IfOk result (λ r. ⟦<MemShelf as Shelf<MemFault>>⟧.name r.1 ≡ 97 ∷ 61 ∷ 49 ∷ []) }
+    ensures writer { IfOk result (λ r. ⟦<MemShelf as Shelf<MemFault>>⟧.writer r.1 ≡ 1) }
+    ensures new { IfOk result (λ r. (n : FileName) → ⟦<MemShelf as Shelf<MemFault>>⟧.created r.1 n ≡ false) }
+    ensures name { ⟦<MemFolder as Folder<MemFault>>⟧.name folder.new ≡ ⟦<MemFolder as Folder<MemFault>>⟧.name folder.old }
+{
+    let Ok(shelf) = folder.shelf(alloc, 1) else {
+        return Err("shelf".into());
+    };
+    let Ok(None) = folder.table(alloc) else {
+        return Err("no table".into());
+    };
+    let first = Toc::<MemFault, MemDisk>::create_bytes(alloc, "a=1")?;
+    let Ok(()) = folder.found(alloc, &first) else {
+        return Err("found".into());
+    };
+    match folder.table(alloc) {
+        Ok(Some(table)) => Ok((table, shelf)),
+        _ => Err("table".into()),
+    }
 }
 
 /// Writes a batch in a store in which this call fails.
 fn run<R: Wait>(rt: &R, alloc: Global, file: &str, op: Op, nth: u32) -> Result<Seen, Fail> {
+    let place = place(alloc, "a")?;
     let mut store = MemStore::new(alloc, 65_536, 256)?;
     store.fail(alloc, file, op, nth)?;
     let mut folder = store.folder(alloc, "a=1").ok().ok_or("folder")?;
-    run_in(rt, alloc, &mut folder)
+    let (table, shelf) = parts(alloc, &mut folder)?;
+    one_batch(rt, alloc, table, shelf, &place)
 }
 
 #[test]
@@ -286,7 +277,7 @@ fn each_call_of_a_flush_fails_in_turn(rt: HostRuntime) -> Result<(), Fail> {
     Ok(())
 }
 
-#[tactic(auto, using(crate::proofs::Opening::listed_end))]
+#[tactic(auto, using(crate::proofs::Emptied::listed_end))]
 /// Lists a batch of two fields of a place, and a batch of one, and gives their entries.
 fn two_batches<F: Send + Drop, T: Disk<F>, H: Shelf<F>, R: Wait>(
     rt: &R,
@@ -353,31 +344,46 @@ where
         && archiver.pending() == 1
 }
 
-/// Lists two batches in this folder, and gives their entries. The third is full with one key. The folder has the files of
-/// the second afterwards.
-fn two_batches_in<F: Send + Drop, D: Folder<F>, R: Wait>(
+type Entries = (Entry, Entry);
+
+/// Lists two batches of this shelf in this table, and gives their entries. The third is full with one key.
+fn three_batches<F: Send + Drop, T: Disk<F> + Drop, H: Shelf<F> + Drop, R: Wait>(
     rt: &R,
     alloc: Global,
-    folder: &mut D,
-) -> Result<(Entry, Entry), Fail>
+    table: T,
+    shelf: H,
+    first: &Place,
+    second: &Place,
+) -> Result<(Entries, H), Fail>
 where
-    D::Sealed: Drop,
-    D::Table: Drop,
-    D::Shelf: Drop,
-    <D::Shelf as Shelf<F>>::File: Drop,
-    requires back { D.table_out folder.old ≡ false }
-    requires name { D.name folder.old ≡ 97 ∷ 61 ∷ 49 ∷ [] }
-    requires none { D.last_writer folder.old ≡ 0 }
+    H::File: Drop,
+    H::Sealed: Drop,
+    requires table { T.name table ≡ 97 ∷ 61 ∷ 49 ∷ [] }
+    requires shelf { H.name shelf ≡ 97 ∷ 61 ∷ 49 ∷ [] }
+    requires writer { H.writer shelf ≡ 1 }
+    requires new { (n : FileName) → H.created shelf n ≡ false }
+    requires places { ((seen_place first.now).dataset ≡ 97 ∷ 61 ∷ 49 ∷ []) × ((seen_place second.now).dataset ≡ 97 ∷ 61 ∷ 49 ∷ []) }
+    requires keys { (length (file_key (seen_place first.now)) ≤ 256) × (length (file_key (seen_place second.now)) ≤ 256) }
+    ensures name { IfOk result (λ r. H.name r.1 ≡ 97 ∷ 61 ∷ 49 ∷ []) }
 {
-    let first = place(alloc, "a")?;
-    let second = place(alloc, "b")?;
-    let (dataset, mut pass) = opened(alloc, folder, "a=1")?;
-    let mut archiver = begun(alloc, folder)?;
-    let entries = two_batches(rt, alloc, &mut archiver, &dataset, &mut pass, &first)?;
-    if !is_full(alloc, &mut archiver, &first, &second) {
+    let mut archiver = begun(alloc, shelf)?;
+    let (dataset, mut pass) = opened(alloc, table, "a=1")?;
+    let entries = two_batches(rt, alloc, &mut archiver, &dataset, &mut pass, first)?;
+    if !is_full(alloc, &mut archiver, first, second) {
         return Err("full".into());
     }
-    folder.give_shelf(archiver.close());
+    Ok((entries, archiver.close()))
+}
+
+/// The entries of two batches, the index of the second of which the folder has afterwards.
+fn two_entries<R: Wait>(rt: &R, alloc: Global) -> Result<Entries, Fail> {
+    let first = place(alloc, "a")?;
+    let second = place(alloc, "b")?;
+    let mut store = MemStore::new(alloc, 65_536, 256)?;
+    let mut folder = store.folder(alloc, "a=1").ok().ok_or("folder")?;
+    let (table, shelf) = parts(alloc, &mut folder)?;
+    let (entries, shelf) = three_batches(rt, alloc, table, shelf, &first, &second)?;
+    folder.give_shelf(shelf);
     let index = FileName {
         writer: 1,
         seq: 2,
@@ -391,7 +397,6 @@ where
 
 #[test]
 fn two_batches_of_one_writer(rt: HostRuntime) -> Result<(), Fail> {
-    let alloc = rt.alloc();
     let want = Entry {
         writer: 1,
         seq: 1,
@@ -404,10 +409,7 @@ fn two_batches_of_one_writer(rt: HostRuntime) -> Result<(), Fail> {
         fields_len: 183,
         ..want
     };
-    let mut store = MemStore::new(alloc, 65_536, 256)?;
-    let mut folder = store.folder(alloc, "a=1").ok().ok_or("folder")?;
-    let entries = two_batches_in(&rt, alloc, &mut folder)?;
-    assert_eq!(rt; entries, (want, next));
+    assert_eq!(rt; two_entries(&rt, rt.alloc())?, (want, next));
     Ok(())
 }
 
