@@ -352,8 +352,6 @@ fn three_batches<F: Send + Drop, T: Disk<F> + Drop, H: Shelf<F> + Drop, R: Wait>
     alloc: Global,
     table: T,
     shelf: H,
-    first: &Place,
-    second: &Place,
 ) -> Result<Entries, Fail>
 where
     H::File: Drop,
@@ -362,13 +360,13 @@ where
     requires shelf { H.name shelf ≡ 97 ∷ 61 ∷ 49 ∷ [] }
     requires writer { H.writer shelf ≡ 1 }
     requires new { (n : FileName) → H.created shelf n ≡ false }
-    requires places { ((seen_place first.now).dataset ≡ 97 ∷ 61 ∷ 49 ∷ []) × ((seen_place second.now).dataset ≡ 97 ∷ 61 ∷ 49 ∷ []) }
-    requires keys { (length (file_key (seen_place first.now)) ≤ 256) × (length (file_key (seen_place second.now)) ≤ 256) }
 {
+    let first = place(alloc, "a")?;
+    let second = place(alloc, "b")?;
     let mut archiver = begun(alloc, shelf)?;
     let (dataset, mut pass) = opened(alloc, table, "a=1")?;
-    let entries = two_batches(rt, alloc, &mut archiver, &dataset, &mut pass, first)?;
-    if !is_full(alloc, &mut archiver, first, second) {
+    let entries = two_batches(rt, alloc, &mut archiver, &dataset, &mut pass, &first)?;
+    if !is_full(alloc, &mut archiver, &first, &second) {
         return Err("full".into());
     }
     drop(archiver.close());
@@ -377,12 +375,10 @@ where
 
 /// The entries of two batches in a store in memory.
 fn two_entries<R: Wait>(rt: &R, alloc: Global) -> Result<Entries, Fail> {
-    let first = place(alloc, "a")?;
-    let second = place(alloc, "b")?;
     let mut store = MemStore::new(alloc, 65_536, 256)?;
     let mut folder = store.folder(alloc, "a=1").ok().ok_or("folder")?;
     let (table, shelf) = parts(alloc, &mut folder)?;
-    three_batches(rt, alloc, table, shelf, &first, &second)
+    three_batches(rt, alloc, table, shelf)
 }
 
 #[test]
