@@ -1,0 +1,5 @@
+pub mod Writing
+pub mod Waiting
+pub mod Whole
+pub mod Flushing
+pub mod Causes

@@ -1,0 +1,247 @@
+ghost use Rattle.std.specs.Prelude.{◌≡◌, ◌≢◌, ◌≤◌, ◌<◌, ◌+◌, ◌^◌, ◌↔◌, ◌++◌, [], ◌∷◌, List, true, false, length, Some, None, Err, IsSome, is_some, IsTrue, IfOk, IfErr, IfSome, OnOk, OnErr};
+ghost use Rattle.fd_bytes.specs.Causes.{Rose};
+ghost use Rattle.fd_disk.specs.declared.folders.FileName.{FileName};
+ghost use Rattle.fd_disk.specs.Causes.{OnFault};
+ghost use Rattle.fd_core.specs.declared.batch.Pair.{Pair};
+ghost use Rattle.fd_core.specs.Batches.{distinct};
+ghost use Rattle.fd_index.specs.Builder.{room_for};
+ghost use Rattle.fd_segment.specs.Filling.{Puts};
+ghost use Rattle.fd_schema.specs.Rules.{file_key};
+ghost use Rattle.fd_schema.specs.Reading.{seen_place};
+ghost use Rattle.fd_archiver.specs.Causes.{FullAs, OnArchiveDisk, OnUntouched};
+ghost use Rattle.fd_archiver.specs.Whole.{Created};
+ghost use Rattle.fd_archiver.specs.Writing.{IsKept, IsPending};
+
+use crate::fault::ArchiveFault;
+use fd_disk::{Down, Sealed, Shelf};
+use fd_schema::Place;
+use fd_segment::{Draft, PutFault, Room, Segment};
+use std::alloc::Global;
+use std::marker::Model;
+use std::sync::Arc;
+
+/// A segment that is sealed and not listed.
+#[derive(Drop)]
+pub(crate) enum Unlisted<F: Send, Z: Sealed<F> + Drop> {
+    /// There is none.
+    No,
+    /// The shelf doesn't keep its files yet.
+    Sealed(Segment<F, Z>),
+    /// The shelf keeps its files.
+    Kept(Arc<Segment<F, Z>>),
+}
+
+/// One writer of a dataset.
+pub struct Archiver<F: Send, H: Shelf<F>>
+where
+    H::File: Drop,
+    H::Sealed: Drop,
+{
+    pub(crate) shelf: H,
+    pub(crate) writer: u32,
+    pub(crate) room: Room,
+    // the greatest sequence number that was used, also one that was refused
+    pub(crate) last: u32,
+    pub(crate) draft: Draft<F, H>,
+    // the next draft, which a flush made that failed
+    pub(crate) next: Option<Draft<F, H>>,
+    pub(crate) unlisted: Unlisted<F, H::Sealed>,
+}
+
+impl<F: Send, H: Shelf<F>> Model for Archiver<F, H>
+where
+    H::File: Drop,
+    H::Sealed: Drop,
+{
+    ghost use Rattle.std.specs.Prelude.{◌≡◌, is_some};
+    ghost use Rattle.fd_archiver.specs.Writing.{Writing};
+    ghost use Rattle.fd_archiver.specs.Waiting.{is_kept, waiting};
+    ghost use Rattle.fd_archiver.specs.Whole.{Created, IsWhole, KeptIs};
+
+    ghost Value = { Writing H };
+
+    ghost view = { λ a. record {
+      writer = a.writer;
+      dataset = H.name a.shelf;
+      told = is_some (H.kept a.shelf);
+      last = a.last;
+      has_next = is_some a.next;
+      draft = a.draft;
+      unlisted = waiting a.unlisted;
+      is_kept = is_kept a.unlisted;
+      shelf = a.shelf;
+      shelf_faults = H.faults a.shelf;
+    } };
+
+    ghost invariant = { λ a. (H.writer a.shelf ≡ a.writer)
+        × Created a.writer a.last (H.created a.shelf)
+        × IsWhole (record { writer = a.writer; dataset = H.name a.shelf; told = is_some (H.kept a.shelf); keys = a.room.keys; bytes = a.room.bytes; last = a.last }) a.draft a.next (waiting a.unlisted)
+        × KeptIs (is_kept a.unlisted) (H.kept a.shelf) (waiting a.unlisted) };
+}
+
+impl<F: Send, H: Shelf<F> + Drop> Drop for Archiver<F, H>
+where
+    H::File: Drop,
+    H::Sealed: Drop,
+{
+    fn drop(self) {
+        let Archiver {
+            shelf: _,
+            writer: _,
+            room: _,
+            last: _,
+            draft: _,
+            next: _,
+            unlisted: _,
+        } = self;
+    }
+}
+
+impl<F: Send, H: Shelf<F>> Archiver<F, H>
+where
+    H::File: Drop,
+    H::Sealed: Drop,
+{
+    /// A writer with an empty batch, on this writer's shelf, on which nothing was created. The shelf comes back with an
+    /// `Err`: it may have created an empty file or two.
+    ///
+    /// `Fault` comes only where the shelf's count of faults rose.
+    pub fn new(
+        alloc: Global,
+        shelf: H,
+        writer: u32,
+        room: Room,
+    ) -> Result<Archiver<F, H>, (H, Down<F>)>
+        requires writer { H.writer shelf ≡ writer }
+        requires new { (n : FileName) → H.created shelf n ≡ false }
+        ensures writer { IfOk result (λ a. a.writer ≡ writer) }
+        ensures dataset { IfOk result (λ a. a.dataset ≡ H.name shelf) }
+        ensures numbers { IfOk result (λ a. (a.last ≡ 1) × (a.has_next ≡ false)) }
+        ensures room { IfOk result (λ a. (a.draft.held.keys ≡ room.keys) × (a.draft.held.bytes ≡ room.bytes)) }
+        ensures nothing { IfOk result (λ a. (a.unlisted ≡ None) × IsPending a []) }
+        ensures kept { IfOk result (λ a. H.kept a.shelf ≡ H.kept shelf) }
+        ensures told { IfOk result (λ a. a.told ≡ is_some (H.kept shelf)) }
+        ensures later { IfOk result (λ a. H.faults shelf ≤ a.shelf_faults) }
+        ensures back { IfErr result (λ e. (H.writer e.0 ≡ writer) × (H.name e.0 ≡ H.name shelf) × (H.kept e.0 ≡ H.kept shelf)) }
+        ensures created { IfErr result (λ e. Created writer 1 (H.created e.0)) }
+        ensures later_back { IfErr result (λ e. H.faults shelf ≤ H.faults e.0) }
+        ensures cause { IfErr result (λ e. OnFault e.1 (Rose (H.faults shelf) (H.faults e.0))) }
+    {
+        let mut shelf = shelf;
+        match Draft::new(alloc, &mut shelf, writer, 1, room) {
+            Ok(draft) => Ok(Archiver {
+                shelf,
+                writer,
+                room,
+                last: 1,
+                draft,
+                next: None,
+                unlisted: Unlisted::No,
+            }),
+            Err(down) => Err((shelf, down)),
+        }
+    }
+
+    /// Puts a field of this dataset into the batch, under the key of its place, which has at most 256 bytes. The bytes
+    /// are at most 128 MiB, and all of a batch together are fewer than 2^63. After a refusal the batch is as before.
+    ///
+    /// `Unlisted` comes exactly while a sealed batch waits to be listed, `Full` exactly where the batch has no room for
+    /// the key, both before anything is written, and `Disk` only where the field file's count of faults rose.
+    pub fn archive(
+        &mut self,
+        alloc: Global,
+        place: &Place,
+        bytes: &[u8],
+    ) -> Result<(), ArchiveFault<F>>
+        requires dataset { (seen_place place.now).dataset ≡ self.old.dataset }
+        requires key { length (file_key (seen_place place.now)) ≤ 256 }
+        requires bytes { length bytes.now ≤ 134217728 }
+        requires sum { self.old.draft.end + length bytes.now < 2 ^ 63 }
+        ensures unlisted { (result ≡ Err ArchiveFault.Unlisted) ↔ IsSome self.old.unlisted }
+        ensures ok { OnOk result ((b : List Pair) → IsPending self.old b → IsPending self.new (b ++ record { key = file_key (seen_place place.now); bytes = bytes.now } ∷ [])) }
+        ensures end { OnOk result (self.new.draft.end ≡ self.old.draft.end + length bytes.now) }
+        ensures err { OnErr result ((b : List Pair) → IsPending self.old b → IsPending self.new b) }
+        ensures refused { OnErr result ((self.new.draft.held ≡ self.old.draft.held) × (self.new.draft.end ≡ self.old.draft.end)) }
+        ensures untouched { IfErr result (λ e. OnUntouched e (self.new ≡ self.old)) }
+        ensures full { self.old.unlisted ≡ None → FullAs (room_for self.old.draft.held (file_key (seen_place place.now))) result }
+        ensures cause { IfErr result (λ e. OnArchiveDisk e (Rose self.old.draft.field_faults self.new.draft.field_faults)) }
+        ensures origin { self.new.draft.origin ≡ self.old.draft.origin }
+        ensures room { (self.new.draft.held.keys ≡ self.old.draft.held.keys) × (self.new.draft.held.bytes ≡ self.old.draft.held.bytes) }
+        ensures rest { self.new ≡ record self.old { draft = self.new.draft } }
+    {
+        if self.unlisted() {
+            return Err(ArchiveFault::Unlisted);
+        }
+        self.put(alloc, place, bytes)
+    }
+
+    // Puts a field into the batch, where none waits.
+    fn put(&mut self, alloc: Global, place: &Place, bytes: &[u8]) -> Result<(), ArchiveFault<F>>
+        requires none { self.old.unlisted ≡ None }
+        requires key { length (file_key (seen_place place.now)) ≤ 256 }
+        requires sum { self.old.draft.end + length bytes.now < 2 ^ 63 }
+        ensures listed { result ≢ Err ArchiveFault.Unlisted }
+        ensures ok { OnOk result ((b : List Pair) → IsPending self.old b → IsPending self.new (b ++ record { key = file_key (seen_place place.now); bytes = bytes.now } ∷ [])) }
+        ensures end { OnOk result (self.new.draft.end ≡ self.old.draft.end + length bytes.now) }
+        ensures err { OnErr result ((b : List Pair) → IsPending self.old b → IsPending self.new b) }
+        ensures refused { OnErr result ((self.new.draft.held ≡ self.old.draft.held) × (self.new.draft.end ≡ self.old.draft.end)) }
+        ensures untouched { IfErr result (λ e. OnUntouched e (self.new ≡ self.old)) }
+        ensures full { FullAs (room_for self.old.draft.held (file_key (seen_place place.now))) result }
+        ensures cause { IfErr result (λ e. OnArchiveDisk e (Rose self.old.draft.field_faults self.new.draft.field_faults)) }
+        ensures origin { self.new.draft.origin ≡ self.old.draft.origin }
+        ensures room { (self.new.draft.held.keys ≡ self.old.draft.held.keys) × (self.new.draft.held.bytes ≡ self.old.draft.held.bytes) }
+        ensures rest { self.new ≡ record self.old { draft = self.new.draft } }
+    {
+        let Ok(key) = place.file_key(alloc) else {
+            return Err(ArchiveFault::NoMemory);
+        };
+        match self.draft.put(&key, bytes) {
+            Ok(()) => Ok(()),
+            Err(PutFault::Full { keys, left }) => Err(ArchiveFault::Full { keys, left }),
+            Err(PutFault::Fault(fault)) => Err(ArchiveFault::Disk(fault)),
+            Err(PutFault::NoMemory) => Err(ArchiveFault::NoMemory),
+        }
+    }
+
+    /// Tells that a sealed batch waits to be listed. Nothing else is pending then.
+    pub fn unlisted(&self) -> bool
+        ensures waits { IsTrue result ↔ IsSome self.now.unlisted }
+        ensures empty { IsTrue result → Puts self.now.draft [] }
+    {
+        match &self.unlisted {
+            Unlisted::No => false,
+            Unlisted::Sealed(_) => true,
+            Unlisted::Kept(_) => true,
+        }
+    }
+
+    /// The number of distinct keys that aren't sealed.
+    pub fn pending(&self) -> u32
+        ensures count { result ≡ length self.now.draft.held.records }
+        ensures distinct { (b : List Pair) → self.now.unlisted ≡ None → IsPending self.now b → result ≡ distinct b }
+    {
+        self.draft.len()
+    }
+
+    /// Ends the writing, and gives the shelf back with the files that it keeps, also those of a batch whose listing
+    /// failed. What is pending is lost.
+    pub fn close(self) -> H
+        ensures writer { H.writer result ≡ self.writer }
+        ensures name { H.name result ≡ self.dataset }
+        ensures kept { H.kept result ≡ H.kept self.shelf }
+        ensures unlisted { self.is_kept ≡ true → IfSome self.unlisted (IsKept (H.kept result)) }
+        ensures created { Created self.writer self.last (H.created result) }
+        ensures faults { H.faults result ≡ self.shelf_faults }
+    {
+        let Archiver {
+            shelf,
+            writer: _,
+            room: _,
+            last: _,
+            draft: _,
+            next: _,
+            unlisted: _,
+        } = self;
+        shelf
+    }
+}
