@@ -1,0 +1,4 @@
+pub mod Copying
+pub mod Keeping
+pub mod Caching
+pub mod Newest
