@@ -18,7 +18,7 @@ use Rattle.fd_retriever.specs.Kept.{AreThose, Fits, FitsLater, IsNumbered, Kept,
 pub numbered_map : {A B : Type 0} (f : A → B) (xs : List A) (n : ℕ) (x : A) → IsNumbered xs n x → IsNumbered (map f xs) n (f x)
 numbered_map f xs n x h = (h.0, slice_get-map f xs (n - 1) ∙ ap (option_map f) h.1)
 
-numbered_same : {A : Type 0} (xs : List A) (n : ℕ) (x y : A) → IsNumbered xs n x → IsNumbered xs n y → x ≡ y
+pub numbered_same : {A : Type 0} (xs : List A) (n : ℕ) (x y : A) → IsNumbered xs n x → IsNumbered xs n y → x ≡ y
 numbered_same xs n x y h k = same_Some x y (sym h.1 ∙ k.1)
 
 pub nothing_fits : NothingFits

@@ -2,3 +2,5 @@ pub mod Copying
 pub mod Keeping
 pub mod Caching
 pub mod Newest
+pub mod Saying
+pub mod Shelves

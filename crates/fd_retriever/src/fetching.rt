@@ -6,7 +6,7 @@ ghost use Rattle.fd_schema.specs.Rules.{file_key};
 ghost use Rattle.fd_schema.specs.Reading.{seen_place};
 ghost use Rattle.fd_dataset.specs.Listed.{listing};
 ghost use Rattle.fd_retriever.specs.Kept.{AreThose, Fits};
-ghost use Rattle.fd_retriever.specs.Answers.{IsAnswer, OnDamaged, OnWrite, SomeUntold, StandsAmong, Tells, TookAsMany, TookFront, Unwritten};
+ghost use Rattle.fd_retriever.specs.Answers.{AllSay, IsAnswer, OnDamaged, OnWrite, SomeUntold, StandsAmong, Tells, TookAsMany, TookFront, Unwritten};
 
 use crate::fault::{FetchFault, Got};
 use crate::lenses::Lenses;
@@ -39,6 +39,7 @@ where
     ensures fits { Fits lenses.new (map listing snapshot.now) }
     ensures those { AreThose lenses.old snapshot.now → AreThose lenses.new snapshot.now }
     ensures answer { IfOk result (λ got. (t : List (List Pair)) → Tells (map listing snapshot.now) t → IsAnswer (newest t (file_key (seen_place place.now))) (K.taken sink.old) (K.taken sink.new) got) }
+    ensures says { IfOk result (λ got. AreThose lenses.old snapshot.now → AllSay snapshot.now (file_key (seen_place place.now)) got) }
     ensures took { IfOk result (TookAsMany (K.taken sink.old) (K.taken sink.new)) }
     ensures err { IfErr result (λ _. (t : List (List Pair)) → Tells (map listing snapshot.now) t → TookFront (newest t (file_key (seen_place place.now))) (K.taken sink.old) (K.taken sink.new)) }
     ensures unwritten { IfErr result (λ e. Unwritten e (K.taken sink.new ≡ K.taken sink.old)) }

@@ -1,6 +1,9 @@
-ghost use Rattle.std.specs.Prelude.{◌≡◌, ◌≤◌, ◌⊎◌, [], length, Contains, IfOk, IfErr};
+ghost use Rattle.std.specs.Prelude.{◌≡◌, ◌≤◌, ◌⊎◌, List, [], length, Contains, IfOk, IfErr};
 ghost use Rattle.fd_segment.specs.Causes.{IsBadIndex, OnDamaged};
-ghost use Rattle.fd_retriever.specs.Kept.{Kept};
+ghost use Rattle.fd_core.specs.declared.batch.Listing.{Listing};
+ghost use Rattle.fd_segment.specs.Held.{Standing};
+ghost use Rattle.fd_retriever.specs.Kept.{AreThose, Fits, Kept};
+ghost use Rattle.fd_retriever.specs.Answers.{Reads};
 
 use fd_bytes::NoMemory;
 use fd_disk::Sealed;
@@ -24,12 +27,13 @@ where
 {
     ghost use Rattle.std.specs.Prelude.{◌≡◌, List, map};
     ghost use Rattle.fd_retriever.specs.Kept.{Kept};
+    ghost use Rattle.fd_retriever.specs.Answers.{AllRead};
 
     ghost Value = { List Kept };
 
     ghost view = { λ l. map (λ e. record { number = e.0; files = e.1.files }) l.cache.entries };
 
-    ghost invariant = { λ l. l.cache.cap ≡ 64 };
+    ghost invariant = { λ l. (l.cache.cap ≡ 64) × AllRead (map (λ e. record { number = e.0; files = e.1.files }) l.cache.entries) };
 }
 
 impl<F: Send, Z: Sealed<F>> Drop for Lenses<F, Z>
@@ -47,7 +51,9 @@ where
 {
     /// No opened segments yet, and room for 64. They fit every snapshot.
     pub fn new(alloc: Global) -> Result<Lenses<F, Z>, NoMemory>
-        ensures { IfOk result (λ l. l ≡ []) }
+        ensures empty { IfOk result (λ l. l ≡ []) }
+        ensures fits { IfOk result (λ l. (ls : List Listing) → Fits l ls) }
+        ensures those { IfOk result (λ l. (ss : List Standing) → AreThose l ss) }
     {
         let Some(most) = NonZeroUsize::new(64) else {
             unreachable!()
@@ -72,6 +78,7 @@ where
         number: u32,
     ) -> Result<Lens<F, Z::Reader>, LensFault<F>>
         ensures files { IfOk result (λ l. Contains self.old (record { number = number; files = l.files }) ⊎ (l.files ≡ segment.now.files)) }
+        ensures read { IfOk result (λ l. Reads l.files) }
         ensures damaged { IfErr result (λ e. OnDamaged e (IsBadIndex segment.now.files.entry segment.now.files.index)) }
         ensures kept { (k : Kept) → Contains self.new k → Contains self.old k }
     {
@@ -81,8 +88,9 @@ where
         segment.lens(alloc)
     }
 
-    /// Keeps an opened segment under its number. Where there is no memory it is let go.
+    /// Keeps an opened segment under its number, whose index was read. Where there is no memory it is let go.
     pub(crate) fn keep(&mut self, number: u32, lens: Lens<F, Z::Reader>)
+        requires { Reads lens.files }
         ensures { (k : Kept) → Contains self.new k → Contains self.old k ⊎ (k ≡ record { number = number; files = lens.files }) }
     {
         let _ = self.cache.put(number, lens);

@@ -6,7 +6,7 @@ ghost use Rattle.fd_segment.specs.Causes.{IsBeyond};
 ghost use Rattle.fd_segment.specs.Held.{Files, batch_of};
 ghost use Rattle.fd_dataset.specs.Listed.{listing_in};
 ghost use Rattle.fd_retriever.specs.Kept.{Kept};
-ghost use Rattle.fd_retriever.specs.Answers.{IsAnswer, OnDamaged, OnWrite, StandsIn, TookAsMany, TookFront, Unwritten};
+ghost use Rattle.fd_retriever.specs.Answers.{IsAnswer, OnDamaged, OnWrite, Reads, Says, StandsIn, TookAsMany, TookFront, Unwritten};
 
 use crate::fault::{FetchFault, Got};
 use crate::lenses::Lenses;
@@ -21,8 +21,10 @@ fn copied<F: Send, R: Reader<F>, X, K: Sink<X>>(
     key: &[u8],
     sink: &mut K,
 ) -> Result<Got, FetchFault<F, X>>
+    requires read { Reads lens.old.files }
     ensures files { lens.new.files ≡ lens.old.files }
     ensures answer { IfOk result (λ got. (b : List Pair) → batch_of lens.old.files ≡ Some b → IsAnswer (of_batch b key.now) (K.taken sink.old) (K.taken sink.new) got) }
+    ensures says { IfOk result (Says lens.old.files key.now) }
     ensures took { IfOk result (TookAsMany (K.taken sink.old) (K.taken sink.new)) }
     ensures err { IfErr result (λ _. (b : List Pair) → batch_of lens.old.files ≡ Some b → TookFront (of_batch b key.now) (K.taken sink.old) (K.taken sink.new)) }
     ensures unwritten { IfErr result (λ e. Unwritten e (K.taken sink.new ≡ K.taken sink.old)) }
@@ -35,7 +37,7 @@ fn copied<F: Send, R: Reader<F>, X, K: Sink<X>>(
         Ok(Some(place)) => place,
         Ok(None) => return Ok(Got::Miss),
         Err(LensFault::Fault(fault)) => return Err(FetchFault::Disk(fault)),
-        Err(LensFault::Damaged(damage)) => return Err(FetchFault::Damaged(damage)),
+        Err(LensFault::Damaged(beyond)) => return Err(FetchFault::Damaged(beyond)),
         Err(LensFault::NoMemory) => return Err(FetchFault::NoMemory),
     };
     match lens.copy_to(at, len, sink) {
@@ -59,6 +61,7 @@ where
     requires fits { (f : Files) → Contains lenses.old (record { number = number; files = f }) → listing_in f ≡ listing_in segment.now.files }
     ensures kept { (k : Kept) → Contains lenses.new k → Contains lenses.old k ⊎ (k ≡ record { number = number; files = segment.now.files }) }
     ensures answer { IfOk result (λ got. (b : List Pair) → batch_of segment.now.files ≡ Some b → IsAnswer (of_batch b key.now) (K.taken sink.old) (K.taken sink.new) got) }
+    ensures says { IfOk result (λ got. ((f : Files) → Contains lenses.old (record { number = number; files = f }) → f ≡ segment.now.files) → Says segment.now.files key.now got) }
     ensures took { IfOk result (TookAsMany (K.taken sink.old) (K.taken sink.new)) }
     ensures err { IfErr result (λ _. (b : List Pair) → batch_of segment.now.files ≡ Some b → TookFront (of_batch b key.now) (K.taken sink.old) (K.taken sink.new)) }
     ensures unwritten { IfErr result (λ e. Unwritten e (K.taken sink.new ≡ K.taken sink.old)) }
