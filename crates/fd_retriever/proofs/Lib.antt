@@ -3,4 +3,3 @@ pub mod Keeping
 pub mod Caching
 pub mod Newest
 pub mod Saying
-pub mod Shelves

@@ -1,14 +1,12 @@
 -- What the indexes of segments say of a key.
-use Rattle.std.proofs.Common.{◌≡◌, ◌<◌, ◌≤◌, ◌+◌, ◌-◌, ℕ, List, length, Option, Some, None, Result, Ok, Err, IsOk, ◌⊎◌, inl, inr, Contains, slice_get, refl, sym, ap, ◌∙◌, subst, arith}
+use Rattle.std.proofs.Common.{◌≡◌, ◌<◌, ◌≤◌, ◌+◌, ◌-◌, ℕ, List, length, Option, Some, None, Result, Ok, Err, IsOk, ◌⊎◌, inl, inr, Contains, refl, sym, ◌∙◌, subst, arith}
 use Rattle.std.specs.Prelude.{IfSome, IfOk}
 use Rattle.std.proofs.lemmas.Option.{slice_get_within}
-use Rattle.fd_core.specs.declared.table.Entry.{Entry}
 use Rattle.fd_index.specs.Records.{Record, place_of}
 use Rattle.fd_segment.specs.Causes.{IsPlace}
 use Rattle.fd_segment.specs.Held.{Files, Standing, records_in}
 use Rattle.fd_retriever.specs.declared.fault.Got.{Got}
 use Rattle.fd_retriever.specs.declared.fault.Got.TheVariants.{Found, Miss}
-use Rattle.fd_retriever.specs.declared.fault.FetchFault.{FetchFault}
 use Rattle.fd_retriever.specs.Kept.{IsNumbered, Kept}
 use Rattle.fd_retriever.specs.Answers.{AllSay, LackBehind, Reads, Says}
 use Rattle.fd_retriever.proofs.Keeping.{numbered_same}
