@@ -4,11 +4,14 @@ use Rattle.std.specs.declared.sync.Arc.{Arc}
 use Rattle.std.specs.Arc.{arc_value}
 use Rattle.fd_core.specs.declared.table.Entry.{Entry}
 use Rattle.fd_core.specs.declared.batch.Listing.{Listing}
-use Rattle.fd_segment.specs.Held.{Standing, batch_of}
+use Rattle.fd_segment.specs.Held.{Files, Standing, batch_of}
 
 -- an entry, with the batch that its files stand for where they tell it
+abbrev pub listing_in : Files → Listing
+listing_in f = record { entry = f.entry; batch = batch_of f }
+
 abbrev pub listing : Standing → Listing
-listing s = record { entry = s.files.entry; batch = batch_of s.files }
+listing s = listing_in s.files
 
 module _ {A : Type 0} where
   abbrev pub entry_of : Arc Standing A → Entry
@@ -30,6 +33,10 @@ module _ {A : Type 0} where
 
   abbrev pub listings : List (Arc Standing A) → List Listing
   listings xs = map listing_of xs
+
+  -- what contracts see of the segments
+  abbrev pub standings : List (Arc Standing A) → List Standing
+  standings xs = map arc_value xs
 
   abbrev pub doubted_listing : Option (Arc Standing A) → Option Listing
   doubted_listing None = None

@@ -1,4 +1,4 @@
-ghost use Rattle.std.specs.Prelude.{◌≡◌, ◌<◌, ◌≤◌, ◌+◌, ◌*◌, ◌⊎◌, ◌++◌, List, [], ◌∷◌, length, Option, Some, None, Err, IfOk, IfErr, OnErr, Contains};
+ghost use Rattle.std.specs.Prelude.{◌≡◌, ◌<◌, ◌≤◌, ◌+◌, ◌*◌, ◌⊎◌, ◌++◌, List, [], ◌∷◌, length, map, Option, Some, None, Err, IfOk, IfErr, OnErr, Contains};
 ghost use mathlib.Core.List.{IsPrefix};
 ghost use Rattle.std.specs.Arc.{arc_value};
 ghost use Rattle.fd_core.specs.declared.batch.Listing.{Listing};
@@ -7,7 +7,7 @@ ghost use Rattle.fd_core.specs.Table.{greatest_writer};
 ghost use Rattle.fd_turn.specs.declared.view.Lock.TheVariants.{Free};
 ghost use Rattle.fd_turn.specs.Views.{all_parts, donor, first_view, recipient, merger};
 ghost use Rattle.fd_turn.specs.Passes.{view, IsOf, IsSame};
-ghost use Rattle.fd_dataset.specs.Listed.{AreOf, listing_of, listings, entries, entry_of, entries_of};
+ghost use Rattle.fd_dataset.specs.Listed.{AreOf, listing, listing_of, listings, entries, entry_of, entries_of};
 ghost use Rattle.fd_dataset.specs.Causes.{AreFewer, FullAt, IsListed, LeavesDoubts};
 
 use crate::fault::{ListFault, Receipt};
@@ -148,8 +148,8 @@ impl<F: Send, T: Disk<F>, Z: Sealed<F> + Drop> Dataset<F, T, Z> {
         requires own { IsOf self.now pass.old }
         requires free { (view pass.old).lock ≡ Free }
         ensures own { IsSame pass.old pass.new }
-        ensures ok { IfOk result (λ s. view pass.new ≡ record (view pass.old) { history = s }) }
-        ensures seen { IfOk result (λ s. IsPrefix (view pass.old).history s) }
+        ensures ok { IfOk result (λ s. view pass.new ≡ record (view pass.old) { history = map listing s }) }
+        ensures seen { IfOk result (λ s. IsPrefix (view pass.old).history (map listing s)) }
         ensures count { IfOk result (λ s. (view pass.old).parts ≡ all_parts → (view pass.old).opening + (view pass.old).amount ≡ length s) }
         ensures err { OnErr result (view pass.new ≡ view pass.old) }
     {

@@ -1,5 +1,4 @@
 ghost use Rattle.std.specs.Prelude.{◌≡◌, ◌≤◌, ◌<◌, ◌-◌, length, slice_get, Some};
-ghost use Rattle.fd_dataset.specs.Listed.{listing};
 
 use crate::parts::Segments;
 use fd_disk::Sealed;
@@ -15,12 +14,12 @@ pub struct Snapshot<F: Send, Z: Sealed<F> + Drop> {
 impl<F: Send, Z: Sealed<F> + Drop> Model for Snapshot<F, Z> {
     ghost use Rattle.std.specs.Prelude.{List};
     ghost use Rattle.std.specs.Arc.{arc_value};
-    ghost use Rattle.fd_core.specs.declared.batch.Listing.{Listing};
-    ghost use Rattle.fd_dataset.specs.Listed.{listings};
+    ghost use Rattle.fd_segment.specs.Held.{Standing};
+    ghost use Rattle.fd_dataset.specs.Listed.{standings};
 
-    ghost Value = { List Listing };
+    ghost Value = { List Standing };
 
-    ghost view = { λ s. listings (arc_value s.segments.list).items };
+    ghost view = { λ s. standings (arc_value s.segments.list).items };
 }
 
 impl<F: Send, Z: Sealed<F> + Drop> Snapshot<F, Z> {
@@ -35,7 +34,7 @@ impl<F: Send, Z: Sealed<F> + Drop> Snapshot<F, Z> {
     /// The segment of the entry with this number, from 1.
     pub fn segment(&self, number: u32) -> &Segment<F, Z>
         requires { (1 ≤ number) × (number ≤ length self.now) }
-        ensures { slice_get self.now (number - 1) ≡ Some (listing result.now) }
+        ensures { slice_get self.now (number - 1) ≡ Some result.now }
     {
         &self.segments.list[(number - 1) as usize]
     }

@@ -1,0 +1,12 @@
+use Rattle.std.proofs.Common.{◌∙◌, ap, sym, subst}
+use mathlib.Core.List.{IsPrefix}
+use Rattle.std.specs.Arc.{arc_value}
+use Rattle.fd_turn.specs.Passes.{view}
+use Rattle.fd_dataset.proofs.Lists.{listings_standing}
+use Rattle.fd_dataset.proofs.dataset.Dataset.snapshot.Goals as goal
+
+pub returns-clause-ok : goal.returns-clause-ok
+returns-clause-ok g c = c.in_ok-segments.ensures.ok ∙ ap (λ h. record (view c.args.pass.now) { history = h }) (sym (listings_standing (arc_value c.in_ok-segments.segments.list).items))
+
+pub returns-clause-seen : goal.returns-clause-seen
+returns-clause-seen g c = subst (IsPrefix c.args.pass.now.seat.me.0.history) (sym (listings_standing (arc_value c.in_ok-segments.segments.list).items)) c.in_ok-segments.ensures.seen

@@ -1,0 +1,5 @@
+pub mod Copying
+pub mod Keeping
+pub mod Caching
+pub mod Newest
+pub mod Saying

@@ -1,0 +1,98 @@
+ghost use Rattle.std.specs.Prelude.{◌≡◌, ◌≤◌, ◌⊎◌, List, [], length, Contains, IfOk, IfErr};
+ghost use Rattle.fd_segment.specs.Causes.{IsBadIndex, OnDamaged};
+ghost use Rattle.fd_core.specs.declared.batch.Listing.{Listing};
+ghost use Rattle.fd_segment.specs.Held.{Standing};
+ghost use Rattle.fd_retriever.specs.Kept.{AreThose, Fits, Kept};
+ghost use Rattle.fd_retriever.specs.Answers.{Reads};
+
+use fd_bytes::NoMemory;
+use fd_disk::Sealed;
+use fd_segment::{Lens, LensFault, Segment};
+use lru::LruCache;
+use std::alloc::Global;
+use std::marker::Model;
+use std::num::NonZeroUsize;
+
+/// The opened segments of one dataset, at most 64, by their numbers.
+pub struct Lenses<F: Send, Z: Sealed<F>>
+where
+    Z::Reader: Drop,
+{
+    cache: LruCache<u32, Lens<F, Z::Reader>>,
+}
+
+impl<F: Send, Z: Sealed<F>> Model for Lenses<F, Z>
+where
+    Z::Reader: Drop,
+{
+    ghost use Rattle.std.specs.Prelude.{◌≡◌, List, map};
+    ghost use Rattle.fd_retriever.specs.Kept.{Kept};
+    ghost use Rattle.fd_retriever.specs.Answers.{AllRead};
+
+    ghost Value = { List Kept };
+
+    ghost view = { λ l. map (λ e. record { number = e.0; files = e.1.files }) l.cache.entries };
+
+    ghost invariant = { λ l. (l.cache.cap ≡ 64) × AllRead (map (λ e. record { number = e.0; files = e.1.files }) l.cache.entries) };
+}
+
+impl<F: Send, Z: Sealed<F>> Drop for Lenses<F, Z>
+where
+    Z::Reader: Drop,
+{
+    fn drop(self) {
+        let Lenses { cache: _ } = self;
+    }
+}
+
+impl<F: Send, Z: Sealed<F>> Lenses<F, Z>
+where
+    Z::Reader: Drop,
+{
+    /// No opened segments yet, and room for 64. They fit every snapshot.
+    pub fn new(alloc: Global) -> Result<Lenses<F, Z>, NoMemory>
+        ensures empty { IfOk result (λ l. l ≡ []) }
+        ensures fits { IfOk result (λ l. (ls : List Listing) → Fits l ls) }
+        ensures those { IfOk result (λ l. (ss : List Standing) → AreThose l ss) }
+    {
+        let Some(most) = NonZeroUsize::new(64) else {
+            unreachable!()
+        };
+        let cache = LruCache::new(alloc, most)?;
+        Ok(Lenses { cache })
+    }
+
+    /// The number of opened segments that are kept.
+    pub fn len(&self) -> usize
+        ensures count { result ≡ length self.now }
+        ensures few { result ≤ 64 }
+    {
+        self.cache.len()
+    }
+
+    /// Takes the opened segment of a number out, or opens the segment where none is kept.
+    pub(crate) fn take(
+        &mut self,
+        alloc: Global,
+        segment: &Segment<F, Z>,
+        number: u32,
+    ) -> Result<Lens<F, Z::Reader>, LensFault<F>>
+        ensures files { IfOk result (λ l. Contains self.old (record { number = number; files = l.files }) ⊎ (l.files ≡ segment.now.files)) }
+        ensures read { IfOk result (λ l. Reads l.files) }
+        ensures damaged { IfErr result (λ e. OnDamaged e (IsBadIndex segment.now.files.entry segment.now.files.index)) }
+        ensures kept { (k : Kept) → Contains self.new k → Contains self.old k }
+    {
+        if let Some(lens) = self.cache.pop(&number) {
+            return Ok(lens);
+        }
+        segment.lens(alloc)
+    }
+
+    /// Keeps an opened segment under its number, whose index was read. Where there is no memory it is let go.
+    pub(crate) fn keep(&mut self, number: u32, lens: Lens<F, Z::Reader>)
+        requires { Reads lens.files }
+        ensures { (k : Kept) → Contains self.new k → Contains self.old k ⊎ (k ≡ record { number = number; files = lens.files }) }
+    {
+        let _ = self.cache.put(number, lens);
+    }
+}

@@ -1,0 +1,13 @@
+//! The reader of a dataset: the newest message of a key among the segments of a snapshot.
+#![tactic(auto)]
+
+mod fault;
+mod fetching;
+mod laws;
+mod lenses;
+mod looking;
+
+pub use fault::{FetchFault, Got};
+pub use fetching::fetch;
+pub use laws::{every_later_snapshot, every_snapshot};
+pub use lenses::Lenses;
