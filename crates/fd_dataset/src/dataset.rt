@@ -11,7 +11,7 @@ ghost use Rattle.fd_dataset.specs.Listed.{AreOf, listing, listing_of, listings, 
 ghost use Rattle.fd_dataset.specs.Causes.{AreFewer, FullAt, IsListed, LeavesDoubts};
 
 use crate::fault::{ListFault, Receipt};
-use crate::parts::{Desk, Segments};
+use crate::parts::{Desk, Segments, Shown};
 use crate::snapshot::Snapshot;
 use fd_bytes::{Bytes, NoMemory};
 use fd_disk::{Disk, Sealed};
@@ -56,13 +56,13 @@ impl<F: Send, T: Disk<F>, Z: Sealed<F> + Drop> Dataset<F, T, Z> {
         ensures err { IfErr result (λ e. e.0 ≡ toc) }
     {
         let _ = toc.entries();
-        let Ok(shown) = copied(alloc, &segments) else {
-            return Err((toc, NoMemory));
-        };
-        let Ok(list) = Arc::new(alloc, shown) else {
+        let Ok(list) = copied(alloc, &segments) else {
             return Err((toc, NoMemory));
         };
         let Ok((name, own)) = names(alloc, toc.dataset()) else {
+            return Err((toc, NoMemory));
+        };
+        let Ok(shown) = Arc::new(alloc, Shown { list, name }) else {
             return Err((toc, NoMemory));
         };
         let desk = Desk {
@@ -71,7 +71,7 @@ impl<F: Send, T: Disk<F>, Z: Sealed<F> + Drop> Dataset<F, T, Z> {
             doubted: None,
             name: own,
         };
-        match Board::start(alloc, Segments { list, name }, desk) {
+        match Board::start(alloc, Segments { shown }, desk) {
             Ok((board, pass)) => Ok((Dataset { board }, pass)),
             Err((_, desk, _)) => {
                 let Desk {
@@ -234,35 +234,35 @@ fn prepared<F: Send, T: Disk<F>, Z: Sealed<F> + Drop>(
     requires room { length desk.toc.entries < 65535 }
     ensures desk { (result.0.segments.items ≡ desk.segments.items) × (result.0.doubted ≡ desk.doubted) }
     ensures name { T.name result.0.toc.table ≡ T.name desk.toc.table }
-    ensures subject { IfOk result.1 (λ l. arc_value l.0.name ≡ T.name desk.toc.table) }
-    ensures shown { IfOk result.1 (λ l. listings (arc_value l.0.list).items ≡ listings desk.segments.items ++ listing_of segment.now ∷ []) }
+    ensures subject { IfOk result.1 (λ l. (arc_value l.0.shown).name ≡ T.name desk.toc.table) }
+    ensures shown { IfOk result.1 (λ l. listings (arc_value l.0.shown).list.items ≡ listings desk.segments.items ++ listing_of segment.now ∷ []) }
     ensures own { IfOk result.1 (λ l. (entries l.1.items ≡ entries desk.segments.items ++ entry_of segment.now ∷ []) × (listings l.1.items ≡ listings desk.segments.items ++ listing_of segment.now ∷ [])) }
     ensures spare { IfOk result.1 (λ l. 0 < result.0.toc.spare) }
 {
     let Ok(()) = desk.toc.reserve() else {
         return (desk, Err(NoMemory));
     };
-    let Ok(shown) = longer(alloc, &desk.segments, segment) else {
+    let Ok(list) = longer(alloc, &desk.segments, segment) else {
         return (desk, Err(NoMemory));
     };
     let Ok(own) = longer(alloc, &desk.segments, segment) else {
         return (desk, Err(NoMemory));
     };
-    let Ok(name) = Arc::try_clone(&desk.name) else {
+    let Ok(name) = Bytes::from_slice(alloc, desk.name.as_slice()) else {
         return (desk, Err(NoMemory));
     };
-    match Arc::new(alloc, shown) {
-        Ok(list) => (desk, Ok((Segments { list, name }, own))),
+    match Arc::new(alloc, Shown { list, name }) {
+        Ok(shown) => (desk, Ok((Segments { shown }, own))),
         Err(_) => (desk, Err(NoMemory)),
     }
 }
 
 // The name, twice.
-fn names(alloc: Global, name: &[u8]) -> Result<(Arc<Bytes>, Arc<Bytes>), NoMemory>
-    ensures { IfOk result (λ p. (arc_value p.0 ≡ name.now) × (arc_value p.1 ≡ name.now)) }
+fn names(alloc: Global, name: &[u8]) -> Result<(Bytes, Bytes), NoMemory>
+    ensures { IfOk result (λ p. (p.0 ≡ name.now) × (p.1 ≡ name.now)) }
 {
-    let first = Arc::new(alloc, Bytes::from_slice(alloc, name)?)?;
-    let second = Arc::try_clone(&first)?;
+    let first = Bytes::from_slice(alloc, name)?;
+    let second = Bytes::from_slice(alloc, name)?;
     Ok((first, second))
 }
 

@@ -9,5 +9,5 @@ mod snapshot;
 
 pub use dataset::{Dataset, DatasetPass};
 pub use fault::{ListFault, Receipt};
-pub use parts::{Desk, Segments};
+pub use parts::{Desk, Segments, Shown};
 pub use snapshot::Snapshot;

@@ -11,40 +11,45 @@ use fd_turn::{Guarded, Handed};
 use std::alloc::Global;
 use std::sync::Arc;
 
-/// The listed segments, as readers see them: in the order of their entries.
+/// The listed segments in the order of their entries, and the dataset's text.
+#[derive(Drop)]
+pub struct Shown<F: Send, Z: Sealed<F> + Drop> {
+    pub(crate) list: Vec<Arc<Segment<F, Z>>>,
+    pub(crate) name: Bytes,
+}
+
+/// What readers get of the listed segments, which they share.
 #[derive(Drop)]
 pub struct Segments<F: Send, Z: Sealed<F> + Drop> {
-    pub(crate) list: Arc<Vec<Arc<Segment<F, Z>>>>,
-    pub(crate) name: Arc<Bytes>,
-    ghost few: { length (arc_value list).items ≤ 65535 },
+    pub(crate) shown: Arc<Shown<F, Z>>,
+    ghost few: { length (arc_value shown).list.items ≤ 65535 },
 }
 
 /// The table of contents, with a list of its own of the same segments, the segment whose entry is in doubt, and the
-/// dataset's text. The
-/// entries of its list are those of the table, and a segment is kept as doubted exactly where its entry is in doubt.
+/// dataset's text. The entries of its list are those of the table, and a segment is kept as doubted exactly where its
+/// entry is in doubt.
 #[derive(Drop)]
 pub struct Desk<F: Send, T: Disk<F>, Z: Sealed<F> + Drop> {
     pub(crate) toc: Toc<F, T>,
     pub(crate) segments: Vec<Arc<Segment<F, Z>>>,
     pub(crate) doubted: Option<Arc<Segment<F, Z>>>,
-    pub(crate) name: Arc<Bytes>,
+    pub(crate) name: Bytes,
     ghost listed: { entries segments.items ≡ toc.entries },
     ghost doubt_is: { doubted_entry doubted ≡ toc.doubt },
-    ghost named: { arc_value name ≡ T.name toc.table },
+    ghost named: { name ≡ T.name toc.table },
 }
 
 impl<F: Send, Z: Sealed<F> + Drop> Handed for Segments<F, Z> {
     ghost use Rattle.fd_dataset.specs.Listed.{listings};
     ghost use Rattle.std.specs.Arc.{arc_value};
 
-    ghost list = { λ s. listings (arc_value s.list).items };
+    ghost list = { λ s. listings (arc_value s.shown).list.items };
 
-    ghost subject = { λ s. arc_value s.name };
+    ghost subject = { λ s. (arc_value s.shown).name };
 
     fn again(&self, _alloc: Global) -> Result<Segments<F, Z>, NoMemory> {
         Ok(Segments {
-            list: Arc::try_clone(&self.list)?,
-            name: Arc::try_clone(&self.name)?,
+            shown: Arc::try_clone(&self.shown)?,
         })
     }
 }

@@ -19,7 +19,7 @@ impl<F: Send, Z: Sealed<F> + Drop> Model for Snapshot<F, Z> {
 
     ghost Value = { List Standing };
 
-    ghost view = { λ s. standings (arc_value s.segments.list).items };
+    ghost view = { λ s. standings (arc_value s.segments.shown).list.items };
 }
 
 impl<F: Send, Z: Sealed<F> + Drop> Snapshot<F, Z> {
@@ -28,7 +28,7 @@ impl<F: Send, Z: Sealed<F> + Drop> Snapshot<F, Z> {
         ensures count { result ≡ length self.now }
         ensures few { length self.now ≤ 65535 }
     {
-        self.segments.list.len() as u32
+        self.segments.shown.list.len() as u32
     }
 
     /// The segment of the entry with this number, from 1.
@@ -36,6 +36,6 @@ impl<F: Send, Z: Sealed<F> + Drop> Snapshot<F, Z> {
         requires { (1 ≤ number) × (number ≤ length self.now) }
         ensures { slice_get self.now (number - 1) ≡ Some result.now }
     {
-        &self.segments.list[(number - 1) as usize]
+        &self.segments.shown.list[(number - 1) as usize]
     }
 }

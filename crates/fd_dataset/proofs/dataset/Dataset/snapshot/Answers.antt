@@ -6,7 +6,7 @@ use Rattle.fd_dataset.proofs.Lists.{listings_standing}
 use Rattle.fd_dataset.proofs.dataset.Dataset.snapshot.Goals as goal
 
 pub returns-clause-ok : goal.returns-clause-ok
-returns-clause-ok g c = c.in_ok-segments.ensures.ok ∙ ap (λ h. record (view c.args.pass.now) { history = h }) (sym (listings_standing (arc_value c.in_ok-segments.segments.list).items))
+returns-clause-ok g c = c.in_ok-segments.ensures.ok ∙ ap (λ h. record (view c.args.pass.now) { history = h }) (sym (listings_standing (arc_value c.in_ok-segments.segments.shown).list.items))
 
 pub returns-clause-seen : goal.returns-clause-seen
-returns-clause-seen g c = subst (IsPrefix c.args.pass.now.seat.me.0.history) (sym (listings_standing (arc_value c.in_ok-segments.segments.list).items)) c.in_ok-segments.ensures.seen
+returns-clause-seen g c = subst (IsPrefix c.args.pass.now.seat.me.0.history) (sym (listings_standing (arc_value c.in_ok-segments.segments.shown).list.items)) c.in_ok-segments.ensures.seen
