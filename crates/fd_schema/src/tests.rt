@@ -91,7 +91,7 @@ fn a_key_has_the_place_of_the_first_rule(rt: HostRuntime) -> Result<(), Fail> {
     assert!(rt; place.rule == 0 && place.dataset.as_str() == "a=y");
     assert!(rt; place.index.as_str() == "step=1" && place.datum.as_str() == "d=x");
     let key = place.file_key(rt.alloc()).ok().ok_or("there is memory")?;
-    assert!(rt; key.as_slice() == b"step=1|d=x");
+    assert!(rt; key.as_slice() == b"step=1|d=x".as_slice());
     Ok(())
 }
 
