@@ -11,3 +11,6 @@ pub use dataset::{Dataset, DatasetPass};
 pub use fault::{ListFault, Receipt};
 pub use parts::{Desk, Segments, Shown};
 pub use snapshot::Snapshot;
+
+#[cfg(test)]
+mod tests;
