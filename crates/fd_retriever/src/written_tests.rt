@@ -370,3 +370,19 @@ fn each_call_of_a_flush_fails_in_turn(rt: HostRuntime) -> Result<(), Fail> {
     }
     Ok(())
 }
+
+#[test]
+fn a_segment_is_opened_once(rt: HostRuntime) -> Result<(), Fail> {
+    let alloc = rt.alloc();
+    let two = Two {
+        first: ("a", 1),
+        second: ("b", 2),
+        apart: false,
+    };
+    let mut sink = MemSink::new(alloc, 1024, &[])?;
+    let fails = ("a=1/1-1.index", Op::Read, 2);
+    let seen = run_in_memory(&rt, alloc, fails, &two, &mut sink)?;
+    assert!(rt; !seen.refused && seen.entries == 1);
+    assert_eq!(rt; sink.taken().len(), 366);
+    Ok(())
+}
