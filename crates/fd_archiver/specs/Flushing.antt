@@ -1,5 +1,5 @@
 -- What a flush does to an archiver.
-use Rattle.std.specs.Prelude.{◌≡◌, ◌≢◌, ◌⊎◌, ◌+◌, ◌<◌, ℕ, Bool, true, false, List, [], Option, None, Some}
+use Rattle.std.specs.Prelude.{◌≡◌, ◌≢◌, ◌⊎◌, ◌+◌, ◌<◌, ℕ, Bool, true, false, List, [], Option, None, Some, IsSome}
 use Rattle.fd_disk.specs.declared.folders.FileName.{FileName}
 use Rattle.fd_disk.specs.Folders.{WhereTold}
 use Rattle.fd_core.specs.declared.batch.Pair.{Pair}
@@ -39,8 +39,13 @@ pub record Lists {H : Type 0} (files : H → Option (FileName → Option (List �
   pub sealed : (b : List Pair) → IsPending v b → IsSealedFrom v.told b segment
   pub kept : IsKept (files w.shelf) segment
 
--- a flush failed before the sealing was done: a call of the shelf or of one of the draft's files, which holds what it held
+-- A flush failed before the sealing was done: a call of the shelf, or one of the draft's files, which holds what it held.
+-- In the second case the next draft was made and waits.
 pub record FailedBefore {H : Type 0} (v w : Writing H) : Type 0 where
   pub unsealed : w.unlisted ≡ None
   pub draft : HoldsSame v.draft w.draft
-  pub rose : Rose v.shelf_faults w.shelf_faults ⊎ Rose v.draft.field_faults w.draft.field_faults ⊎ Rose v.draft.index_faults w.draft.index_faults
+  pub rose : Rose v.shelf_faults w.shelf_faults ⊎ ((w.has_next ≡ true) × (Rose v.draft.field_faults w.draft.field_faults ⊎ Rose v.draft.index_faults w.draft.index_faults))
+
+-- a next draft that waited still waits, or took the place of the draft whose batch was sealed
+abbrev pub KeepsNext : {H : Type 0} → Writing H → Writing H → Type 0
+KeepsNext v w = v.has_next ≡ true → (w.has_next ≡ true) ⊎ IsSome w.unlisted

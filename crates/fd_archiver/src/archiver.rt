@@ -1,4 +1,4 @@
-ghost use Rattle.std.specs.Prelude.{◌≡◌, ◌≢◌, ◌≤◌, ◌<◌, ◌+◌, ◌^◌, ◌↔◌, ◌++◌, [], ◌∷◌, List, true, false, length, Some, None, Err, IsSome, is_some, IsTrue, IfOk, IfErr, IfSome, OnOk, OnErr};
+ghost use Rattle.std.specs.Prelude.{◌≡◌, ◌≢◌, ◌≤◌, ◌<◌, ◌+◌, ◌-◌, ◌^◌, ◌↔◌, ◌++◌, [], ◌∷◌, List, true, false, length, Some, None, Err, IsSome, is_some, IsTrue, IfOk, IfErr, IfSome, OnOk, OnErr};
 ghost use Rattle.fd_bytes.specs.Causes.{Rose};
 ghost use Rattle.fd_disk.specs.declared.folders.FileName.{FileName};
 ghost use Rattle.fd_disk.specs.Causes.{OnFault};
@@ -221,6 +221,28 @@ where
         ensures distinct { (b : List Pair) → self.now.unlisted ≡ None → IsPending self.now b → result ≡ distinct b }
     {
         self.draft.len()
+    }
+
+    /// The number of the writer.
+    pub fn writer(&self) -> u32
+        ensures { result ≡ self.now.writer }
+    {
+        self.writer
+    }
+
+    /// How many bytes were put into the batch that isn't sealed, all of them together.
+    pub fn size(&self) -> u64
+        ensures { result ≡ self.now.draft.end }
+    {
+        self.draft.size()
+    }
+
+    /// How many sequence numbers are left. A flush asks for one at least.
+    pub fn flushes_left(&self) -> u32
+        ensures left { result ≡ 2 ^ 32 - 1 - self.now.last }
+        ensures some { 0 < result → self.now.last < 2 ^ 32 - 1 }
+    {
+        0xFFFF_FFFF - self.last
     }
 
     /// Ends the writing, and gives the shelf back with the files that it keeps, also those of a batch whose listing

@@ -3,11 +3,12 @@ ghost use mathlib.Core.List.{IsPrefix};
 ghost use Rattle.fd_core.specs.declared.batch.Pair.{Pair};
 ghost use Rattle.fd_core.specs.Table.{greatest_writer};
 ghost use Rattle.fd_turn.specs.declared.view.Lock.TheVariants.{Free};
+ghost use Rattle.fd_turn.specs.Views.{all_parts};
 ghost use Rattle.fd_turn.specs.Passes.{view, IsOf, IsSame};
 ghost use Rattle.fd_segment.specs.Filling.{HoldsSame};
 ghost use Rattle.fd_segment.specs.Held.{Standing};
 ghost use Rattle.fd_archiver.specs.Causes.{FullAfter, LeavesDoubts, OnFlushDisk};
-ghost use Rattle.fd_archiver.specs.Flushing.{FailedBefore, KeepsOthers, Lists, StaysOf, UsesOne};
+ghost use Rattle.fd_archiver.specs.Flushing.{FailedBefore, KeepsNext, KeepsOthers, Lists, StaysOf, UsesOne};
 ghost use Rattle.fd_archiver.specs.Writing.{IsPending, IsReady, number_of};
 
 use crate::archiver::{Archiver, Unlisted};
@@ -24,10 +25,12 @@ where
 {
     /// Lists what is pending, in the dataset's table: makes the next draft, seals the batch, has the shelf keep both
     /// files, and lists the segment; what an earlier flush of this batch has done is left out. `Nothing` is answered
-    /// exactly where nothing is pending. A flush uses at most one sequence number, of which there are fewer than 2^32.
+    /// exactly where nothing is pending. A flush uses at most one sequence number, of which there are fewer than 2^32, and
+    /// none where a draft waits that an earlier flush made. Where the pass has every part and the batch came to its
+    /// listing, the pass has seen afterwards all that was listed since the dataset began.
     ///
     /// After a refusal what was pending still is: in the draft, or, where the sealing was done, in a segment that waits,
-    /// which the next flush lists. `Disk` comes only with a fault of the shelf, of a file of the batch or of the table;
+    /// which the next flush lists. A next draft that was made stays for that flush. `Disk` comes only with a fault of the shelf, of a file of the batch or of the table;
     /// `TableFull` exactly where 65,535 entries are listed when the segment comes to its listing. The pass is left as
     /// `Dataset::list` leaves it, and as before where the segment didn't come to its listing.
     pub fn flush<T: Disk<F>, R: Wait>(
@@ -51,6 +54,7 @@ where
         ensures idle { result ≡ Ok Flush.Nothing → (view pass.new ≡ view pass.old) × (self.new ≡ self.old) }
         ensures listed { (r : _) → result ≡ Ok (Flush.Listed r) → Lists H.kept self.old self.new (view pass.old).history r.number (view pass.new).history }
         ensures counted { (r : _) → result ≡ Ok (Flush.Listed r) → (view pass.new).amount ≡ (view pass.old).amount + 1 }
+        ensures whole { (r : _) → result ≡ Ok (Flush.Listed r) → (view pass.old).parts ≡ all_parts → (view pass.new).opening + (view pass.new).amount ≡ length (view pass.new).history }
         ensures sure { (r : _) → result ≡ Ok (Flush.Listed r) → (view pass.new).doubts ≡ [] }
         ensures emptied { (r : _) → result ≡ Ok (Flush.Listed r) → (self.new.unlisted ≡ None) × IsPending self.new [] }
         ensures others { KeepsOthers (number_of self.old) (H.kept self.old.shelf) (H.kept self.new.shelf) }
@@ -58,8 +62,10 @@ where
         ensures refused { OnErr result (((view pass.new).amount ≡ (view pass.old).amount) × (number_of self.new ≡ number_of self.old)) }
         ensures still { OnErr result ((s : Standing) → self.old.unlisted ≡ Some s → self.new.unlisted ≡ Some s) }
         ensures back { OnErr result (self.new.unlisted ≡ None → HoldsSame self.old.draft self.new.draft) }
+        ensures next { OnErr result (KeepsNext self.old self.new) }
         ensures untouched { OnErr result (self.new.is_kept ≡ false → view pass.new ≡ view pass.old) }
         ensures waits { (count : _) → result ≡ Err (FlushFault.TableFull count) → IsReady H.kept self.new }
+        ensures whole_err { OnErr result ((view pass.old).parts ≡ all_parts → (view pass.new ≡ view pass.old) ⊎ ((view pass.new).opening + (view pass.new).amount ≡ length (view pass.new).history)) }
         ensures full { FullAfter (view pass.old) (view pass.new) result }
         ensures doubts { IfErr result (LeavesDoubts self.new.unlisted (view pass.old).doubts (view pass.new).doubts) }
         ensures later { self.old.shelf_faults ≤ self.new.shelf_faults }
@@ -91,9 +97,11 @@ where
         ensures some { result ≢ Ok Flush.Nothing }
         ensures listed { (r : _) → result ≡ Ok (Flush.Listed r) → Lists H.kept self.old self.new (view pass.old).history r.number (view pass.new).history }
         ensures counted { (r : _) → result ≡ Ok (Flush.Listed r) → (view pass.new).amount ≡ (view pass.old).amount + 1 }
+        ensures whole { (r : _) → result ≡ Ok (Flush.Listed r) → (view pass.old).parts ≡ all_parts → (view pass.new).opening + (view pass.new).amount ≡ length (view pass.new).history }
         ensures sure { (r : _) → result ≡ Ok (Flush.Listed r) → (view pass.new).doubts ≡ [] }
         ensures emptied { (r : _) → result ≡ Ok (Flush.Listed r) → (self.new ≡ record self.old { unlisted = None; is_kept = false }) × IsPending self.new [] }
         ensures refused { OnErr result (((view pass.new).amount ≡ (view pass.old).amount) × (self.new ≡ self.old)) }
+        ensures whole_err { OnErr result ((view pass.old).parts ≡ all_parts → (view pass.new ≡ view pass.old) ⊎ ((view pass.new).opening + (view pass.new).amount ≡ length (view pass.new).history)) }
         ensures full { FullAfter (view pass.old) (view pass.new) result }
         ensures doubts { IfErr result (LeavesDoubts self.new.unlisted (view pass.old).doubts (view pass.new).doubts) }
     {

@@ -6,7 +6,7 @@ ghost use Rattle.fd_core.specs.declared.batch.Pair.{Pair};
 ghost use Rattle.fd_segment.specs.Filling.{HoldsSame, Puts};
 ghost use Rattle.fd_segment.specs.Held.{Standing};
 ghost use Rattle.fd_archiver.specs.Causes.{OnFlushDisk};
-ghost use Rattle.fd_archiver.specs.Flushing.{FailedBefore, StaysOf, KeepsOthers, UsesOne};
+ghost use Rattle.fd_archiver.specs.Flushing.{FailedBefore, KeepsNext, KeepsOthers, StaysOf, UsesOne};
 ghost use Rattle.fd_archiver.specs.Writing.{IsPending, IsReady, number_of};
 
 use crate::FlushFault;
@@ -27,6 +27,7 @@ where
     fn make_next(&mut self, alloc: Global) -> Result<(), Down<F>>
         requires left { self.old.last < 2 ^ 32 - 1 }
         ensures next { OnOk result (self.new.has_next ≡ true) }
+        ensures none { OnErr result (self.old.has_next ≡ false) }
         ensures numbers { UsesOne self.old self.new }
         ensures kept { H.kept self.new.shelf ≡ H.kept self.old.shelf }
         ensures later { self.old.shelf_faults ≤ self.new.shelf_faults }
@@ -53,6 +54,7 @@ where
         ensures number { number_of self.new ≡ number_of self.old }
         ensures same { StaysOf self.old self.new }
         ensures back { OnErr result ((self.new.unlisted ≡ None) × HoldsSame self.old.draft self.new.draft) }
+        ensures next { OnErr result (self.new.has_next ≡ true) }
         ensures cause { IfErr result (λ e. OnFault e (Rose self.old.draft.field_faults self.new.draft.field_faults ⊎ Rose self.old.draft.index_faults self.new.draft.index_faults)) }
         ensures rest { self.new ≡ record self.old { has_next = self.new.has_next; draft = self.new.draft; unlisted = self.new.unlisted; is_kept = false } }
     {
@@ -86,6 +88,7 @@ where
         ensures still { (s : Standing) → self.old.unlisted ≡ Some s → self.new ≡ self.old }
         ensures numbers { UsesOne self.old self.new }
         ensures later { self.old.shelf_faults ≤ self.new.shelf_faults }
+        ensures next { KeepsNext self.old self.new }
         ensures unsealed { OnErr result ((self.new.unlisted ≡ None) × (self.new.is_kept ≡ false) × HoldsSame self.old.draft self.new.draft) }
         ensures cause { IfErr result (λ e. OnFault e (FailedBefore self.old self.new)) }
     {
@@ -148,6 +151,7 @@ where
         ensures numbers { UsesOne self.old self.new }
         ensures later { self.old.shelf_faults ≤ self.new.shelf_faults }
         ensures unkept { OnErr result (self.new.is_kept ≡ false) }
+        ensures next { KeepsNext self.old self.new }
         ensures back { OnErr result (self.new.unlisted ≡ None → HoldsSame self.old.draft self.new.draft) }
         ensures full { (count : _) → result ≢ Err (FlushFault.TableFull count) }
         ensures cause { IfErr result (λ e. OnFlushDisk e (FailedBefore self.old self.new)) }

@@ -10,8 +10,9 @@ use Rattle.fd_turn.specs.declared.view.Lock.TheVariants.{Owner}
 use Rattle.fd_turn.specs.Views.{Settles}
 use Rattle.fd_turn.proofs.Settling.{leaves_doubts}
 use Rattle.fd_segment.specs.Held.{Standing}
+use Rattle.fd_segment.specs.Shared.{entries, entry_of}
 use Rattle.fd_dataset.specs.Causes.{AreFewer}
-use Rattle.fd_dataset.specs.Listed.{entries, entry_of, entries_of, listings, listing_of, doubted_entry, doubted_listing}
+use Rattle.fd_dataset.specs.Listed.{entries_of, listings, listing_of, doubted_entry, doubted_listing}
 
 module _ (A : Type 0) where
   pub entries_listed : (xs : List (Arc Standing A)) → entries_of (listings xs) ≡ entries xs

@@ -1,10 +1,11 @@
 -- The listings that segments stand for, and the entries of a history.
-use Rattle.std.specs.Prelude.{◌≡◌, ℕ, List, map, Option, None, Some, All}
+use Rattle.std.specs.Prelude.{List, map, Option, None, Some}
 use Rattle.std.specs.declared.sync.Arc.{Arc}
 use Rattle.std.specs.Arc.{arc_value}
 use Rattle.fd_core.specs.declared.table.Entry.{Entry}
 use Rattle.fd_core.specs.declared.batch.Listing.{Listing}
 use Rattle.fd_segment.specs.Held.{Files, Standing, batch_of}
+use Rattle.fd_segment.specs.Shared.{entry_of}
 
 -- an entry, with the batch that its files stand for where they tell it
 abbrev pub listing_in : Files → Listing
@@ -14,29 +15,15 @@ abbrev pub listing : Standing → Listing
 listing s = listing_in s.files
 
 module _ {A : Type 0} where
-  abbrev pub entry_of : Arc Standing A → Entry
-  entry_of a = (arc_value a).files.entry
-
-  abbrev pub entries : List (Arc Standing A) → List Entry
-  entries xs = map entry_of xs
-
   abbrev pub doubted_entry : Option (Arc Standing A) → Option Entry
   doubted_entry None = None
   doubted_entry (Some a) = Some (entry_of a)
-
-  -- the segments are of the dataset with this text
-  abbrev pub AreOf : List ℕ → List (Arc Standing A) → Type 0
-  AreOf name xs = All (λ (a : Arc Standing A). (arc_value a).dataset ≡ name) xs
 
   abbrev pub listing_of : Arc Standing A → Listing
   listing_of a = listing (arc_value a)
 
   abbrev pub listings : List (Arc Standing A) → List Listing
   listings xs = map listing_of xs
-
-  -- what contracts see of the segments
-  abbrev pub standings : List (Arc Standing A) → List Standing
-  standings xs = map arc_value xs
 
   abbrev pub doubted_listing : Option (Arc Standing A) → Option Listing
   doubted_listing None = None

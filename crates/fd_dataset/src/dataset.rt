@@ -1,13 +1,14 @@
-ghost use Rattle.std.specs.Prelude.{◌≡◌, ◌<◌, ◌≤◌, ◌+◌, ◌*◌, ◌⊎◌, ◌++◌, List, [], ◌∷◌, length, map, Option, Some, None, Err, IfOk, IfErr, OnErr, Contains};
+ghost use Rattle.std.specs.Prelude.{◌≡◌, ◌<◌, ◌≤◌, ◌+◌, ◌*◌, ◌⊎◌, ◌++◌, ℕ, List, [], ◌∷◌, length, map, Option, Some, None, Err, IfOk, IfErr, OnErr, Contains};
 ghost use mathlib.Core.List.{IsPrefix};
 ghost use Rattle.std.specs.Arc.{arc_value};
 ghost use Rattle.fd_core.specs.declared.batch.Listing.{Listing};
 ghost use Rattle.fd_core.specs.declared.table.Entry.{Entry};
-ghost use Rattle.fd_core.specs.Table.{greatest_writer};
+ghost use Rattle.fd_core.specs.Table.{AllFit, greatest_writer};
 ghost use Rattle.fd_turn.specs.declared.view.Lock.TheVariants.{Free};
 ghost use Rattle.fd_turn.specs.Views.{all_parts, donor, first_view, recipient, merger};
 ghost use Rattle.fd_turn.specs.Passes.{view, IsOf, IsSame};
-ghost use Rattle.fd_dataset.specs.Listed.{AreOf, listing, listing_of, listings, entries, entry_of, entries_of};
+ghost use Rattle.fd_dataset.specs.Listed.{listing, listing_of, listings, entries_of};
+ghost use Rattle.fd_segment.specs.Shared.{AreAbout, AreOf, entries, entry_of};
 ghost use Rattle.fd_dataset.specs.Causes.{AreFewer, FullAt, IsListed, LeavesDoubts};
 
 use crate::fault::{ListFault, Receipt};
@@ -59,7 +60,7 @@ impl<F: Send, T: Disk<F>, Z: Sealed<F> + Drop> Dataset<F, T, Z> {
         let Ok(list) = copied(alloc, &segments) else {
             return Err((toc, NoMemory));
         };
-        let Ok((name, own)) = names(alloc, toc.dataset()) else {
+        let Ok(name) = Bytes::from_slice(alloc, toc.dataset()) else {
             return Err((toc, NoMemory));
         };
         let Ok(shown) = Arc::new(alloc, Shown { list, name }) else {
@@ -69,7 +70,6 @@ impl<F: Send, T: Disk<F>, Z: Sealed<F> + Drop> Dataset<F, T, Z> {
             toc,
             segments,
             doubted: None,
-            name: own,
         };
         match Board::start(alloc, Segments { shown }, desk) {
             Ok((board, pass)) => Ok((Dataset { board }, pass)),
@@ -78,7 +78,6 @@ impl<F: Send, T: Disk<F>, Z: Sealed<F> + Drop> Dataset<F, T, Z> {
                     toc,
                     segments: _,
                     doubted: _,
-                    name: _,
                 } = desk;
                 Err((toc, NoMemory))
             }
@@ -87,7 +86,8 @@ impl<F: Send, T: Disk<F>, Z: Sealed<F> + Drop> Dataset<F, T, Z> {
 
     /// Lists a segment of this dataset: appends its entry to the table, and shows it to all who look from then on. The
     /// pass has then seen all that is listed, and has no doubts. The segment's writer is at most 65,536 times the number
-    /// after those that the pass has seen.
+    /// after those that the pass has seen. Where the pass has every part, it has afterwards seen all that was listed since
+    /// the dataset began, whatever the answer.
     ///
     /// After a refusal nothing was added, and the pass has seen all that was listed under the lock. `Disk` comes only
     /// with a fault of the table, `Full` exactly where 65,535 entries are listed, and `NoMemory` before the table is
@@ -109,6 +109,7 @@ impl<F: Send, T: Disk<F>, Z: Sealed<F> + Drop> Dataset<F, T, Z> {
         ensures sure { IfOk result (λ r. (view pass.new).doubts ≡ []) }
         ensures seen { IsPrefix (view pass.old).history (view pass.new).history }
         ensures refused { OnErr result ((view pass.new).amount ≡ (view pass.old).amount) }
+        ensures whole { (view pass.old).parts ≡ all_parts → (view pass.new).opening + (view pass.new).amount ≡ length (view pass.new).history }
         ensures doubts { IfErr result (LeavesDoubts (listing_of segment) (view pass.old).doubts (view pass.new).doubts) }
         ensures full { FullAt (length (view pass.new).history) result }
         ensures rest { view pass.new ≡ record (view pass.old) { history = (view pass.new).history; amount = (view pass.new).amount; doubts = (view pass.new).doubts } }
@@ -138,7 +139,7 @@ impl<F: Send, T: Disk<F>, Z: Sealed<F> + Drop> Dataset<F, T, Z> {
     }
 
     /// What is listed now, as far as this caller is told: all that the pass has seen, and what others listed since as far
-    /// as it is shown. After `NoMemory` the pass is as before.
+    /// as it is shown. Each segment is of this dataset. After `NoMemory` the pass is as before.
     pub fn snapshot<R: Wait>(
         &self,
         rt: &R,
@@ -150,6 +151,7 @@ impl<F: Send, T: Disk<F>, Z: Sealed<F> + Drop> Dataset<F, T, Z> {
         ensures own { IsSame pass.old pass.new }
         ensures ok { IfOk result (λ s. view pass.new ≡ record (view pass.old) { history = map listing s }) }
         ensures seen { IfOk result (λ s. IsPrefix (view pass.old).history (map listing s)) }
+        ensures subject { IfOk result (λ s. AreAbout (view pass.old).subject s) }
         ensures count { IfOk result (λ s. (view pass.old).parts ≡ all_parts → (view pass.old).opening + (view pass.old).amount ≡ length s) }
         ensures err { OnErr result (view pass.new ≡ view pass.old) }
     {
@@ -200,7 +202,8 @@ impl<F: Send, T: Disk<F>, Z: Sealed<F> + Drop> Dataset<F, T, Z> {
     }
 
     /// Ends the dataset, by the pass that has every part, and hands the table back. Its entries begin with those of the
-    /// pass's history, and are as many as the dataset began with and the pass's amount together. An entry in doubt is that
+    /// pass's history, and are as many as the dataset began with and the pass's amount together; each writer is at most
+    /// 65,536 times the number of its entry. An entry in doubt is that
     /// of one of the pass's doubts.
     pub fn close(self, pass: DatasetPass<F, T, Z>) -> Toc<F, T>
         requires own { IsOf self pass }
@@ -209,6 +212,8 @@ impl<F: Send, T: Disk<F>, Z: Sealed<F> + Drop> Dataset<F, T, Z> {
         ensures seen { IsPrefix (entries_of (view pass).history) result.entries }
         ensures count { length result.entries ≡ (view pass).opening + (view pass).amount }
         ensures name { T.name result.table ≡ (view pass).subject }
+        ensures dataset { result.dataset ≡ (view pass).subject }
+        ensures fit { AllFit 0 result.entries }
         ensures doubt { (e : Entry) → result.doubt ≡ Some e → (l : Listing) × Contains (view pass).doubts l × (l.entry ≡ e) }
     {
         let Dataset { board } = self;
@@ -217,8 +222,8 @@ impl<F: Send, T: Disk<F>, Z: Sealed<F> + Drop> Dataset<F, T, Z> {
             toc,
             segments: _,
             doubted: _,
-            name: _,
         } = desk;
+        let _ = toc.entries();
         toc
     }
 }
@@ -232,9 +237,11 @@ fn prepared<F: Send, T: Disk<F>, Z: Sealed<F> + Drop>(
     segment: &Arc<Segment<F, Z>>,
 ) -> (Desk<F, T, Z>, Result<Lists<F, Z>, NoMemory>)
     requires room { length desk.toc.entries < 65535 }
+    requires name { (arc_value segment.now).dataset ≡ desk.toc.dataset }
     ensures desk { (result.0.segments.items ≡ desk.segments.items) × (result.0.doubted ≡ desk.doubted) }
-    ensures name { T.name result.0.toc.table ≡ T.name desk.toc.table }
-    ensures subject { IfOk result.1 (λ l. (arc_value l.0.shown).name ≡ T.name desk.toc.table) }
+    ensures name { result.0.toc.dataset ≡ desk.toc.dataset }
+    ensures subject { IfOk result.1 (λ l. (arc_value l.0.shown).name ≡ desk.toc.dataset) }
+    ensures of { IfOk result.1 (λ l. AreOf desk.toc.dataset l.1.items) }
     ensures shown { IfOk result.1 (λ l. listings (arc_value l.0.shown).list.items ≡ listings desk.segments.items ++ listing_of segment.now ∷ []) }
     ensures own { IfOk result.1 (λ l. (entries l.1.items ≡ entries desk.segments.items ++ entry_of segment.now ∷ []) × (listings l.1.items ≡ listings desk.segments.items ++ listing_of segment.now ∷ [])) }
     ensures spare { IfOk result.1 (λ l. 0 < result.0.toc.spare) }
@@ -248,22 +255,13 @@ fn prepared<F: Send, T: Disk<F>, Z: Sealed<F> + Drop>(
     let Ok(own) = longer(alloc, &desk.segments, segment) else {
         return (desk, Err(NoMemory));
     };
-    let Ok(name) = Bytes::from_slice(alloc, desk.name.as_slice()) else {
+    let Ok(name) = Bytes::from_slice(alloc, desk.toc.dataset()) else {
         return (desk, Err(NoMemory));
     };
     match Arc::new(alloc, Shown { list, name }) {
         Ok(shown) => (desk, Ok((Segments { shown }, own))),
         Err(_) => (desk, Err(NoMemory)),
     }
-}
-
-// The name, twice.
-fn names(alloc: Global, name: &[u8]) -> Result<(Bytes, Bytes), NoMemory>
-    ensures { IfOk result (λ p. (p.0 ≡ name.now) × (p.1 ≡ name.now)) }
-{
-    let first = Bytes::from_slice(alloc, name)?;
-    let second = Bytes::from_slice(alloc, name)?;
-    Ok((first, second))
 }
 
 // The segments with one more.
@@ -274,6 +272,7 @@ fn longer<F: Send, Z: Sealed<F> + Drop>(
 ) -> Result<Vec<Arc<Segment<F, Z>>>, AllocError>
     ensures listings { IfOk result (λ v. listings v.items ≡ listings segments.now.items ++ listing_of segment.now ∷ []) }
     ensures entries { IfOk result (λ v. entries v.items ≡ entries segments.now.items ++ entry_of segment.now ∷ []) }
+    ensures of { IfOk result (λ v. (name : List ℕ) → AreOf name segments.now.items → (arc_value segment.now).dataset ≡ name → AreOf name v.items) }
 {
     let mut all = copied(alloc, segments)?;
     all.push(Arc::try_clone(segment)?)?;
@@ -287,6 +286,7 @@ fn copied<F: Send, Z: Sealed<F> + Drop>(
 ) -> Result<Vec<Arc<Segment<F, Z>>>, AllocError>
     ensures listings { IfOk result (λ v. listings v.items ≡ listings segments.now.items) }
     ensures entries { IfOk result (λ v. entries v.items ≡ entries segments.now.items) }
+    ensures of { IfOk result (λ v. (name : List ℕ) → AreOf name segments.now.items → AreOf name v.items) }
 {
     let mut all = Vec::new(alloc);
     for i in 0..segments.len() {
@@ -305,7 +305,8 @@ fn appended<F: Send, T: Disk<F>, Z: Sealed<F> + Drop>(
     requires room { length desk.toc.entries < 65535 }
     requires spare { 0 < desk.toc.spare }
     requires writer { (entry_of segment).writer ≤ greatest_writer (length desk.toc.entries) }
-    ensures name { T.name result.0.toc.table ≡ T.name desk.toc.table }
+    requires of { AreOf desk.toc.dataset own.items }
+    ensures name { result.0.toc.dataset ≡ desk.toc.dataset }
     ensures ok { IfOk result.1 (λ n. (result.0.segments.items ≡ own.items) × (result.0.doubted ≡ None) × (n ≡ length own.items)) }
     ensures err { OnErr result.1 ((result.0.segments.items ≡ desk.segments.items) × ((result.0.doubted ≡ desk.doubted) ⊎ (result.0.doubted ≡ None) ⊎ (result.0.doubted ≡ Some segment))) }
 {
@@ -313,7 +314,6 @@ fn appended<F: Send, T: Disk<F>, Z: Sealed<F> + Drop>(
         mut toc,
         segments,
         doubted,
-        name,
     } = desk;
     let entry = segment.entry();
     match toc.append(entry) {
@@ -322,7 +322,6 @@ fn appended<F: Send, T: Disk<F>, Z: Sealed<F> + Drop>(
                 toc,
                 segments: own,
                 doubted: None,
-                name,
             },
             Ok(number),
         ),
@@ -338,7 +337,6 @@ fn appended<F: Send, T: Disk<F>, Z: Sealed<F> + Drop>(
                     toc,
                     segments,
                     doubted,
-                    name,
                 },
                 Err(fault),
             )

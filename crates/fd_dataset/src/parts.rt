@@ -1,7 +1,8 @@
 //! What the board of a dataset keeps: the list that readers get, and the table under the lock.
 ghost use Rattle.std.specs.Prelude.{◌≡◌, ◌≤◌, length};
 ghost use Rattle.std.specs.Arc.{arc_value};
-ghost use Rattle.fd_dataset.specs.Listed.{entries, doubted_entry};
+ghost use Rattle.fd_dataset.specs.Listed.{doubted_entry};
+ghost use Rattle.fd_segment.specs.Shared.{AreOf, entries};
 
 use fd_bytes::{Bytes, NoMemory};
 use fd_disk::{Disk, Sealed};
@@ -11,11 +12,12 @@ use fd_turn::{Guarded, Handed};
 use std::alloc::Global;
 use std::sync::Arc;
 
-/// The listed segments in the order of their entries, and the dataset's text.
+/// The listed segments in the order of their entries, and the text of the dataset, whose they are.
 #[derive(Drop)]
 pub struct Shown<F: Send, Z: Sealed<F> + Drop> {
     pub(crate) list: Vec<Arc<Segment<F, Z>>>,
     pub(crate) name: Bytes,
+    ghost own: { AreOf name list.items },
 }
 
 /// What readers get of the listed segments, which they share.
@@ -25,18 +27,17 @@ pub struct Segments<F: Send, Z: Sealed<F> + Drop> {
     ghost few: { length (arc_value shown).list.items ≤ 65535 },
 }
 
-/// The table of contents, with a list of its own of the same segments, the segment whose entry is in doubt, and the
-/// dataset's text. The entries of its list are those of the table, and a segment is kept as doubted exactly where its
-/// entry is in doubt.
+/// The table of contents, with a list of its own of the same segments, and the segment whose entry is in doubt. The
+/// entries of its list are those of the table, and a segment is kept as doubted exactly where its entry is in doubt.
 #[derive(Drop)]
 pub struct Desk<F: Send, T: Disk<F>, Z: Sealed<F> + Drop> {
     pub(crate) toc: Toc<F, T>,
     pub(crate) segments: Vec<Arc<Segment<F, Z>>>,
     pub(crate) doubted: Option<Arc<Segment<F, Z>>>,
-    pub(crate) name: Bytes,
     ghost listed: { entries segments.items ≡ toc.entries },
     ghost doubt_is: { doubted_entry doubted ≡ toc.doubt },
-    ghost named: { name ≡ T.name toc.table },
+    ghost own: { AreOf toc.dataset segments.items },
+    ghost named: { T.name toc.table ≡ toc.dataset },
 }
 
 impl<F: Send, Z: Sealed<F> + Drop> Handed for Segments<F, Z> {
@@ -61,5 +62,5 @@ impl<F: Send, T: Disk<F>, Z: Sealed<F> + Drop> Guarded for Desk<F, T, Z> {
 
     ghost doubt = { λ d. doubted_listing d.doubted };
 
-    ghost subject = { λ d. T.name d.toc.table };
+    ghost subject = { λ d. d.toc.dataset };
 }

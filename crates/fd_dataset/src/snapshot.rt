@@ -15,7 +15,7 @@ impl<F: Send, Z: Sealed<F> + Drop> Model for Snapshot<F, Z> {
     ghost use Rattle.std.specs.Prelude.{List};
     ghost use Rattle.std.specs.Arc.{arc_value};
     ghost use Rattle.fd_segment.specs.Held.{Standing};
-    ghost use Rattle.fd_dataset.specs.Listed.{standings};
+    ghost use Rattle.fd_segment.specs.Shared.{standings};
 
     ghost Value = { List Standing };
 

@@ -1,4 +1,4 @@
-ghost use Rattle.std.specs.Prelude.{◌≡◌, ◌<◌, ◌≤◌, ◌+◌, ◌-◌, ◌^◌, ◌↔◌, ℕ, IsTrue, length, min, take, drop, [], ◌++◌, ◌⊎◌, Some, IsErr, IfOk, OnErr, vec_len, vec_capacity};
+ghost use Rattle.std.specs.Prelude.{◌≡◌, ◌<◌, ◌≤◌, ◌+◌, ◌-◌, ◌^◌, ◌↔◌, ℕ, IsTrue, length, min, take, drop, [], ◌++◌, ◌⊎◌, Some, IsErr, IfOk, OnOk, OnErr, vec_len, vec_capacity};
 ghost use Rattle.fd_bytes.specs.Causes.{Rose};
 ghost use Rattle.fd_io.specs.Streams.{Gives, IsAtEnd, Takes};
 
@@ -98,6 +98,7 @@ impl Source<MemIoFault> for MemSource {
         ensures end { IfOk result (λ n. n ≡ 0 → source_left self.old ≡ []) }
         ensures kept { OnErr result (source_left self.new ≡ source_left self.old) }
         ensures count { source_faults self.old ≤ source_faults self.new }
+        ensures calm { OnOk result (source_faults self.new ≡ source_faults self.old) }
         ensures cause { OnErr result (Rose (source_faults self.old) (source_faults self.new)) }
 
         // Exactly the planned reads fail.
@@ -175,6 +176,7 @@ impl Sink<MemIoFault> for MemSink {
         ensures took { IfOk result (λ n. sink_taken self.new ≡ sink_taken self.old ++ take n bytes.now) }
         ensures kept { OnErr result (sink_taken self.new ≡ sink_taken self.old) }
         ensures count { sink_faults self.old ≤ sink_faults self.new }
+        ensures calm { OnOk result (sink_faults self.new ≡ sink_faults self.old) }
         ensures cause { OnErr result (Rose (sink_faults self.old) (sink_faults self.new)) }
 
         // Exactly the planned writes fail, and those that meet no room left.

@@ -1,4 +1,5 @@
 use super::*;
+use std::io::{Error, ErrorKind, Read};
 use std::test::Fail;
 
 /// Reads once into a buffer of three octets.
@@ -46,17 +47,37 @@ fn memory(rt: HostRuntime) -> Result<(), Fail> {
 
 #[test]
 fn standard_streams(rt: HostRuntime) -> Result<(), Fail> {
-    let mut source = StdSource {
-        reader: b"GRIB".as_slice(),
-        failed: 0,
-    };
+    let mut source = StdSource::new(b"GRIB".as_slice());
     assert_eq!(rt; read(&mut source).ok(), Some(3));
     assert_eq!(rt; read(&mut source).ok(), Some(1));
-    let mut sink = StdSink {
-        writer: Vec::new(rt.alloc()),
-        failed: 0,
-    };
+    let mut sink = StdSink::new(Vec::new(rt.alloc()));
     assert!(rt; write(&mut sink, b"GRIB").is_ok());
-    assert_eq!(rt; sink.writer.as_slice(), b"GRIB".as_slice());
+    assert_eq!(rt; sink.writer().as_slice(), b"GRIB".as_slice());
+    Ok(())
+}
+
+/// A reader whose first call a signal interrupts, and whose second one fails.
+#[derive(Drop)]
+struct Interrupted {
+    calls: u8,
+}
+
+impl Read for Interrupted {
+    fn read(&mut self, into: &mut [u8]) -> std::io::Result<usize> {
+        self.calls = self.calls.saturating_add(1);
+        match self.calls {
+            1 => Err(Error::from(ErrorKind::Interrupted)),
+            2 => Err(Error::from(ErrorKind::TimedOut)),
+            _ => Ok(into.len().min(1)),
+        }
+    }
+}
+
+#[test]
+fn interrupted_reads_are_made_again(rt: HostRuntime) -> Result<(), Fail> {
+    let mut source = StdSource::new(Interrupted { calls: 0 });
+    let kind = read(&mut source).err().map(|error| error.kind());
+    assert_eq!(rt; kind, Some(ErrorKind::TimedOut));
+    assert_eq!(rt; read(&mut source).ok(), Some(1));
     Ok(())
 }

@@ -7,19 +7,19 @@ use Rattle.fd_listing.specs.declared.fault.TextFault.TheVariants.{Write, NoMemor
 use Rattle.fd_listing.specs.declared.fault.ValuesFault.{ValuesFault}
 use Rattle.fd_listing.specs.declared.fault.ValuesFault.TheVariants as values
 
--- A write failed only where the sink's count of faults rose.
+-- A write failed only where the sink's count of faults rose, and at every other answer the count is as before.
 abbrev pub HasSinkCause : {A X : Type 0} → Result A (TextFault X) → ℕ → ℕ → Type 0
-HasSinkCause (Ok done) before now = Unit {0}
+HasSinkCause (Ok done) before now = now ≡ before
 HasSinkCause (Err (Write fault)) before now = Rose before now
-HasSinkCause (Err NoMemory) before now = Unit {0}
+HasSinkCause (Err NoMemory) before now = now ≡ before
 
 -- the same of the values
 abbrev pub HasValuesCause : {A X : Type 0} → Result A (ValuesFault X) → ℕ → ℕ → Type 0
-HasValuesCause (Ok done) before now = Unit {0}
-HasValuesCause (Err (values.Field fault)) before now = Unit {0}
-HasValuesCause (Err (values.Points points)) before now = Unit {0}
+HasValuesCause (Ok done) before now = now ≡ before
+HasValuesCause (Err (values.Field fault)) before now = now ≡ before
+HasValuesCause (Err (values.Points points)) before now = now ≡ before
 HasValuesCause (Err (values.Write fault)) before now = Rose before now
-HasValuesCause (Err values.NoMemory) before now = Unit {0}
+HasValuesCause (Err values.NoMemory) before now = now ≡ before
 
 -- of a text all was taken but the rest
 pub record TakesAllBut (old new : Option (List ℕ)) (text rest : List ℕ) : Type 0 where

@@ -1,9 +1,8 @@
-pub mod Lists
 pub mod Steps
-pub mod InputLaws
 pub mod Runs
-pub mod WordLaws
-pub mod Endings
 pub mod ListingSteps
 pub mod ListingRuns
-pub mod ListingEndings
+pub mod PickExits
+pub mod ListExits
+pub mod CreatingLemmas
+pub mod CreateExits

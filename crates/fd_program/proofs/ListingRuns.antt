@@ -9,16 +9,16 @@ use Rattle.fd_sections.specs.Splitting.{start, fed, answer, finished}
 use Rattle.fd_sections.specs.declared.refusal.Truncated.{Truncated}
 use Rattle.fd_sections.specs.Stream.{stream, Stream, first, First, Unmarked, Partial, Refuses, Takes as takes}
 use Rattle.fd_sections.proofs.Pieces.{stream-ends, stream-cut}
-use Rattle.fd_program.specs.declared.listing.Listing.{Listing}
+use Rattle.fd_outcome.specs.declared.listing.Listing.{Listing}
 use Rattle.fd_program.specs.declared.listing.Halt.{Halt}
-use Rattle.fd_program.specs.declared.refusal.Refusal.{Refusal}
-use Rattle.fd_program.specs.declared.refusal.Refusal.TheVariants.{Message, Input}
-use Rattle.fd_program.specs.Limits.{input_limit}
-use Rattle.fd_program.specs.Listed.{Listed, ended, before, listed_after, listed}
+use Rattle.fd_outcome.specs.declared.refusal.Refusal.{Refusal}
+use Rattle.fd_outcome.specs.declared.refusal.Refusal.TheVariants.{Message, Input}
+use Rattle.fd_outcome.specs.Limits.{input_limit}
+use Rattle.fd_outcome.specs.Listed.{Listed, ended, before, listed_after, listed}
 use Rattle.fd_program.specs.Found.{IsWaiting}
 use Rattle.fd_program.specs.Halted.{IsCut, IsRefused, IsListed, HaltedAs, Halted, ListedAll}
 use Rattle.fd_program.specs.Run.{Reads, Gone}
-use Rattle.fd_program.proofs.InputLaws.{all_of, front_of, begins_with}
+use Rattle.fd_outcome.proofs.InputLaws.{all_of, front_of, begins_with}
 use Rattle.fd_program.proofs.Runs.{read_on, unmarked, partial, some_left, none_is_none}
 use Rattle.fd_program.proofs.ListingSteps.{joined, halted_behind}
 

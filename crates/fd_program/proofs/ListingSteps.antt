@@ -14,13 +14,13 @@ use Rattle.fd_packing.specs.declared.fault.FieldFault.{FieldFault}
 use Rattle.fd_packing.specs.Packed.{Packed}
 use Rattle.fd_packing.specs.Value.{values_of}
 use Rattle.fd_listing.specs.Values.{values_text, most_points, field_text, IsListed as IsRead, IsTooLarge}
-use Rattle.fd_program.specs.declared.listing.Listing.{Listing}
+use Rattle.fd_outcome.specs.declared.listing.Listing.{Listing}
 use Rattle.fd_program.specs.declared.listing.Halt.{Halt}
 use Rattle.fd_program.specs.declared.listing.Halt.TheVariants as halts
-use Rattle.fd_program.specs.declared.refusal.Refusal.{Refusal}
-use Rattle.fd_program.specs.declared.refusal.Refusal.TheVariants as refusals
-use Rattle.fd_program.specs.Inputs.{refused}
-use Rattle.fd_program.specs.Listed.{Listed, field_lines, message_lines, ended, alone, before, listed_messages, listed_after}
+use Rattle.fd_outcome.specs.declared.refusal.Refusal.{Refusal}
+use Rattle.fd_outcome.specs.declared.refusal.Refusal.TheVariants as refusals
+use Rattle.fd_outcome.specs.Inputs.{refused}
+use Rattle.fd_outcome.specs.Listed.{Listed, field_lines, message_lines, ended, alone, before, listed_messages, listed_after}
 use Rattle.fd_program.specs.Halted.{IsCut, IsRefused, HaltedAs, Halted, IsWritten, ListsOn, ListedOne}
 use Rattle.fd_program.proofs.Steps.{answered, refused_at}
 

@@ -13,10 +13,10 @@ use Rattle.fd_sections.proofs.Pieces.{stream-ends, stream-cut}
 use Rattle.fd_key.specs.Pairs.{Pair}
 use Rattle.fd_program.specs.declared.pick.Last.{Last}
 use Rattle.fd_program.specs.declared.pick.Stop.{Stop}
-use Rattle.fd_program.specs.declared.refusal.Refusal.TheVariants.{Message, Input}
-use Rattle.fd_program.specs.Limits.{input_limit}
-use Rattle.fd_program.proofs.InputLaws.{all_of, front_of, begins_with}
-use Rattle.fd_program.specs.Picking.{found, found_after}
+use Rattle.fd_outcome.specs.declared.refusal.Refusal.TheVariants.{Message, Input}
+use Rattle.fd_outcome.specs.Limits.{input_limit}
+use Rattle.fd_outcome.proofs.InputLaws.{all_of, front_of, begins_with}
+use Rattle.fd_outcome.specs.Picking.{found, found_after}
 use Rattle.fd_program.specs.Found.{IsLast, StoppedAs, Stopped, TookAll, IsWaiting}
 use Rattle.fd_program.specs.Run.{Reads, Searched}
 

@@ -12,11 +12,11 @@ use Rattle.fd_key.specs.declared.fault.KeyFault.{KeyFault}
 use Rattle.fd_key.specs.Pairs.{Pair, has_all}
 use Rattle.fd_key.specs.Keys.{key_of}
 use Rattle.fd_program.specs.declared.pick.Last.{Last}
-use Rattle.fd_program.specs.declared.refusal.Refusal.{Refusal}
-use Rattle.fd_program.specs.declared.refusal.Refusal.TheVariants as refusals
+use Rattle.fd_outcome.specs.declared.refusal.Refusal.{Refusal}
+use Rattle.fd_outcome.specs.declared.refusal.Refusal.TheVariants as refusals
 use Rattle.fd_program.specs.Found.{IsLast, Took, IsConsidered}
-use Rattle.fd_program.specs.Inputs.{refused}
-use Rattle.fd_program.specs.Picking.{found_after, unless, keyless, this_or, last_wanted, has_wanted}
+use Rattle.fd_outcome.specs.Inputs.{refused}
+use Rattle.fd_outcome.specs.Picking.{found_after, unless, keyless, this_or, last_wanted, has_wanted}
 
 abbrev Found : Type 0
 Found = Result (Option Sections) Refusal

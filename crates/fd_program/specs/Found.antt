@@ -5,11 +5,11 @@ use Rattle.fd_sections.specs.Progress.{Progress}
 use Rattle.fd_sections.specs.Splitting.{answer}
 use Rattle.fd_sections.specs.Stream.{first, stream}
 use Rattle.fd_key.specs.Pairs.{Pair}
-use Rattle.fd_program.specs.declared.refusal.Refusal.{Refusal}
+use Rattle.fd_outcome.specs.declared.refusal.Refusal.{Refusal}
 use Rattle.fd_program.specs.declared.pick.Stop.{Stop}
 use Rattle.fd_program.specs.declared.pick.Stop.TheVariants as stop
 use Rattle.fd_program.specs.declared.pick.Last.{Last}
-use Rattle.fd_program.specs.Picking.{found_after}
+use Rattle.fd_outcome.specs.Picking.{found_after}
 
 -- what was found last is this message
 abbrev pub IsLast : Last → Option Sections → Type 0

@@ -3,13 +3,13 @@ use Rattle.std.specs.Prelude.{◌≡◌, ◌≤◌, ℕ, List, ◌++◌, Bool, t
 use Rattle.fd_io.specs.Streams.{Takes, TakesFront}
 use Rattle.fd_sections.specs.Progress.{Progress}
 use Rattle.fd_sections.specs.Stream.{stream}
-use Rattle.fd_program.specs.declared.refusal.Refusal.{Refusal}
-use Rattle.fd_program.specs.declared.listing.Listing.{Listing}
-use Rattle.fd_program.specs.declared.listing.Listing.TheVariants as listings
+use Rattle.fd_outcome.specs.declared.refusal.Refusal.{Refusal}
+use Rattle.fd_outcome.specs.declared.listing.Listing.{Listing}
+use Rattle.fd_outcome.specs.declared.listing.Listing.TheVariants as listings
 use Rattle.fd_program.specs.declared.listing.Halt.{Halt}
 use Rattle.fd_program.specs.declared.listing.Halt.TheVariants as halts
 use Rattle.fd_program.specs.Found.{Measures, IsWaiting}
-use Rattle.fd_program.specs.Listed.{Listed, before, listed_after}
+use Rattle.fd_outcome.specs.Listed.{Listed, before, listed_after}
 
 -- a listing asks for at most 30 decimals
 abbrev pub AreFew : Listing → Type 0

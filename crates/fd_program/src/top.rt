@@ -1,76 +1,109 @@
 // The top call.
-ghost use Rattle.std.specs.Prelude.{◌≡◌, ◌≢◌, ◌⊎◌, ◌≤◌, [], Some, None, IfSome, IsSome, MatchOption};
+ghost use Rattle.std.specs.Prelude.{◌≡◌, ◌⊎◌, ◌≤◌, false, List, ℕ, None, IfSome, MatchOption};
 ghost use Rattle.fd_bytes.specs.Causes.{Rose};
-ghost use Rattle.fd_program.specs.Texts.{texts};
-ghost use Rattle.fd_program.specs.Words.{command_of, HasFewDecimals};
-ghost use Rattle.fd_program.specs.Halted.{AreFew};
-ghost use Rattle.fd_program.specs.Ends.{Runs, Lists, EndsUnasked, Completes};
-ghost use Rattle.fd_program.specs.declared.command.Command.TheVariants.{Pick};
+ghost use Rattle.fd_disk.specs.Folders.{WhereTold};
+ghost use Rattle.fd_words.specs.Texts.{texts};
+ghost use Rattle.fd_words.specs.Words.{command_of, HasFewDecimals, Stands};
+ghost use Rattle.fd_outcome.specs.Ends.{Runs, EndsUnasked, ReadsOut, Calm, Completes, Leaves};
+ghost use Rattle.fd_io.specs.Streams.{Takes};
+ghost use Rattle.fd_outcome.specs.Causes.{table_full};
+ghost use Rattle.fd_outcome.specs.Objects.{object};
+ghost use Rattle.fd_outcome.specs.Ran.{Ran};
 
-use crate::command::{Command, read_command};
-use crate::listing::{Halt, Listing, list};
-use crate::pick::{Stop, last_wanted};
-use crate::report::{tell, tell_no_memory, tell_refusal};
-use crate::status::Status;
-use crate::wanted::Wanted;
-use fd_io::{Sink, Source, write_all};
-use fd_listing::none_given;
+use crate::create::create;
+use crate::streams::{pick, write_list};
+use fd_archive::archive;
+use fd_disk::{Folder, Sealed, Shelf, Store};
+use fd_io::{Sink, Source};
+use fd_outcome::{Listing, Status, tell, tell_no_memory};
+use fd_retrieve::retrieve;
+use fd_words::{Command, read_command};
 use std::alloc::Global;
+use std::sync::Wait;
 
 const USAGE: &str =
     "usage: fdb pick describe values generate create archive retrieve list axes stats session trial\n";
 
-/// Runs the command that the words after the program's name ask for, over an input, an output and a report, each of
-/// which may be a standard stream or an object in memory. The status tells how the run ended, and all but `Done` and
-/// `Missed` write the line that belongs to it on the report.
-pub fn fdb<X: Drop, I: Source<X>, K: Sink<X>, E: Sink<X>>(
+/// Runs the command that the words after the program's name ask for, over a store, an input, an output and a report, each
+/// of which may be real or an object in memory. The status tells how the run ended, and all but `Done` and `Missed` write
+/// the line that belongs to it on the report. No folder of the store is out, and none is out afterwards.
+pub fn fdb<F: Send + Drop, X: Drop, S: Store<F>, I: Source<X>, K: Sink<X>, E: Sink<X>, R: Wait>(
+    rt: &R,
     alloc: Global,
     words: &[&str],
+    store: &mut S,
     input: &mut I,
     output: &mut K,
     report: &mut E,
 ) -> Status
-    // What each status tells of the words, of the input, and of what was written: for a command, by what it makes
-    // of its input; where the words are no command, the usage line.
+where
+    <S::Folder as Folder<F>>::Sealed: Drop,
+    <<S::Folder as Folder<F>>::Sealed as Sealed<F>>::Reader: Drop,
+    <<S::Folder as Folder<F>>::Shelf as Shelf<F>>::File: Drop,
+    <<S::Folder as Folder<F>>::Shelf as Shelf<F>>::Sealed: Drop,
+    requires home { (name : List ℕ) → S.out store.old name ≡ false }
+
+    // What each status tells of the words, of the input, of the store, and of what was written: for a command, by what it
+    // makes of its input and of the store; where the words are no command, the usage line.
     ensures ends { MatchOption (command_of (texts words.now))
-        (EndsUnasked result (K.taken output.old) (K.taken output.new) (E.taken report.old) (E.taken report.new))
-        (λ command. Runs command result (I.left input.old) (K.taken output.old) (K.taken output.new) (E.taken report.old) (E.taken report.new)) }
+        (EndsUnasked result (object (K.taken output.old) (K.taken output.new) (K.faults output.old) (K.faults output.new)) (object (E.taken report.old) (E.taken report.new) (E.faults report.old) (E.faults report.new)))
+        (λ command. Runs command result (object (S.has store.old) (S.has store.new) (S.faults store.old) (S.faults store.new)) (object (I.left input.old) (I.left input.new) (I.faults input.old) (I.faults input.new))
+        (object (K.taken output.old) (K.taken output.new) (K.faults output.old) (K.faults output.new)) (object (E.taken report.old) (E.taken report.new) (E.faults report.old) (E.faults report.new))) }
+
+    // What becomes of the store, where it tells.
+    ensures store { WhereTold (S.has store.old) (S.has store.new) (λ h i. MatchOption (command_of (texts words.now)) (i ≡ h)
+        (λ command. Leaves command result (¬ (Rose (S.faults store.old) (S.faults store.new))) (Takes (E.taken report.old) (E.taken report.new) table_full) (I.left input.old) (I.left input.new) h i)) }
+
+    // Each folder is back in the store.
+    ensures home { (name : List ℕ) → S.out store.new name ≡ false }
 
     // The words are refused only where they are no command.
     ensures words { result ≡ Status.Words → command_of (texts words.now) ≡ None }
 
-    // At 0 and 1 the input was read to its end.
-    ensures to_end { IfSome (I.left input.old) (λ octets. ((result ≡ Status.Done) ⊎ (result ≡ Status.Missed)) → I.left input.new ≡ Some []) }
+    // At 0 and 1 the input was read to its end, where the command reads it.
+    ensures to_end { ((result ≡ Status.Done) ⊎ (result ≡ Status.Missed)) → IfSome (command_of (texts words.now)) (λ command. ReadsOut command (I.left input.old) (I.left input.new)) }
 
-    // Where no count of faults rose, a command ends as its input says, or memory ran out.
+    // At 0, 1, 3 and 9 no read of the input and no write of the output failed.
+    ensures calm { IfSome (command_of (texts words.now)) (λ command. Calm command result (object (I.left input.old) (I.left input.new) (I.faults input.old) (I.faults input.new))
+        (object (K.taken output.old) (K.taken output.new) (K.faults output.old) (K.faults output.new)) (object (E.taken report.old) (E.taken report.new) (E.faults report.old) (E.faults report.new))) }
+
+    // Where no count of faults rose, a command ends as its input and its store say, or memory ran out.
     ensures complete { ¬ (Rose (I.faults input.old) (I.faults input.new)) → ¬ (Rose (K.faults output.old) (K.faults output.new)) → ¬ (Rose (E.faults report.old) (E.faults report.new))
-        → IfSome (command_of (texts words.now)) (λ command. Completes command result (I.left input.old)) }
+        → ¬ (Rose (S.faults store.old) (S.faults store.new))
+        → IfSome (command_of (texts words.now)) (λ command. Completes command result (I.left input.old) (S.has store.old) (S.has store.new)) }
 
     // A fault is told only where a count rose.
     ensures input_fault { result ≡ Status.InputFault → Rose (I.faults input.old) (I.faults input.new) }
     ensures output_fault { result ≡ Status.OutputFault → Rose (K.faults output.old) (K.faults output.new) ⊎ Rose (E.faults report.old) (E.faults report.new) }
+    ensures disk_fault { result ≡ Status.DiskFault → Rose (S.faults store.old) (S.faults store.new) }
 {
     match read_command(alloc, words) {
-        Ok(Some(command)) => run(alloc, &command, input, output, report),
+        Ok(Some(command)) => run(rt, alloc, &command, store, input, output, report),
         Ok(None) => tell(report, USAGE, Status::Words),
         Err(_) => tell_no_memory(report),
     }
 }
 
 /// Runs a command.
-fn run<X: Drop, I: Source<X>, K: Sink<X>, E: Sink<X>>(
+fn run<F: Send + Drop, X: Drop, S: Store<F>, I: Source<X>, K: Sink<X>, E: Sink<X>, R: Wait>(
+    rt: &R,
     alloc: Global,
     command: &Command,
+    store: &mut S,
     input: &mut I,
     output: &mut K,
     report: &mut E,
 ) -> Status
-    requires { HasFewDecimals command.now }
-    ensures ends { Runs command.now result (I.left input.old) (K.taken output.old) (K.taken output.new) (E.taken report.old) (E.taken report.new) }
-    ensures words { result ≢ Status.Words }
-    ensures to_end { IfSome (I.left input.old) (λ octets. ((result ≡ Status.Done) ⊎ (result ≡ Status.Missed)) → I.left input.new ≡ Some []) }
-    ensures input_fault { result ≡ Status.InputFault → Rose (I.faults input.old) (I.faults input.new) }
-    ensures output_fault { result ≡ Status.OutputFault → Rose (K.faults output.old) (K.faults output.new) ⊎ Rose (E.faults report.old) (E.faults report.new) }
+where
+    <S::Folder as Folder<F>>::Sealed: Drop,
+    <<S::Folder as Folder<F>>::Sealed as Sealed<F>>::Reader: Drop,
+    <<S::Folder as Folder<F>>::Shelf as Shelf<F>>::File: Drop,
+    <<S::Folder as Folder<F>>::Shelf as Shelf<F>>::Sealed: Drop,
+    requires home { (name : List ℕ) → S.out store.old name ≡ false }
+    requires few { HasFewDecimals command.now }
+    requires stands { Stands command.now }
+    ensures ran { Ran command.now result (object (S.has store.old) (S.has store.new) (S.faults store.old) (S.faults store.new)) (object (I.left input.old) (I.left input.new) (I.faults input.old) (I.faults input.new)) (object (K.taken output.old) (K.taken output.new) (K.faults output.old) (K.faults output.new)) (object (E.taken report.old) (E.taken report.new) (E.faults report.old) (E.faults report.new)) }
+    ensures home { (name : List ℕ) → S.out store.new name ≡ false }
 {
     match command {
         Command::Pick(wanted) => pick(alloc, wanted, input, output, report),
@@ -78,62 +111,11 @@ fn run<X: Drop, I: Source<X>, K: Sink<X>, E: Sink<X>>(
         Command::Values(decimals) => {
             write_list(alloc, Listing::Points(*decimals), input, output, report)
         }
-    }
-}
-
-/// Runs `pick`.
-fn pick<X: Drop, I: Source<X>, K: Sink<X>, E: Sink<X>>(
-    alloc: Global,
-    wanted: &Wanted,
-    input: &mut I,
-    output: &mut K,
-    report: &mut E,
-) -> Status
-    ensures ends { Runs (Pick wanted.now) result (I.left input.old) (K.taken output.old) (K.taken output.new) (E.taken report.old) (E.taken report.new) }
-    ensures words { result ≢ Status.Words }
-    ensures to_end { IfSome (I.left input.old) (λ octets. ((result ≡ Status.Done) ⊎ (result ≡ Status.Missed)) → I.left input.new ≡ Some []) }
-    ensures input_fault { result ≡ Status.InputFault → Rose (I.faults input.old) (I.faults input.new) }
-    ensures output_fault { result ≡ Status.OutputFault → Rose (K.faults output.old) (K.faults output.new) ⊎ Rose (E.faults report.old) (E.faults report.new) }
-{
-    let Ok(given) = none_given(alloc) else {
-        return tell_no_memory(report);
-    };
-    match last_wanted(alloc, wanted, &given, input) {
-        Ok(last) => {
-            if !last.found {
-                return tell(report, "found 0 missed 1\n", Status::Missed);
-            }
-            match write_all(output, &last.octets) {
-                Ok(()) => tell(report, "found 1 missed 0\n", Status::Done),
-                Err(_) => tell(report, "output failed\n", Status::OutputFault),
-            }
-        }
-        Err(Stop::Fault(_)) => tell(report, "input failed\n", Status::InputFault),
-        Err(Stop::Refused(refusal)) => tell_refusal(alloc, report, refusal),
-        Err(Stop::NoMemory) => tell_no_memory(report),
-    }
-}
-
-/// Runs a command that lists its input.
-fn write_list<X: Drop, I: Source<X>, K: Sink<X>, E: Sink<X>>(
-    alloc: Global,
-    listing: Listing,
-    input: &mut I,
-    output: &mut K,
-    report: &mut E,
-) -> Status
-    requires { AreFew listing }
-    ensures ends { Lists listing result (I.left input.old) (K.taken output.old) (K.taken output.new) (E.taken report.old) (E.taken report.new) }
-    ensures words { result ≢ Status.Words }
-    ensures to_end { IfSome (I.left input.old) (λ octets. ((result ≡ Status.Done) ⊎ (result ≡ Status.Missed)) → I.left input.new ≡ Some []) }
-    ensures input_fault { result ≡ Status.InputFault → Rose (I.faults input.old) (I.faults input.new) }
-    ensures output_fault { result ≡ Status.OutputFault → Rose (K.faults output.old) (K.faults output.new) ⊎ Rose (E.faults report.old) (E.faults report.new) }
-{
-    match list(alloc, listing, input, output) {
-        Ok(()) => Status::Done,
-        Err(Halt::Unread(_)) => tell(report, "input failed\n", Status::InputFault),
-        Err(Halt::Unwritten(_)) => tell(report, "output failed\n", Status::OutputFault),
-        Err(Halt::Refused(refusal)) => tell_refusal(alloc, report, refusal),
-        Err(Halt::NoMemory) => tell_no_memory(report),
+        Command::Create(root) => create(alloc, root, store, input, report),
+        Command::Archive(root, given) => archive(rt, alloc, root, given, store, input, report),
+        Command::Retrieve(root) => retrieve(rt, alloc, root, store, input, output, report),
+        Command::List(_) => unreachable!(),
+        Command::Axes(_) => unreachable!(),
+        Command::Stats(_) => unreachable!(),
     }
 }

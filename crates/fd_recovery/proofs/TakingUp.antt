@@ -2,7 +2,7 @@
 use Rattle.std.proofs.Common.{◌≡◌, Bool, ℕ, zero, suc, ◌+◌, ◌<◌, List, [], ◌∷◌, ◌++◌, map, length, take, drop, get_or, All, refl, sym, ◌∙◌, ap, subst, arith, take-append-drop, Option, Some, None, Ok, IfSome, is_some, true, option_map}
 use Rattle.std.proofs.lemmas.List.{drop_more, map-append, take_more}
 use Rattle.std.proofs.lemmas.Simd.{map-map}
-use Rattle.std.proofs.lemmas.List.Elements.{All-append}
+use Rattle.std.proofs.lemmas.List.Elements.{All-append, All-nil, All-cons, All-head, All-tail}
 use Rattle.std.proofs.lemmas.Grind.{flat_map-append}
 use Rattle.std.specs.Arc.{arc_value}
 use Rattle.std.specs.declared.sync.Arc.{Arc}
@@ -17,7 +17,8 @@ use Rattle.fd_recovery.specs.declared.fault.FileFault.{FileFault}
 use Rattle.fd_recovery.specs.declared.fault.FileFault.TheVariants.{Disk, Damaged, NoMemory}
 use Rattle.fd_recovery.specs.Causes.{OnFileDamaged}
 use Rattle.fd_recovery.specs.Damages.{IsFirst, damages, damages_at, damages_of, field_file, index_file}
-use Rattle.fd_recovery.specs.Recovered.{AreTakenUp, IsNamed, all_of, batches_listed, files_of, held, held_by, standings}
+use Rattle.fd_recovery.specs.Recovered.{AreTakenUp, IsNamed, all_of, batches_listed, files_of, held, held_by}
+use Rattle.fd_segment.specs.Shared.{AreOf, entries, entry_of, standings}
 
 pub none_taken : (dataset : List ℕ) (has : Option Contents) → AreTakenUp dataset has [] []
 none_taken dataset has = record { entries = refl; named = λ k d lt. absurd (omega arith); files = go has }
@@ -109,3 +110,20 @@ held_taken dataset (Some v) now es segments is b is_true some lists files =
     go : (t : Option File) → true ≡ is_some t → IfSome t (λ f. listed dataset f.reads ≡ Ok es) → all_of (map (λ (e : Entry). batch_of (files_of v.files e)) es) ≡ held_by dataset v.files t
     go None some lists = absurd (cc some)
     go (Some f) some lists = ap (batches_listed v.files) (sym lists)
+
+-- what was taken up, as shared segments
+module _ {A : Type 0} where
+  listed_each : (xs : List (Arc Standing A)) → map (λ (s : Standing). s.files.entry) (standings xs) ≡ entries xs
+  listed_each [] = refl
+  listed_each (x ∷ xs) = ap (λ (l : List Entry). entry_of x ∷ l) (listed_each xs)
+
+  named_own : (name : List ℕ) (xs : List (Arc Standing A)) → All (IsNamed name) (standings xs) → AreOf name xs
+  named_own name [] all = All-nil _
+  named_own name (x ∷ xs) all =
+      All-cons (λ (a : Arc Standing A). (arc_value a).dataset ≡ name) x xs ((All-head (IsNamed name) (arc_value x) (standings xs) all).dataset_is) (named_own name xs (All-tail (IsNamed name) (arc_value x) (standings xs) all))
+
+  pub each_taken : (dataset : List ℕ) (has : Option Contents) (es : List Entry) (xs : List (Arc Standing A)) → AreTakenUp dataset has es (standings xs) → entries xs ≡ es
+  each_taken dataset has es xs taken = sym (listed_each xs) ∙ taken.entries
+
+  pub own_taken : (dataset name : List ℕ) (has : Option Contents) (es : List Entry) (xs : List (Arc Standing A)) → dataset ≡ name → AreTakenUp dataset has es (standings xs) → AreOf name xs
+  own_taken dataset name has es xs is taken = subst (λ (n : List ℕ). AreOf n xs) is (named_own dataset xs taken.named)

@@ -1,7 +1,5 @@
 -- A dataset that was opened.
 use Rattle.std.specs.Prelude.{◌≡◌, ℕ, List, [], ◌∷◌, map, All, Option, Some, None, Result, Ok, Err, IfSome, option_map}
-use Rattle.std.specs.Arc.{arc_value}
-use Rattle.std.specs.declared.sync.Arc.{Arc}
 use Rattle.fd_bytes.specs.Causes.{Rose}
 use Rattle.fd_disk.specs.declared.file.File.{File}
 use Rattle.fd_disk.specs.declared.folders.FileName.{FileName}
@@ -13,13 +11,6 @@ use Rattle.fd_core.specs.declared.table.NotATable.{NotATable}
 use Rattle.fd_core.specs.Table.{listed}
 use Rattle.fd_segment.specs.Held.{Files, Standing, batch_of}
 use Rattle.fd_recovery.specs.Damages.{field_file, index_file}
-
--- what shared segments are
-abbrev pub standings : {A : Type 0} → List (Arc Standing A) → List Standing
-standings segments = map arc_value segments
-
-abbrev pub entries_of : List Standing → List Entry
-entries_of segments = map (λ s. s.files.entry) segments
 
 -- the two files of an entry
 abbrev pub files_of : (FileName → Option (List ℕ)) → Entry → Files
@@ -33,7 +24,7 @@ pub record IsNamed (dataset : List ℕ) (s : Standing) : Type 0 where
 
 -- One segment for each entry, in order, with the files that the folder has under the entry's names.
 pub record AreTakenUp (dataset : List ℕ) (has : Option Contents) (es : List Entry) (segments : List Standing) : Type 0 where
-  pub entries : entries_of segments ≡ es
+  pub entries : map (λ s. s.files.entry) segments ≡ es
   pub named : All (IsNamed dataset) segments
   pub files : IfSome has (λ v. map (λ s. s.files) segments ≡ map (files_of v.files) es)
 
@@ -41,11 +32,17 @@ pub record AreTakenUp (dataset : List ℕ) (has : Option Contents) (es : List En
 abbrev pub with_firm_table : Contents → Contents
 with_firm_table v = record { table = option_map synced v.table; files = v.files }
 
--- The table that the folder handed out failed before it came back.
-pub record TableFailed {T : Type 0} (file : T → Option File) (faults : T → ℕ) (has : Option Contents) : Type 0 where
+-- there is a table, of which this holds
+abbrev pub WithTable : Option File → (File → Type 0) → Type 0
+WithTable (Some f) P = P f
+WithTable None P = ⊥
+
+-- The table that the folder handed out failed before it came back: it was the folder's, and the folder has it now.
+pub record TableFailed {T : Type 0} (file : T → Option File) (faults : T → ℕ) (old new : Option Contents) : Type 0 where
   pub given : T
   pub back : T
-  pub is : IfSome has (λ v. file given ≡ v.table)
+  pub is : IfSome old (λ v. file given ≡ v.table)
+  pub left : IfSome new (λ v. file back ≡ v.table)
   pub rose : Rose (faults given) (faults back)
 
 -- each of these batches, or none where one of them is none

@@ -4,12 +4,13 @@ ghost use Rattle.fd_disk.specs.Folders.{without_table};
 ghost use Rattle.fd_disk.specs.Images.{synced};
 ghost use Rattle.fd_disk.specs.Moments.{MayLeave};
 ghost use Rattle.fd_core.specs.declared.table.Entry.{Entry};
-ghost use Rattle.fd_core.specs.Table.{listed};
+ghost use Rattle.fd_core.specs.Table.{AllFit, listed};
 ghost use Rattle.fd_segment.specs.Held.{batch_of};
+ghost use Rattle.fd_segment.specs.Shared.{AreOf, entries, standings};
 ghost use Rattle.fd_toc.specs.Lists.{Lists};
 ghost use Rattle.fd_recovery.specs.Causes.{IsOfTable, NotTooMany, OnDamaged, OnDisk, OnNotATable};
 ghost use Rattle.fd_recovery.specs.Damages.{IsFirst, damages};
-ghost use Rattle.fd_recovery.specs.Recovered.{AreTakenUp, TableFailed, all_of, held, standings, with_firm_table};
+ghost use Rattle.fd_recovery.specs.Recovered.{AreTakenUp, TableFailed, WithTable, all_of, held, with_firm_table};
 
 use crate::OpenFault;
 use crate::fault::FileFault;
@@ -30,10 +31,12 @@ pub struct Recovered<F: Send, D: Folder<F>> {
 
 /// Opens the dataset of this folder, whose table isn't out, or answers `None` exactly where there is no table. The table
 /// is synced and read; then the files of each entry are looked at in the order of the table, the field file before the
-/// index file, and of each file whether it is there before how long it is. Nothing else of them is read. `Disk` comes only
-/// where the folder's count of faults rose, or its table's; `NotATable` and `Damaged` come exactly where the bytes are no
-/// table, or a listed file is absent or shorter than listed, and name the first such place or file. After a refusal the
-/// folder has its table back.
+/// index file, and of each file whether it is there before how long it is. Nothing else of them is read. What comes back
+/// is as `Dataset::new` asks.
+///
+/// `Disk` comes only where the folder's count of faults rose, or that of its table, which the folder has back;
+/// `NotATable` and `Damaged` come exactly where the bytes are no table, or a listed file is absent or shorter than listed,
+/// and name the first such place or file. After a refusal the folder has its table back.
 pub fn recover<F: Send, D: Folder<F>>(
     alloc: Global,
     folder: &mut D,
@@ -49,14 +52,17 @@ where
     ensures file { IfOk result (λ o. IfSome o (λ r. IfSome (D.has folder.old) (λ v. D.Table.file r.toc.table ≡ option_map synced v.table))) }
     ensures images { IfOk result (λ o. IfSome o (λ r. (c : List ℕ) → MayLeave (D.Table.file r.toc.table) c → Lists dataset.now r.toc.entries c)) }
     ensures few { IfOk result (λ o. IfSome o (λ r. length r.toc.entries ≤ 65535)) }
+    ensures fit { IfOk result (λ o. IfSome o (λ r. AllFit 0 r.toc.entries)) }
     ensures table_name { IfOk result (λ o. IfSome o (λ r. D.Table.name r.toc.table ≡ dataset.now)) }
+    ensures each { IfOk result (λ o. IfSome o (λ r. entries r.segments.items ≡ r.toc.entries)) }
+    ensures own { IfOk result (λ o. IfSome o (λ r. AreOf (D.Table.name r.toc.table) r.segments.items)) }
     ensures segments { IfOk result (λ o. IfSome o (λ r. AreTakenUp dataset.now (D.has folder.old) r.toc.entries (standings r.segments.items))) }
     ensures sound { IfOk result (λ o. IfSome o (λ r. IfSome (D.has folder.old) (λ v. damages v.files r.toc.entries ≡ []))) }
     ensures held { IfOk result (λ o. IfSome o (λ r. IfSome (D.has folder.old) (λ v. all_of (map (λ s. batch_of s.files) (standings r.segments.items)) ≡ held dataset.now v))) }
-    ensures not_a_table { IfErr result (λ e. OnNotATable e (λ fault. IfSome (D.has folder.old) (λ v. IfSome v.table (λ f. listed dataset.now f.reads ≡ Err fault)))) }
-    ensures damaged { IfErr result (λ e. OnDamaged e (λ d. IfSome (D.has folder.old) (λ v. IfSome v.table (λ f. (es : List Entry) × (listed dataset.now f.reads ≡ Ok es) × IsFirst d (damages v.files es))))) }
+    ensures not_a_table { IfErr result (λ e. OnNotATable e (λ fault. IfSome (D.has folder.old) (λ v. WithTable v.table (λ f. listed dataset.now f.reads ≡ Err fault)))) }
+    ensures damaged { IfErr result (λ e. OnDamaged e (λ d. IfSome (D.has folder.old) (λ v. WithTable v.table (λ f. (es : List Entry) × (listed dataset.now f.reads ≡ Ok es) × IsFirst d (damages v.files es))))) }
     ensures never { IfErr result NotTooMany }
-    ensures cause { IfErr result (λ e. OnDisk e (Rose (D.faults folder.old) (D.faults folder.new) ⊎ TableFailed D.Table.file D.Table.faults (D.has folder.old))) }
+    ensures cause { IfErr result (λ e. OnDisk e (Rose (D.faults folder.old) (D.faults folder.new) ⊎ TableFailed D.Table.file D.Table.faults (D.has folder.old) (D.has folder.new))) }
     ensures out { IfOk result (λ o. D.table_out folder.new ≡ is_some o) }
     ensures out_err { OnErr result (D.table_out folder.new ≡ false) }
     ensures has { OnOk result (D.has folder.new ≡ option_map without_table (D.has folder.old)) }
@@ -97,10 +103,11 @@ fn load_table<F: Send, D: Folder<F>>(
     ensures file { IfOk result (λ o. IfSome o (λ toc. IfSome (D.has folder.old) (λ v. D.Table.file toc.table ≡ option_map synced v.table))) }
     ensures images { IfOk result (λ o. IfSome o (λ toc. (c : List ℕ) → MayLeave (D.Table.file toc.table) c → Lists dataset.now toc.entries c)) }
     ensures few { IfOk result (λ o. IfSome o (λ toc. length toc.entries ≤ 65535)) }
+    ensures fit { IfOk result (λ o. IfSome o (λ toc. AllFit 0 toc.entries)) }
     ensures table_name { IfOk result (λ o. IfSome o (λ toc. D.Table.name toc.table ≡ dataset.now)) }
-    ensures not_a_table { IfErr result (λ e. OnNotATable e (λ fault. IfSome (D.has folder.old) (λ v. IfSome v.table (λ f. listed dataset.now f.reads ≡ Err fault)))) }
+    ensures not_a_table { IfErr result (λ e. OnNotATable e (λ fault. IfSome (D.has folder.old) (λ v. WithTable v.table (λ f. listed dataset.now f.reads ≡ Err fault)))) }
     ensures never { IfErr result IsOfTable }
-    ensures cause { IfErr result (λ e. OnDisk e (Rose (D.faults folder.old) (D.faults folder.new) ⊎ TableFailed D.Table.file D.Table.faults (D.has folder.old))) }
+    ensures cause { IfErr result (λ e. OnDisk e (Rose (D.faults folder.old) (D.faults folder.new) ⊎ TableFailed D.Table.file D.Table.faults (D.has folder.old) (D.has folder.new))) }
     ensures out { IfOk result (λ o. D.table_out folder.new ≡ is_some o) }
     ensures out_err { OnErr result (D.table_out folder.new ≡ false) }
     ensures has { OnOk result (D.has folder.new ≡ option_map without_table (D.has folder.old)) }

@@ -2,7 +2,8 @@ ghost use Rattle.std.specs.Prelude.{◌≡◌, ◌≤◌, [], IfOk, IfErr, IfSom
 ghost use Rattle.fd_bytes.specs.Causes.{Rose};
 ghost use Rattle.fd_recovery.specs.Causes.{OnFileDamaged, OnFileDisk};
 ghost use Rattle.fd_recovery.specs.Damages.{IsFirst, damages, damages_at, field_file, index_file};
-ghost use Rattle.fd_recovery.specs.Recovered.{AreTakenUp, IsNamed, files_of, standings};
+ghost use Rattle.fd_recovery.specs.Recovered.{AreTakenUp, IsNamed, files_of};
+ghost use Rattle.fd_segment.specs.Shared.{standings};
 
 use crate::fault::FileFault;
 use crate::files::listed_file;

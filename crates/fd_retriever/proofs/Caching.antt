@@ -1,5 +1,5 @@
 -- What a cache keeps, as what contracts see of it.
-use Rattle.std.proofs.Common.{◌≡◌, ◌∙◌, ℕ, true, List, [], ◌∷◌, map, Some, Result, Ok, Err, OnOk, OnErr, ◌⊎◌, inl, inr, Contains, nat_eq, sym, ap, subst}
+use Rattle.std.proofs.Common.{◌≡◌, ◌∙◌, ℕ, true, List, [], ◌∷◌, map, Option, None, Some, IfSome, Result, Ok, Err, OnOk, OnErr, ◌⊎◌, inl, inr, Contains, nat_eq, sym, ap, subst}
 use Rattle.std.proofs.lemmas.Bool.{eqb-true}
 use Rattle.std.specs.Map.{lookup, remove_entry}
 use Rattle.lru.specs.LruCache.{LruCache, lru_cache, put_entries}
@@ -31,6 +31,16 @@ pub taken_out : (es : List (ℕ × Opened)) (number : ℕ) (lens : Opened) → S
 taken_out es number lens found =
     let at = Contains-lookup (nat_eq number) es lens (sym found) in
     subst (λ (n : ℕ). Contains (map kept_of es) (record { number = n; files = lens.files })) (sym (eqb-true number at.0 at.2)) (to_map kept_of es (at.0, lens) at.1)
+
+-- the same, where it isn't known whether one was kept
+pub taken_maybe : (es : List (ℕ × Opened)) (number : ℕ) (o : Option Opened) → o ≡ lookup (nat_eq number) es → IfSome o (λ l. Contains (map kept_of es) (record { number = number; files = l.files }))
+taken_maybe es number None found = tt
+taken_maybe es number (Some lens) found = taken_out es number lens found
+
+-- and its index was read
+pub read_maybe : (es : List (ℕ × Opened)) (number : ℕ) (o : Option Opened) → o ≡ lookup (nat_eq number) es → AllRead (map kept_of es) → IfSome o (λ l. Reads l.files)
+read_maybe es number None found all = tt
+read_maybe es number (Some lens) found all = all (record { number = number; files = lens.files }) (taken_out es number lens found)
 
 pub left_kept : (es : List (ℕ × Opened)) (number : ℕ) (k : Kept) → Contains (map kept_of (remove_entry (nat_eq number) es)) k → Contains (map kept_of es) k
 left_kept es number k has =

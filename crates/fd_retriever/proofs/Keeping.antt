@@ -7,9 +7,6 @@ use Rattle.lru.proofs.Splits.{Contains-nil}
 use Rattle.fd_core.specs.declared.batch.Listing.{Listing}
 use Rattle.fd_segment.specs.Held.{Files, Standing, batch_of}
 use Rattle.fd_dataset.specs.Listed.{listing, listing_in}
-use Rattle.std.specs.Prelude.{Result, Ok, Err, IfErr}
-use Rattle.fd_segment.specs.Causes.{IsBeyond}
-use Rattle.fd_retriever.specs.declared.fault.Got.{Got}
 use Rattle.fd_retriever.specs.declared.fault.FetchFault.{FetchFault}
 use Rattle.fd_retriever.specs.declared.fault.FetchFault.TheVariants.{Disk, Write, Damaged, NoMemory}
 use Rattle.fd_retriever.specs.Answers.{OnDamaged, SomeUntold, StandsAmong, StandsIn}
@@ -71,27 +68,21 @@ kept_again before left after n used lens own same from less cases k has = go (ca
     go (inr is) (inl there) = inl (subst (Contains before) (sym (is ∙ ap (λ (f : Files). record { number = n; files = f }) same)) there)
     go (inr is) (inr opened) = inr (is ∙ ap (λ (f : Files). record { number = n; files = f }) (same ∙ opened))
 
--- a record that ends beyond in what was used ends beyond in the segment's own files, where what is kept reads these
-pub beyond_own : {F X : Type 0} (r : Result Got (FetchFault F X)) (before : List Kept) (n : ℕ) (lens own : Files) (key : List ℕ) → Contains before (record { number = n; files = lens }) ⊎ (lens ≡ own) → IfErr r (λ e. OnDamaged e (IsBeyond lens.entry lens.index key))
-    → IfErr r (λ e. OnDamaged e (λ d. ((f : Files) → Contains before (record { number = n; files = f }) → f ≡ own) → StandsIn own key d))
-beyond_own (Ok got) before n lens own key from beyond = tt
-beyond_own (Err (Disk f)) before n lens own key from beyond = tt
-beyond_own (Err (Write x)) before n lens own key from beyond = tt
-beyond_own (Err NoMemory) before n lens own key from beyond = tt
-beyond_own (Err (Damaged d)) before n lens own key from beyond = λ those. inr (subst (λ (f : Files). IsBeyond f.entry f.index key d) (go from those) beyond)
+-- what is kept after two steps was kept before both, or came in the second
+pub kept_more : (before left after : List Kept) (n : ℕ) (own : Files) → ((k : Kept) → Contains left k → Contains before k) → ((k : Kept) → Contains after k → Contains left k ⊎ (k ≡ record { number = n; files = own }))
+    → (k : Kept) → Contains after k → Contains before k ⊎ (k ≡ record { number = n; files = own })
+kept_more before left after n own less cases k has = go (cases k has)
   where
-    go : Contains before (record { number = n; files = lens }) ⊎ (lens ≡ own) → ((f : Files) → Contains before (record { number = n; files = f }) → f ≡ own) → lens ≡ own
-    go (inl there) those = those lens there
-    go (inr opened) those = opened
+    go : Contains left k ⊎ (k ≡ record { number = n; files = own }) → Contains before k ⊎ (k ≡ record { number = n; files = own })
+    go (inl was) = inl (less k was)
+    go (inr is) = inr is
 
 -- damage of the segment of a number is damage among all
-pub damaged_among : {F X : Type 0} (e : FetchFault F X) (first kept : List Kept) (ss : List Standing) (n : ℕ) (s : Standing) (key same : List ℕ) → key ≡ same → IsNumbered ss n s → (AreThose first ss → AreThose kept ss)
-    → OnDamaged e (λ d. ((f : Files) → Contains kept (record { number = n; files = f }) → f ≡ s.files) → StandsIn s.files key d) → OnDamaged e (λ d. AreThose first ss → StandsAmong ss same d)
-damaged_among (Disk f) first kept ss n s key same is at those damage = tt
-damaged_among (Write x) first kept ss n s key same is at those damage = tt
-damaged_among NoMemory first kept ss n s key same is at those damage = tt
-damaged_among (Damaged d) first kept ss n s key same is at those damage = λ before.
-    (n, s, at, subst (λ (k : List ℕ). StandsIn s.files k d) is (damage (those_at kept ss n s (those before) at)))
+pub damaged_among : {F X : Type 0} (e : FetchFault F X) (ss : List Standing) (n : ℕ) (s : Standing) (key same : List ℕ) → key ≡ same → IsNumbered ss n s → OnDamaged e (StandsIn s.files key) → OnDamaged e (StandsAmong ss same)
+damaged_among (Disk f) ss n s key same is at damage = tt
+damaged_among (Write x) ss n s key same is at damage = tt
+damaged_among NoMemory ss n s key same is at damage = tt
+damaged_among (Damaged d) ss n s key same is at damage = (n, s, at, subst (λ (k : List ℕ). StandsIn s.files k d) is damage)
 
 pub untold_among : {F X : Type 0} (e : FetchFault F X) (ss : List Standing) (n : ℕ) (s : Standing) → IsNumbered ss n s → OnDamaged e (λ _. batch_of s.files ≡ None) → OnDamaged e (λ _. SomeUntold (map listing ss))
 untold_among (Disk f) ss n s at none = tt

@@ -30,16 +30,6 @@ says_found f key at len reads place inside = go f.index reads place
     go None reads place = tt
     go (Some bytes) reads place = let read = read_as (records_in f.entry bytes) reads in (read.0, at, read.1, sym (place read.0 read.1), inside)
 
--- what was used is what the segment's own index says, where what is kept reads it
-pub says_own : {E : Type 0} (r : Result Got E) (before : List Kept) (n : ℕ) (lens own : Files) (key : List ℕ) → Contains before (record { number = n; files = lens }) ⊎ (lens ≡ own) → IfOk r (Says lens key)
-    → IfOk r (λ got. ((f : Files) → Contains before (record { number = n; files = f }) → f ≡ own) → Says own key got)
-says_own (Err e) before n lens own key from says = tt
-says_own (Ok got) before n lens own key from says = λ those. subst (λ (f : Files). Says f key got) (go from those) says
-  where
-    go : Contains before (record { number = n; files = lens }) ⊎ (lens ≡ own) → ((f : Files) → Contains before (record { number = n; files = f }) → f ≡ own) → lens ≡ own
-    go (inl there) those = those lens there
-    go (inr opened) those = opened
-
 -- there is none behind the last
 pub lack_at_end : (ss : List Standing) (key : List ℕ) (n : ℕ) → length ss ≤ n → LackBehind ss key n
 lack_at_end ss key n long = λ m s past at. absurd (let lt = slice_get_within ss (m - 1) s at.1 in omega (arith, lt, past, long, at.0))

@@ -1,5 +1,5 @@
 -- What a fetch answers, and why it refuses.
-use Rattle.std.specs.Prelude.{◌≡◌, ◌⊎◌, ◌<◌, ◌≤◌, ◌+◌, ℕ, List, length, map, Option, Some, None, Ok, IfSome, IsOk, Contains}
+use Rattle.std.specs.Prelude.{◌≡◌, ◌⊎◌, ◌<◌, ◌≤◌, ◌+◌, ℕ, List, length, map, Option, Some, None, Result, Ok, Err, IfSome, IsOk, Contains}
 use Rattle.fd_io.specs.Streams.{Takes, TakesFront}
 use Rattle.fd_core.specs.declared.batch.Pair.{Pair}
 use Rattle.fd_core.specs.declared.batch.Listing.{Listing}
@@ -54,6 +54,14 @@ module _ {F X : Type 0} where
   Unwritten (Write x) P = Unit {0}
   Unwritten (Damaged d) P = P
   Unwritten NoMemory P = P
+
+  -- the answer isn't a fault of the sink
+  abbrev pub UnlessWrite : {G : Type 0} → Result G (FetchFault F X) → Type 0 → Type 0
+  UnlessWrite (Ok got) P = P
+  UnlessWrite (Err (Disk f)) P = P
+  UnlessWrite (Err (Write x)) P = Unit {0}
+  UnlessWrite (Err (Damaged d)) P = P
+  UnlessWrite (Err NoMemory) P = P
 
 -- the index is in its format, where told
 abbrev pub Reads : Files → Type 0

@@ -6,7 +6,7 @@ ghost use Rattle.fd_schema.specs.Rules.{file_key};
 ghost use Rattle.fd_schema.specs.Reading.{seen_place};
 ghost use Rattle.fd_dataset.specs.Listed.{listing};
 ghost use Rattle.fd_retriever.specs.Kept.{AreThose, Fits};
-ghost use Rattle.fd_retriever.specs.Answers.{AllSay, IsAnswer, OnDamaged, OnWrite, SomeUntold, StandsAmong, Tells, TookAsMany, TookFront, Unwritten};
+ghost use Rattle.fd_retriever.specs.Answers.{AllSay, IsAnswer, OnDamaged, OnWrite, SomeUntold, StandsAmong, Tells, TookAsMany, TookFront, UnlessWrite, Unwritten};
 
 use crate::fault::{FetchFault, Got};
 use crate::lenses::Lenses;
@@ -22,9 +22,9 @@ use std::alloc::Global;
 /// snapshot, as new lenses do, and as those do that fitted an earlier snapshot of the same pass.
 ///
 /// `Disk` comes only with the fault of a file's call in this fetch: segments are shared, so there is no count of faults
-/// to name, and no code here can make or copy a fault. `Write` comes only where the sink's count of faults rose. `Damaged`
-/// never comes where each segment stands for a batch; the damage stands in one of the segments where what was kept reads
-/// the snapshot's own files. After a refusal a front of the newest message was written, and nothing at `Damaged` and
+/// to name, and no code here can make or copy a fault. `Write` comes only where the sink's count of faults rose, and at
+/// each other answer the count is as before. `Damaged` never comes where each segment stands for a batch, and the damage
+/// stands in one of the segments. After a refusal a front of the newest message was written, and nothing at `Damaged` and
 /// `NoMemory`.
 pub fn fetch<F: Send, Z: Sealed<F> + Drop, X, K: Sink<X>>(
     alloc: Global,
@@ -43,9 +43,10 @@ where
     ensures took { IfOk result (TookAsMany (K.taken sink.old) (K.taken sink.new)) }
     ensures err { IfErr result (λ _. (t : List (List Pair)) → Tells (map listing snapshot.now) t → TookFront (newest t (file_key (seen_place place.now))) (K.taken sink.old) (K.taken sink.new)) }
     ensures unwritten { IfErr result (λ e. Unwritten e (K.taken sink.new ≡ K.taken sink.old)) }
-    ensures damaged { IfErr result (λ e. OnDamaged e (λ d. AreThose lenses.old snapshot.now → StandsAmong snapshot.now (file_key (seen_place place.now)) d)) }
+    ensures damaged { IfErr result (λ e. OnDamaged e (StandsAmong snapshot.now (file_key (seen_place place.now)))) }
     ensures sound { IfErr result (λ e. OnDamaged e (λ _. SomeUntold (map listing snapshot.now))) }
     ensures sink { K.faults sink.old ≤ K.faults sink.new }
+    ensures calm { UnlessWrite result (K.faults sink.new ≡ K.faults sink.old) }
     ensures write { IfErr result (λ e. OnWrite e (Rose (K.faults sink.old) (K.faults sink.new))) }
 {
     let Ok(key) = place.file_key(alloc) else {

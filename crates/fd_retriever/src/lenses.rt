@@ -1,5 +1,4 @@
-ghost use Rattle.std.specs.Prelude.{◌≡◌, ◌≤◌, ◌⊎◌, List, [], length, Contains, IfOk, IfErr};
-ghost use Rattle.fd_segment.specs.Causes.{IsBadIndex, OnDamaged};
+ghost use Rattle.std.specs.Prelude.{◌≡◌, ◌≤◌, ◌⊎◌, List, [], length, Contains, IfOk, IfSome};
 ghost use Rattle.fd_core.specs.declared.batch.Listing.{Listing};
 ghost use Rattle.fd_segment.specs.Held.{Standing};
 ghost use Rattle.fd_retriever.specs.Kept.{AreThose, Fits, Kept};
@@ -7,7 +6,7 @@ ghost use Rattle.fd_retriever.specs.Answers.{Reads};
 
 use fd_bytes::NoMemory;
 use fd_disk::Sealed;
-use fd_segment::{Lens, LensFault, Segment};
+use fd_segment::Lens;
 use lru::LruCache;
 use std::alloc::Global;
 use std::marker::Model;
@@ -70,22 +69,13 @@ where
         self.cache.len()
     }
 
-    /// Takes the opened segment of a number out, or opens the segment where none is kept.
-    pub(crate) fn take(
-        &mut self,
-        alloc: Global,
-        segment: &Segment<F, Z>,
-        number: u32,
-    ) -> Result<Lens<F, Z::Reader>, LensFault<F>>
-        ensures files { IfOk result (λ l. Contains self.old (record { number = number; files = l.files }) ⊎ (l.files ≡ segment.now.files)) }
-        ensures read { IfOk result (λ l. Reads l.files) }
-        ensures damaged { IfErr result (λ e. OnDamaged e (IsBadIndex segment.now.files.entry segment.now.files.index)) }
+    /// Takes the opened segment of a number out, where one is kept.
+    pub(crate) fn take(&mut self, number: u32) -> Option<Lens<F, Z::Reader>>
+        ensures files { IfSome result (λ l. Contains self.old (record { number = number; files = l.files })) }
+        ensures read { IfSome result (λ l. Reads l.files) }
         ensures kept { (k : Kept) → Contains self.new k → Contains self.old k }
     {
-        if let Some(lens) = self.cache.pop(&number) {
-            return Ok(lens);
-        }
-        segment.lens(alloc)
+        self.cache.pop(&number)
     }
 
     /// Keeps an opened segment under its number, whose index was read. Where there is no memory it is let go.

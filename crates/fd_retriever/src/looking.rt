@@ -1,4 +1,4 @@
-ghost use Rattle.std.specs.Prelude.{◌≡◌, ◌≤◌, ◌⊎◌, List, Some, None, Contains, IfOk, IfErr};
+ghost use Rattle.std.specs.Prelude.{◌≡◌, ◌≤◌, ◌⊎◌, List, Some, None, Contains, IfOk, IfErr, OnErr};
 ghost use Rattle.fd_bytes.specs.Causes.{Rose};
 ghost use Rattle.fd_core.specs.declared.batch.Pair.{Pair};
 ghost use Rattle.fd_core.specs.Batches.{of_batch};
@@ -6,48 +6,53 @@ ghost use Rattle.fd_segment.specs.Causes.{IsBeyond};
 ghost use Rattle.fd_segment.specs.Held.{Files, batch_of};
 ghost use Rattle.fd_dataset.specs.Listed.{listing_in};
 ghost use Rattle.fd_retriever.specs.Kept.{Kept};
-ghost use Rattle.fd_retriever.specs.Answers.{IsAnswer, OnDamaged, OnWrite, Reads, Says, StandsIn, TookAsMany, TookFront, Unwritten};
+ghost use Rattle.fd_retriever.specs.Answers.{IsAnswer, OnDamaged, OnWrite, Reads, Says, StandsIn, TookAsMany, TookFront, UnlessWrite, Unwritten};
 
 use crate::fault::{FetchFault, Got};
 use crate::lenses::Lenses;
 use fd_disk::{Reader, Sealed};
 use fd_io::Sink;
-use fd_segment::{CopyFault, Lens, LensFault, Segment};
+use fd_segment::{CopyFault, Damage, Lens, LensFault, Segment};
 use std::alloc::Global;
 
-/// Looks a key up in an opened segment, and copies its bytes into the sink.
+/// Looks a key up in an opened segment, and copies its bytes into the sink, or tells what is wrong with the segment, and
+/// then nothing was written.
 fn copied<F: Send, R: Reader<F>, X, K: Sink<X>>(
     lens: &mut Lens<F, R>,
     key: &[u8],
     sink: &mut K,
-) -> Result<Got, FetchFault<F, X>>
+) -> Result<Result<Got, Damage>, FetchFault<F, X>>
     requires read { Reads lens.old.files }
     ensures files { lens.new.files ≡ lens.old.files }
-    ensures answer { IfOk result (λ got. (b : List Pair) → batch_of lens.old.files ≡ Some b → IsAnswer (of_batch b key.now) (K.taken sink.old) (K.taken sink.new) got) }
-    ensures says { IfOk result (Says lens.old.files key.now) }
-    ensures took { IfOk result (TookAsMany (K.taken sink.old) (K.taken sink.new)) }
+    ensures answer { IfOk result (λ r. IfOk r (λ got. (b : List Pair) → batch_of lens.old.files ≡ Some b → IsAnswer (of_batch b key.now) (K.taken sink.old) (K.taken sink.new) got)) }
+    ensures says { IfOk result (λ r. IfOk r (Says lens.old.files key.now)) }
+    ensures took { IfOk result (λ r. IfOk r (TookAsMany (K.taken sink.old) (K.taken sink.new))) }
+    ensures damaged { IfOk result (λ r. IfErr r (IsBeyond lens.old.files.entry lens.old.files.index key.now)) }
+    ensures sound { IfOk result (λ r. OnErr r (batch_of lens.old.files ≡ None)) }
+    ensures untouched { IfOk result (λ r. OnErr r (K.taken sink.new ≡ K.taken sink.old)) }
     ensures err { IfErr result (λ _. (b : List Pair) → batch_of lens.old.files ≡ Some b → TookFront (of_batch b key.now) (K.taken sink.old) (K.taken sink.new)) }
     ensures unwritten { IfErr result (λ e. Unwritten e (K.taken sink.new ≡ K.taken sink.old)) }
-    ensures damaged { IfErr result (λ e. OnDamaged e (IsBeyond lens.old.files.entry lens.old.files.index key.now)) }
-    ensures sound { IfErr result (λ e. OnDamaged e (λ _. batch_of lens.old.files ≡ None)) }
+    ensures whole { IfErr result (λ e. OnDamaged e (λ d. ⊥)) }
     ensures sink { K.faults sink.old ≤ K.faults sink.new }
+    ensures calm { UnlessWrite result (K.faults sink.new ≡ K.faults sink.old) }
     ensures write { IfErr result (λ e. OnWrite e (Rose (K.faults sink.old) (K.faults sink.new))) }
 {
     let (at, len) = match lens.find(key) {
         Ok(Some(place)) => place,
-        Ok(None) => return Ok(Got::Miss),
+        Ok(None) => return Ok(Ok(Got::Miss)),
         Err(LensFault::Fault(fault)) => return Err(FetchFault::Disk(fault)),
-        Err(LensFault::Damaged(beyond)) => return Err(FetchFault::Damaged(beyond)),
+        Err(LensFault::Damaged(beyond)) => return Ok(Err(beyond)),
         Err(LensFault::NoMemory) => return Err(FetchFault::NoMemory),
     };
     match lens.copy_to(at, len, sink) {
-        Ok(()) => Ok(Got::Found(len)),
+        Ok(()) => Ok(Ok(Got::Found(len))),
         Err(CopyFault::Fault(fault)) => Err(FetchFault::Disk(fault)),
         Err(CopyFault::Write(fault)) => Err(FetchFault::Write(fault)),
     }
 }
 
-/// Looks a key up in the segment of a number, and copies its bytes into the sink. The segment is opened where it isn't kept.
+/// Looks a key up in the segment of a number, and copies its bytes into the sink. The segment is opened where it isn't
+/// kept, and opened again where what is kept is damaged: that may be other files, and the segment's own decide.
 pub(crate) fn fetch_from<F: Send, Z: Sealed<F>, X, K: Sink<X>>(
     alloc: Global,
     segment: &Segment<F, Z>,
@@ -65,12 +70,52 @@ where
     ensures took { IfOk result (TookAsMany (K.taken sink.old) (K.taken sink.new)) }
     ensures err { IfErr result (λ _. (b : List Pair) → batch_of segment.now.files ≡ Some b → TookFront (of_batch b key.now) (K.taken sink.old) (K.taken sink.new)) }
     ensures unwritten { IfErr result (λ e. Unwritten e (K.taken sink.new ≡ K.taken sink.old)) }
-    ensures damaged { IfErr result (λ e. OnDamaged e (λ d. ((f : Files) → Contains lenses.old (record { number = number; files = f }) → f ≡ segment.now.files) → StandsIn segment.now.files key.now d)) }
+    ensures damaged { IfErr result (λ e. OnDamaged e (StandsIn segment.now.files key.now)) }
     ensures sound { IfErr result (λ e. OnDamaged e (λ _. batch_of segment.now.files ≡ None)) }
     ensures sink { K.faults sink.old ≤ K.faults sink.new }
+    ensures calm { UnlessWrite result (K.faults sink.new ≡ K.faults sink.old) }
     ensures write { IfErr result (λ e. OnWrite e (Rose (K.faults sink.old) (K.faults sink.new))) }
 {
-    let mut lens = match lenses.take(alloc, segment, number) {
+    if let Some(mut lens) = lenses.take(number) {
+        match copied(&mut lens, key, sink) {
+            Ok(Err(_)) => {}
+            Ok(Ok(got)) => {
+                lenses.keep(number, lens);
+                return Ok(got);
+            }
+            Err(fault) => {
+                lenses.keep(number, lens);
+                return Err(fault);
+            }
+        }
+    }
+    fetch_opened(alloc, segment, number, lenses, key, sink)
+}
+
+/// Opens the segment of a number, looks a key up in it, copies its bytes into the sink, and keeps what was opened.
+fn fetch_opened<F: Send, Z: Sealed<F>, X, K: Sink<X>>(
+    alloc: Global,
+    segment: &Segment<F, Z>,
+    number: u32,
+    lenses: &mut Lenses<F, Z>,
+    key: &[u8],
+    sink: &mut K,
+) -> Result<Got, FetchFault<F, X>>
+where
+    Z::Reader: Drop,
+    ensures kept { (k : Kept) → Contains lenses.new k → Contains lenses.old k ⊎ (k ≡ record { number = number; files = segment.now.files }) }
+    ensures answer { IfOk result (λ got. (b : List Pair) → batch_of segment.now.files ≡ Some b → IsAnswer (of_batch b key.now) (K.taken sink.old) (K.taken sink.new) got) }
+    ensures says { IfOk result (Says segment.now.files key.now) }
+    ensures took { IfOk result (TookAsMany (K.taken sink.old) (K.taken sink.new)) }
+    ensures err { IfErr result (λ _. (b : List Pair) → batch_of segment.now.files ≡ Some b → TookFront (of_batch b key.now) (K.taken sink.old) (K.taken sink.new)) }
+    ensures unwritten { IfErr result (λ e. Unwritten e (K.taken sink.new ≡ K.taken sink.old)) }
+    ensures damaged { IfErr result (λ e. OnDamaged e (StandsIn segment.now.files key.now)) }
+    ensures sound { IfErr result (λ e. OnDamaged e (λ _. batch_of segment.now.files ≡ None)) }
+    ensures sink { K.faults sink.old ≤ K.faults sink.new }
+    ensures calm { UnlessWrite result (K.faults sink.new ≡ K.faults sink.old) }
+    ensures write { IfErr result (λ e. OnWrite e (Rose (K.faults sink.old) (K.faults sink.new))) }
+{
+    let mut lens = match segment.lens(alloc) {
         Ok(lens) => lens,
         Err(LensFault::Fault(fault)) => return Err(FetchFault::Disk(fault)),
         Err(LensFault::Damaged(damage)) => return Err(FetchFault::Damaged(damage)),
@@ -78,5 +123,9 @@ where
     };
     let answer = copied(&mut lens, key, sink);
     lenses.keep(number, lens);
-    answer
+    match answer {
+        Ok(Ok(got)) => Ok(got),
+        Ok(Err(damage)) => Err(FetchFault::Damaged(damage)),
+        Err(fault) => Err(fault),
+    }
 }

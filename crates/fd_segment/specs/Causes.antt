@@ -1,5 +1,5 @@
 -- Why a call was refused.
-use Rattle.std.specs.Prelude.{◌≡◌, ◌+◌, ◌<◌, ℕ, List, Option, Some, IfSome, Result, Ok, Err}
+use Rattle.std.specs.Prelude.{◌≡◌, ◌+◌, ◌<◌, ℕ, List, Option, Some, IfSome, IsOk, Result, Ok, Err}
 use Rattle.fd_disk.specs.declared.folders.FileKind.TheVariants as kinds
 use Rattle.fd_disk.specs.Names.{name_of}
 use Rattle.fd_core.specs.declared.batch.Pair.{Pair}
@@ -48,6 +48,12 @@ abbrev pub OnCopyFault : {F X : Type 0} → CopyFault F X → Type 0 → Type 0 
 OnCopyFault (copies.Fault f) P Q = P
 OnCopyFault (copies.Write x) P Q = Q
 
+-- the answer isn't a fault of the sink
+abbrev pub UnlessWrite : {F X : Type 0} → Result (Unit {0}) (CopyFault F X) → Type 0 → Type 0
+UnlessWrite (Ok done) P = P
+UnlessWrite (Err (copies.Fault f)) P = P
+UnlessWrite (Err (copies.Write x)) P = Unit {0}
+
 -- The index file isn't in the format, where told, at the place that the damage names.
 abbrev pub IsBadIndex : Entry → Option (List ℕ) → Damage → Type 0
 IsBadIndex e index (Absent file) = ⊥
@@ -59,11 +65,12 @@ IsBadIndex e index (Beyond file end len) = ⊥
 abbrev pub IsPlace : Entry → Option (List ℕ) → List ℕ → Option (ℕ × ℕ) → Type 0
 IsPlace e index key place = IfSome index (λ bytes. (rs : List Record) → records_in e bytes ≡ Ok rs → place ≡ place_of key rs)
 
--- a record of the index has the key, and ends there
+-- the index is in its format, where told, and a record of it has the key, and ends there
 pub record EndsAt (e : Entry) (index : Option (List ℕ)) (key : List ℕ) (end : ℕ) : Type 0 where
   pub at : ℕ
   pub len : ℕ
   pub ends : end ≡ at + len
+  pub reads : IfSome index (λ bytes. IsOk (records_in e bytes))
   pub place : IsPlace e index key (Some (at, len))
 
 -- The key's record ends beyond the fields.

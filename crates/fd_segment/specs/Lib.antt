@@ -1,4 +1,5 @@
 pub mod Held
+pub mod Shared
 pub mod Filling
 pub mod Causes
 pub mod Copying

@@ -1,6 +1,6 @@
 ghost use Rattle.std.specs.Prelude.{◌≡◌, ◌≤◌, ◌<◌, ◌+◌, ◌^◌, length, IfErr, OnErr, OnOk};
 ghost use Rattle.fd_bytes.specs.Causes.{Rose};
-ghost use Rattle.fd_segment.specs.Causes.{OnCopyFault};
+ghost use Rattle.fd_segment.specs.Causes.{OnCopyFault, UnlessWrite};
 ghost use Rattle.fd_segment.specs.Copying.{IsCopied, IsCopiedInPart};
 
 use crate::fault::CopyFault;
@@ -21,6 +21,7 @@ fn copy_piece<F: Send, X, R: Reader<F>, K: Sink<X>>(
     ensures len { R.len file.new ≡ R.len file.old }
     ensures later { R.faults file.old ≤ R.faults file.new }
     ensures sink { K.faults sink.old ≤ K.faults sink.new }
+    ensures calm { UnlessWrite result (K.faults sink.new ≡ K.faults sink.old) }
     ensures cause { IfErr result (λ e. OnCopyFault e (Rose (R.faults file.old) (R.faults file.new)) (Rose (K.faults sink.old) (K.faults sink.new))) }
 {
     if let Err(fault) = file.read_at(at, piece) {
@@ -47,6 +48,7 @@ pub(crate) fn copy_pieces<F: Send, X, R: Reader<F>, K: Sink<X>>(
     ensures len { R.len file.new ≡ R.len file.old }
     ensures later { R.faults file.old ≤ R.faults file.new }
     ensures sink { K.faults sink.old ≤ K.faults sink.new }
+    ensures calm { UnlessWrite result (K.faults sink.new ≡ K.faults sink.old) }
     ensures cause { IfErr result (λ e. OnCopyFault e (Rose (R.faults file.old) (R.faults file.new)) (Rose (K.faults sink.old) (K.faults sink.new))) }
 {
     let mut buffer = [0; 4096];

@@ -179,6 +179,13 @@ where
         self.records.len()
     }
 
+    /// How many bytes were put, all of them together.
+    pub fn size(&self) -> u64
+        ensures { result ≡ self.now.end }
+    {
+        self.end
+    }
+
     /// Tells that nothing was put.
     pub fn is_empty(&self) -> bool
         ensures count { IsTrue result ↔ (self.now.held.records ≡ []) }

@@ -1,7 +1,7 @@
 ghost use Rattle.std.specs.Prelude.{◌≡◌, ◌≤◌, ◌+◌, take, IfOk, IfErr, OnOk, IfSome};
 ghost use Rattle.fd_disk.specs.Names.{name_of};
 ghost use Rattle.fd_bytes.specs.Causes.{Rose};
-ghost use Rattle.fd_segment.specs.Causes.{IsBadIndex, IsBeyond, IsPlace, OnCopyFault, OnDamaged, OnLensFault, StandsForNone};
+ghost use Rattle.fd_segment.specs.Causes.{IsBadIndex, IsBeyond, IsPlace, OnCopyFault, OnDamaged, OnLensFault, StandsForNone, UnlessWrite};
 ghost use Rattle.fd_segment.specs.Copying.{IsBatchIndex, IsCopied, IsCopiedInPart, IsOfBatch};
 ghost use Rattle.fd_segment.specs.Held.{IsIndexOf};
 ghost use Rattle.fd_index.specs.Records.{Rising};
@@ -109,7 +109,7 @@ impl<F: Send, R: Reader<F>> Lens<F, R> {
     }
 
     /// Copies the bytes at a place of the field file into the sink, in pieces of 4096 bytes. After an `Err` a front of
-    /// them was written.
+    /// them was written, and the sink's count of faults rose where it is `Write`, and else stayed.
     pub fn copy_to<X, K: Sink<X>>(
         &mut self,
         at: u64,
@@ -122,6 +122,7 @@ impl<F: Send, R: Reader<F>> Lens<F, R> {
         ensures files { self.new.files ≡ self.old.files }
         ensures later { (self.new.index_faults ≡ self.old.index_faults) × (self.old.field_faults ≤ self.new.field_faults) }
         ensures sink { K.faults sink.old ≤ K.faults sink.new }
+        ensures calm { UnlessWrite result (K.faults sink.new ≡ K.faults sink.old) }
         ensures cause { IfErr result (λ e. OnCopyFault e (Rose self.old.field_faults self.new.field_faults) (Rose (K.faults sink.old) (K.faults sink.new))) }
     {
         copy_pieces(&mut self.field_file, at, len, sink)

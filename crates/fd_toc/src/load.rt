@@ -3,7 +3,7 @@ ghost use Rattle.fd_bytes.specs.Causes.{Rose};
 ghost use Rattle.fd_disk.specs.Causes.{OnFault};
 ghost use Rattle.fd_disk.specs.Images.{synced};
 ghost use Rattle.fd_disk.specs.Moments.{LeavesOnly, MayLeave};
-ghost use Rattle.fd_core.specs.Table.{listed};
+ghost use Rattle.fd_core.specs.Table.{AllFit, listed};
 ghost use Rattle.fd_toc.specs.Lists.{Lists};
 ghost use Rattle.fd_toc.specs.Causes.{OnNotATable, OnLoadDisk, UnlessLoadDisk};
 
@@ -15,6 +15,8 @@ use std::alloc::Global;
 
 impl<F: Send, T: Disk<F>> Toc<F, T> {
     /// Opens the table of the dataset with this text of at most 255 bytes. It begins with a sync, and writes nothing.
+    /// The entries fit, whatever the disk tells: each writer is at most 65,536 times the number of its entry.
+    ///
     /// `Disk` comes only where the table's count of faults rose. `NotATable` comes exactly where the bytes are no table
     /// of this dataset, and names the first octet of the header or of a listed slot that isn't in the format, or the
     /// gate behind them where it is missing. After a refusal the table comes back.
@@ -22,6 +24,7 @@ impl<F: Send, T: Disk<F>> Toc<F, T> {
         requires { length dataset.now ≤ 255 }
         ensures entries { IfOk result (λ toc. IfSome (T.file table) (λ f. listed dataset.now f.reads ≡ Ok toc.entries)) }
         ensures few { IfOk result (λ toc. length toc.entries ≤ 65535) }
+        ensures fit { IfOk result (λ toc. AllFit 0 toc.entries) }
         ensures rest { IfOk result (λ toc. (toc.dataset ≡ dataset.now) × (toc.doubt ≡ None) × (toc.staged ≡ None)) }
         ensures file { IfOk result (λ toc. T.file toc.table ≡ option_map synced (T.file table)) }
         ensures images { IfOk result (λ toc. (c : List ℕ) → MayLeave (T.file toc.table) c → Lists dataset.now toc.entries c) }

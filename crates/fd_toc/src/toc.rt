@@ -2,7 +2,7 @@ ghost use Rattle.std.specs.Prelude.{◌≡◌, ◌⊎◌, ◌≤◌, ◌<◌, �
 ghost use Rattle.fd_bytes.specs.Causes.{HasCause, Rose};
 ghost use Rattle.fd_disk.specs.Folders.{WhereTold};
 ghost use Rattle.fd_disk.specs.Moments.{LeavesOnly, MayLeave};
-ghost use Rattle.fd_core.specs.Table.{gate_at, greatest_writer};
+ghost use Rattle.fd_core.specs.Table.{AllFit, gate_at, greatest_writer};
 ghost use Rattle.fd_toc.specs.Causes.{IsFullAt, OnAppendDisk, OnFull};
 ghost use Rattle.fd_toc.specs.Lists.{Lists, ListsOrAlso, ListsOrOneMore};
 ghost use Rattle.fd_toc.specs.Sound.{IsOpen};
@@ -62,10 +62,12 @@ impl<F: Send, T: Disk<F>> Toc<F, T> {
         }
     }
 
-    /// The listed entries, in the order in which they were appended; there are at most 65,535.
+    /// The listed entries, in the order in which they were appended; there are at most 65,535, and each writer is at most
+    /// 65,536 times the number of its entry.
     pub fn entries(&self) -> &[Entry]
         ensures entries { result.now ≡ self.now.entries }
         ensures few { length self.now.entries ≤ 65535 }
+        ensures fit { AllFit 0 self.now.entries }
         ensures images { (c : List ℕ) → MayLeave (T.file self.now.table) c → ListsOrAlso self.now.dataset self.now.entries self.now.doubt c }
     {
         &self.entries

@@ -1,4 +1,4 @@
-use Rattle.std.proofs.Common.{length, ◌≡◌, List, Option, suc, ap, subst, string_bytes, arith}
+use Rattle.std.proofs.Common.{length, ◌≡◌, ◌∙◌, List, Option, suc, ap, subst, string_bytes, arith}
 use Rattle.fd_io.specs.Streams.{Takes, TakesFront}
 use Rattle.fd_scaled.specs.declared.Scaled.{Scaled}
 use Rattle.fd_packing.specs.Value.{values_of}
@@ -22,7 +22,7 @@ points-preserved g c =
       text = held_written (g.K.Sink.taken c.args.sink.now) (g.K.Sink.taken c.points.sink) (g.K.Sink.taken c.write_many.new.sink) text (string_bytes c.push_point.new.lines) (string_bytes c.write_many.new.lines) _
           (line_held (g.K.Sink.taken c.args.sink.now) (g.K.Sink.taken c.points.sink) text (string_bytes c.points.lines) (string_bytes c.push_point.new.lines) c.args.number c.args.decimals c.points.point c.in-Some.value c.next.new.self c.points.points c.in-Some.ensures.steps c.in-Ok.ensures i.text)
           c.in-Ok-write_many.ensures.took;
-      count = omega (arith, i.count, c.in-Ok-write_many.ensures.count);
+      calm = c.in-Ok-write_many.ensures.cause ∙ i.calm;
       room = omega (arith, i.room, fewer);
     }
 

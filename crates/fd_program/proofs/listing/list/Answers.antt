@@ -1,4 +1,4 @@
-use Rattle.std.proofs.Common.{◌≡◌, ℕ, List, ◌<◌, length, take, sym, ap, subst, ◌∙◌, arith, Option, length-take}
+use Rattle.std.proofs.Common.{◌≡◌, ℕ, List, ◌<◌, length, take, refl, sym, ap, subst, ◌∙◌, arith, Option, length-take}
 use Rattle.std.proofs.lemmas.List.{take_at}
 use Rattle.fd_io.specs.Streams.{Gives}
 use Rattle.fd_program.proofs.Runs.{waiting_start, at_end}
@@ -13,8 +13,8 @@ loop-init g c = record {
   limit = omega arith;
   turns = omega arith;
   room = c.in-Ok-new_buffer.ensures;
-  read = omega arith;
-  count = omega arith;
+  read = refl;
+  calm = refl;
 }
 
 nonzero : (n : ℕ) → (n ≡ 0 → ⊥) → 0 < n
@@ -78,6 +78,6 @@ loop-preserved g c =
       limit = omega (arith, c.in-Ok-read_piece.ensures.within below);
       turns = omega (arith, i.turns, nonzero c.in-Ok-read_piece.n c.if-n-eq0.false);
       room = i.room;
-      read = omega (arith, i.read, c.in-Ok-read_piece.ensures.count);
-      count = omega (arith, i.count, c.in-Ok-list_messages.ensures.count);
+      read = c.in-Ok-read_piece.ensures.calm ∙ i.read;
+      calm = c.in-Ok-list_messages.ensures.calm ∙ i.calm;
     }

@@ -12,6 +12,6 @@ invariant-loop g l = record {
   limit : l.total ≤ 68719476736;
   turns : l.counter ≤ l.total;
   room : vec_len l.buffer ≡ 65536;
-  read : g.I.Source.faults l.fn.input ≤ g.I.Source.faults l.input;
-  count : g.K.Sink.faults l.fn.output ≤ g.K.Sink.faults l.output;
+  read : g.I.Source.faults l.input ≡ g.I.Source.faults l.fn.input;
+  calm : g.K.Sink.faults l.output ≡ g.K.Sink.faults l.fn.output;
 }

@@ -1,4 +1,4 @@
-use Rattle.std.proofs.Common.{◌∙◌, Bool, subst, arith}
+use Rattle.std.proofs.Common.{◌∙◌, Bool, subst}
 use Rattle.fd_program.specs.Halted.{ListedOne}
 use Rattle.fd_program.proofs.ListingSteps.{lists_more, halted_later}
 use Rattle.fd_program.proofs.listing.list_messages.Goals as goal
@@ -10,7 +10,7 @@ messages-preserved g c =
     record {
       fed = one.fed ∙ i.fed;
       on = lists_more c.args.listing c.args.splitter.now c.messages.splitter c.list_message.new.splitter (g.K.Sink.taken c.args.output.now) (g.K.Sink.taken c.messages.output) (g.K.Sink.taken c.list_message.new.output) i.on one.goes_on;
-      count = omega (arith, i.count, c.in-Ok-true.ensures.count);
+      calm = c.in-Ok-true.ensures.calm ∙ i.calm;
     }
 
 pub returns-in-Ok-false-clause-went : goal.returns-in-Ok-false-clause-went

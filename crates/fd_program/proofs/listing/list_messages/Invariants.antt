@@ -1,4 +1,4 @@
-use Rattle.std.proofs.Common.{◌≡◌, ◌≤◌, length}
+use Rattle.std.proofs.Common.{◌≡◌, length}
 use Rattle.fd_program.specs.Halted.{ListsOn}
 use Rattle.fd_program.proofs.listing.list_messages.Given as goal
 
@@ -6,7 +6,7 @@ abbrev pub invariant-messages : goal.invariant-messages
 invariant-messages g l = record {
   fed : l.splitter.fed ≡ l.fn.splitter.fed;
   on : ListsOn l.listing l.fn.splitter l.splitter (g.K.Sink.taken l.fn.output) (g.K.Sink.taken l.output);
-  count : g.K.Sink.faults l.fn.output ≤ g.K.Sink.faults l.output;
+  calm : g.K.Sink.faults l.output ≡ g.K.Sink.faults l.fn.output;
 }
 
 abbrev pub decreases-messages : goal.decreases-messages

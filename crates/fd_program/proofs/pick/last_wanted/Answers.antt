@@ -12,7 +12,7 @@ loop-init g c = record {
   limit = omega arith;
   turns = omega arith;
   room = c.in_ok-buffer.ensures;
-  count = omega arith;
+  calm = refl;
 }
 
 nonzero : (n : ℕ) → (n ≡ 0 → ⊥) → 0 < n
@@ -67,5 +67,5 @@ loop-preserved g c =
       limit = omega (arith, c.in-Ok.ensures.within below);
       turns = omega (arith, i.turns, nonzero c.in-Ok.n c.if-n-eq0.false);
       room = i.room;
-      count = omega (arith, i.count, c.in-Ok.ensures.count);
+      calm = c.in-Ok.ensures.calm ∙ i.calm;
     }

@@ -12,5 +12,5 @@ invariant-loop g l = record {
   limit : l.total ≤ 68719476736;
   turns : l.counter ≤ l.total;
   room : vec_len l.buffer ≡ 65536;
-  count : g.I.Source.faults l.fn.input ≤ g.I.Source.faults l.input;
+  calm : g.I.Source.faults l.input ≡ g.I.Source.faults l.fn.input;
 }

@@ -1,6 +1,7 @@
 use Rattle.std.proofs.Common.{◌≡◌, ◌≤◌, [], IfSome, take}
 use Rattle.fd_recovery.specs.Damages.{damages}
-use Rattle.fd_recovery.specs.Recovered.{AreTakenUp, standings}
+use Rattle.fd_recovery.specs.Recovered.{AreTakenUp}
+use Rattle.fd_segment.specs.Shared.{standings}
 use Rattle.fd_recovery.proofs.segments.segments_of.Given as goal
 
 abbrev pub invariant-loop-i : goal.invariant-loop-i

@@ -52,8 +52,8 @@ returns-in-Err-clause-err g c = λ t told.
 
 pub returns-in-Err-clause-damaged : goal.returns-in-Err-clause-damaged
 returns-in-Err-clause-damaged g c =
-    damaged_among c.in-Err.fault c.args.lenses.now c.loop-i.lenses c.args.snapshot.now (c.len-count.result - c.loop-i.i) c.segment-segment.result.now c.deref.result.now (file_key (seen_place c.args.place.now)) (c.deref.ensures.value ∙ c.in-Ok.ensures)
-    (omega (arith, c.loop-i-test.true), c.segment-segment.ensures) c.loop-i.invariant.those c.in-Err.ensures.damaged
+    damaged_among c.in-Err.fault c.args.snapshot.now (c.len-count.result - c.loop-i.i) c.segment-segment.result.now c.deref.result.now (file_key (seen_place c.args.place.now)) (c.deref.ensures.value ∙ c.in-Ok.ensures)
+    (omega (arith, c.loop-i-test.true), c.segment-segment.ensures) c.in-Err.ensures.damaged
 
 pub returns-in-Err-clause-sound : goal.returns-in-Err-clause-sound
 returns-in-Err-clause-sound g c =
@@ -63,6 +63,7 @@ pub loop-i-preserved : goal.loop-i-preserved
 loop-i-preserved g c = record {
   taken = rw c.in-Ok-Miss.field-0-is at c.in-Ok-Miss.ensures.took ∙ c.loop-i.invariant.taken;
   later = omega (arith, c.loop-i.invariant.later, c.fetch_from.ensures.sink);
+  calm = c.in-Ok-Miss.ensures.calm ∙ c.loop-i.invariant.calm;
   fits = still_fits c.loop-i.lenses c.fetch_from.new.lenses c.args.snapshot.now (c.len-count.result - c.loop-i.i) c.segment-segment.result.now c.loop-i.invariant.fits (omega (arith, c.loop-i-test.true), c.segment-segment.ensures) c.fetch_from.ensures.kept;
   those = λ those. still_those c.loop-i.lenses c.fetch_from.new.lenses c.args.snapshot.now (c.len-count.result - c.loop-i.i) c.segment-segment.result.now (c.loop-i.invariant.those those) (omega (arith, c.loop-i-test.true), c.segment-segment.ensures) c.fetch_from.ensures.kept;
   lack = λ those. lack_more c.args.snapshot.now c.deref.result.now c.in-Ok.key.items (c.len-count.result - c.loop-i.i) (c.len-count.result - (c.loop-i.i + 1)) c.segment-segment.result.now c.deref.ensures.value (omega arith) (omega (arith, c.loop-i-test.true), c.segment-segment.ensures)
@@ -87,6 +88,7 @@ loop-i-init g c =
     record {
       taken = refl;
       later = omega arith;
+      calm = refl;
       fits = c.requires.fits;
       those = λ those. those;
       lack = λ those. lack_at_end c.args.snapshot.now c.in-Ok.key.items (c.len-count.result - 0) long;

@@ -10,6 +10,7 @@ abbrev pub invariant-loop-i : goal.invariant-loop-i
 invariant-loop-i g l = record {
   taken : g.K.Sink.taken l.sink ≡ g.K.Sink.taken l.fn.sink;
   later : g.K.Sink.faults l.fn.sink ≤ g.K.Sink.faults l.sink;
+  calm : g.K.Sink.faults l.sink ≡ g.K.Sink.faults l.fn.sink;
   fits : Fits l.lenses (map listing l.snapshot);
   those : AreThose l.fn.lenses l.snapshot → AreThose l.lenses l.snapshot;
   lack : AreThose l.fn.lenses l.snapshot → LackBehind l.snapshot l.key.items (l.count - l.i);

@@ -15,6 +15,7 @@ pieces-preserved g c =
       bytes = c.in-Ok.ensures.bytes ∙ c.pieces.invariant.bytes;
       len = c.in-Ok.ensures.len ∙ c.pieces.invariant.len;
       later = omega arith;
+      calm = c.in-Ok.ensures.calm ∙ c.pieces.invariant.calm;
       sink = omega arith;
     }
 

@@ -9,6 +9,7 @@ invariant-pieces g l = record {
   bytes : g.R.Reader.bytes l.file ≡ g.R.Reader.bytes l.fn.file;
   len : g.R.Reader.len l.file ≡ g.R.Reader.len l.fn.file;
   later : g.R.Reader.faults l.fn.file ≤ g.R.Reader.faults l.file;
+  calm : g.K.Sink.faults l.sink ≡ g.K.Sink.faults l.fn.sink;
   sink : g.K.Sink.faults l.fn.sink ≤ g.K.Sink.faults l.sink;
 }
 

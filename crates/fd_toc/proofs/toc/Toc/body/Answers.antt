@@ -26,6 +26,8 @@ invariant_of-self g c =
     let torn : WhereTold old new (BodyFails n e) = subst (λ (b : List ℕ). WhereTold old new (λ f g. IsUnsynced f (gate_at n + 1) b g)) c.body.ensures (subst (λ (p : ℕ). WhereTold old new (λ f g. IsUnsynced f (p + 1) c.body.result g)) place c.in_err-write_firm.ensures.err) in
     record {
       few = c.self.invariant.few;
+      fit = c.self.invariant.fit;
+      staged_fit = tt;
       doubt_few = c.self.invariant.doubt_few;
       staged_few = λ some. absurd (cc some);
       sound = subst (λ (o : Option Entry). IfSome new (IsSound d es o None)) (sym none) (body_failed d es old new e c.self.inside.staged s torn);
@@ -79,6 +81,8 @@ invariant_of-self-2 g c =
     let fits : Fits n e = record { writer = omega (arith, count, c.requires.writer); seq = omega arith; fields = omega arith; index_len = omega arith; fields_len = omega arith } in
     record {
       few = c.self.invariant.few;
+      fit = c.self.invariant.fit;
+      staged_fit = fits;
       doubt_few = c.self.invariant.doubt_few;
       staged_few = λ some. few;
       sound = subst (λ (o : Option Entry). IfSome new (IsSound d es o (Some e))) (sym none) (body_stands d es old new e c.self.inside.staged fits few s made);

@@ -4,7 +4,8 @@ use Rattle.fd_disk.specs.Folders.{WhereTold}
 use Rattle.fd_disk.specs.Images.{synced, written}
 use Rattle.fd_disk.specs.Moments.{LeavesOnly}
 use Rattle.fd_core.specs.declared.table.Entry.{Entry}
-use Rattle.fd_core.specs.Table.{gate_at}
+use Rattle.fd_core.specs.Table.{Fits, gate_at}
+use Rattle.fd_core.proofs.StandingLemmas.{fit-push}
 use Rattle.fd_toc.specs.Calls.{OpeningFails, opened}
 use Rattle.fd_toc.specs.Lists.{Lists, ListsOrAlso}
 use Rattle.fd_toc.specs.Sound.{IsOpen, IsSound}
@@ -26,7 +27,7 @@ invariant_of-self g c =
     let none : c.self.inside.doubt ≡ None = ap (λ v. v.doubt) c.self.view_is ∙ c.requires.no_doubt in
     let s : IfSome old (IsSound d es None (Some e)) = subst (λ (o : Option Entry). IfSome old (IsSound d es o (Some e))) none (subst (λ (o : Option Entry). IfSome old (IsSound d es c.self.inside.doubt o)) c.in-Some.is c.self.invariant.sound) in
     let torn : WhereTold old new (OpeningFails n) = subst (λ (p : ℕ). WhereTold old new (λ f g. IsUnsynced f p (79 ∷ []) g)) place c.in_err-write_firm.ensures.err in
-    record { few = c.self.invariant.few; doubt_few = λ some. few; staged_few = λ some. absurd (cc some); sound = gate_failed d es old new e s torn }
+    record { few = c.self.invariant.few; fit = c.self.invariant.fit; staged_fit = tt; doubt_few = λ some. few; staged_few = λ some. absurd (cc some); sound = gate_failed d es old new e s torn }
 
 pub returns-in_err-write_firm-clause-any_moment : goal.returns-in_err-write_firm-clause-any_moment
 returns-in_err-write_firm-clause-any_moment g c =
@@ -63,8 +64,10 @@ invariant_of-self-2 g c =
     let room : vec_len c.self.inside.entries < vec_capacity c.self.inside.entries = omega (arith, spare, c.requires.spare) in
     let pushed : is_ok c.push.result ≡ true = c.push.ensures.succeeds room in
     let grown : c.push.new.self.items ≡ es ++ e ∷ [] = c.push.ensures.items ∙ ap (λ (b : Bool). if b then es ++ e ∷ [] else es) pushed in
+    let fits : Fits n e = subst (λ (o : Option Entry). IfSome o (Fits n)) c.in-Some.is c.self.invariant.staged_fit in
+    let at_end : n ≡ 0 + n = omega arith in
     subst (λ (l : List Entry). IsOpen new d l None None) (sym grown)
-    (record { few = omega (arith, few, length_push es e); doubt_few = λ some. absurd (cc some); staged_few = λ some. absurd (cc some); sound = stands })
+    (record { few = omega (arith, few, length_push es e); fit = fit-push 0 es e c.self.invariant.fit (subst (λ (i : ℕ). Fits i e) at_end fits); staged_fit = tt; doubt_few = λ some. absurd (cc some); staged_few = λ some. absurd (cc some); sound = stands })
 
 pub returns-clause-any_moment : goal.returns-clause-any_moment
 returns-clause-any_moment g c =

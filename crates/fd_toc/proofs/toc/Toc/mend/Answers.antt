@@ -20,7 +20,7 @@ invariant_of-self g c =
     let place : c.gate_at-gate.result ≡ gate_at n = omega (arith, c.gate_at-gate.ensures.place, c.len.ensures) in
     let some : is_some c.self.inside.doubt ≡ true = ap (λ v. is_some v.doubt) c.self.view_is ∙ c.requires in
     let torn : WhereTold old new (ClosingFails n) = subst (λ (p : ℕ). WhereTold old new (λ f g. IsUnsynced f p (0 ∷ []) g)) place c.in_err-write_firm.ensures.err in
-    record { few = c.self.invariant.few; doubt_few = c.self.invariant.doubt_few; staged_few = λ some. absurd (cc some); sound = closing_failed d es old new c.self.inside.doubt c.self.inside.staged some c.self.invariant.sound torn }
+    record { few = c.self.invariant.few; fit = c.self.invariant.fit; staged_fit = tt; doubt_few = c.self.invariant.doubt_few; staged_few = λ some. absurd (cc some); sound = closing_failed d es old new c.self.inside.doubt c.self.inside.staged some c.self.invariant.sound torn }
 
 pub returns-in_err-write_firm-clause-any_moment : goal.returns-in_err-write_firm-clause-any_moment
 returns-in_err-write_firm-clause-any_moment g c =
@@ -47,7 +47,7 @@ invariant_of-self-2 g c =
     let some : is_some c.self.inside.doubt ≡ true = ap (λ v. is_some v.doubt) c.self.view_is ∙ c.requires in
     let made : new ≡ option_map (closed n) old = c.in_ok-write_firm.ensures.ok ∙ (λ j. option_map (λ f. synced (written f (place j) (0 ∷ []))) old) in
     let stands = closing_stands d es old new c.self.inside.doubt c.self.inside.staged some ((g.met.T.Disk g.world.𝓛 g.world.𝓜 g.world.𝓡 ((λ s x. x), (λ x. x), (λ x. x), λ x. x)).reads_image c.self.inside.table) c.self.invariant.sound made in
-    record { few = c.self.invariant.few; doubt_few = λ some. absurd (cc some); staged_few = λ some. absurd (cc some); sound = stands }
+    record { few = c.self.invariant.few; fit = c.self.invariant.fit; staged_fit = tt; doubt_few = λ some. absurd (cc some); staged_few = λ some. absurd (cc some); sound = stands }
 
 pub returns-clause-any_moment : goal.returns-clause-any_moment
 returns-clause-any_moment g c =

@@ -1,0 +1,113 @@
+// One writer's files in one dataset.
+ghost use Rattle.std.specs.Prelude.{◌≡◌, ◌≤◌, IfOk, string_bytes};
+
+use crate::fault::counted;
+use crate::files::Host;
+use crate::names::Names;
+use crate::output::{GATHERED, Output};
+use crate::{RealDisk, RealFault, RealSealed};
+use fd_bytes::NoMemory;
+use fd_disk::{Down, FileKind, FileName, Shelf};
+use std::alloc::{AllocError, Global};
+use std::sync::Arc;
+
+/// One writer's files in one dataset. They stand in the folder from the time when they are made.
+#[derive(Drop)]
+pub struct RealShelf<R: Host> {
+    pub(crate) host: R,
+    pub(crate) name: String,
+    pub(crate) folder: String,
+    pub(crate) names: Arc<Names>,
+    pub(crate) writer: u32,
+    pub(crate) faults: u64,
+}
+
+impl<R: Host + Send + Sync> Shelf<RealFault> for RealShelf<R> {
+    ghost use Rattle.std.specs.Prelude.{None, false, string_bytes};
+
+    type Sealed = RealSealed<R>;
+
+    type File = RealDisk<R>;
+
+    ghost kept = { λ s. None };
+
+    ghost created = { λ s n. false };
+
+    ghost writer = { λ s. s.writer };
+
+    ghost name = { λ s. string_bytes s.name };
+
+    ghost faults = { λ s. s.faults };
+
+    fn create(
+        &mut self,
+        alloc: Global,
+        seq: u32,
+        kind: FileKind,
+    ) -> Result<RealDisk<R>, Down<RealFault>> {
+        let made = FileName {
+            writer: self.writer,
+            seq,
+            kind,
+        };
+        let Ok(mut disk) = self.named(alloc, made) else {
+            return Err(Down::NoMemory);
+        };
+        match disk.output.create() {
+            Ok(()) => Ok(disk),
+            Err(error) => Err(Down::Fault(counted(&mut self.faults, error))),
+        }
+    }
+
+    fn keep(
+        &mut self,
+        alloc: Global,
+        seq: u32,
+        fields: &RealSealed<R>,
+        index: &RealSealed<R>,
+    ) -> Result<(), NoMemory> {
+        let _ = alloc;
+        let _ = seq;
+        let _ = fields;
+        let _ = index;
+        Ok(())
+    }
+}
+
+impl<R: Host> RealShelf<R> {
+    // The file of this name, which isn't made yet.
+    fn named(&self, alloc: Global, file: FileName) -> Result<RealDisk<R>, AllocError>
+        ensures name { IfOk result (λ d. string_bytes d.name ≡ string_bytes self.now.name) }
+        ensures made { IfOk result (λ d. d.made ≡ Some file) }
+    {
+        let room = match file.kind {
+            FileKind::Fields => GATHERED,
+            FileKind::Index => 0,
+        };
+        let path = path_of(alloc, self.folder.as_str(), file)?;
+        Ok(RealDisk {
+            name: String::from_str(alloc, self.name.as_str())?,
+            made: Some(file),
+            output: Output::new(
+                alloc,
+                self.host,
+                self.folder.as_str(),
+                path.as_str(),
+                &self.names,
+                room,
+            )?,
+            extent: 0,
+            is_synced: false,
+            faults: 0,
+        })
+    }
+}
+
+/// The path of a file: `FOLDER/WRITER-SEQ.fields` or `FOLDER/WRITER-SEQ.index`.
+pub(crate) fn path_of(alloc: Global, folder: &str, file: FileName) -> Result<String, AllocError> {
+    let kind = match file.kind {
+        FileKind::Fields => "fields",
+        FileKind::Index => "index",
+    };
+    format!(in alloc; "{folder}/{}-{}.{kind}", file.writer, file.seq)
+}

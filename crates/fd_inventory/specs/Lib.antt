@@ -1,0 +1,5 @@
+pub mod Keys
+pub mod Shown
+pub mod Indexes
+pub mod Written
+pub mod Counted

@@ -1,0 +1,132 @@
+// The rows of a dataset: for each of its keys that are asked for, where its newest field stands.
+ghost use Rattle.std.specs.Prelude.{◌≡◌, ◌≤◌, ◌+◌, ◌++◌, ◌∷◌, ◌-◌, [], true, List, ℕ, Some, IfOk, IfErr, OnOk, length, map};
+ghost use Rattle.fd_core.specs.declared.batch.Pair.{Pair};
+ghost use Rattle.fd_dataset.specs.Listed.{listing};
+ghost use Rattle.fd_segment.specs.Causes.{IsBadIndex, OnDamaged};
+ghost use Rattle.fd_segment.specs.Held.{IsIndexOf};
+ghost use Rattle.fd_inventory.specs.Shown.{AddsRow, AreLengths, AreRows, IsNewestUnless};
+ghost use Rattle.fd_inventory.specs.Indexes.{IsAmongBad, Tells};
+ghost use Rattle.fd_outcome.specs.Rows.{Row, Stored, matches, put_matching, rows, rows_from, stored};
+
+use crate::stored_key::{StoredKey, stored_key};
+use fd_bytes::NoMemory;
+use fd_dataset::Snapshot;
+use fd_disk::Sealed;
+use fd_index::Index;
+use fd_request::Partial;
+use fd_segment::{LensFault, Segment};
+use std::alloc::Global;
+use std::collections::BTreeMap;
+
+/// Where the newest field of a key stands.
+#[derive(Clone, Copy, Debug, PartialEq, Eq)]
+pub struct Newest {
+    /// The length of the field in bytes.
+    pub len: u64,
+    /// The number of its entry in the table, from 1.
+    pub number: u32,
+}
+
+/// Rows by the texts of their index and their datum.
+pub type Rows = BTreeMap<(String, String), Newest>;
+
+/// Adds a row, unless there is one of its texts.
+fn add_row(rows: &mut Rows, index: String, datum: String, newest: Newest) -> Result<(), NoMemory>
+    ensures { OnOk result (AddsRow rows.old.entries rows.new.entries index datum newest) }
+{
+    let texts = (index, datum);
+    if rows.contains_key(&texts) {
+        return Ok(());
+    }
+    rows.insert(texts, newest)?;
+    Ok(())
+}
+
+/// Adds a row for a key of an index, if it is asked for and has none yet.
+fn add_record(
+    alloc: Global,
+    dataset: &str,
+    key: &[u8],
+    newest: Newest,
+    partial: &Partial,
+    rows: &mut Rows,
+) -> Result<(), NoMemory>
+    requires { length dataset.now ≤ 255 }
+    ensures { OnOk result ((t : List (List Pair)) (rs : List Row) → ((s : Stored) → stored dataset.now key.now ≡ Some s → matches partial.now s.pairs ≡ true → IsNewestUnless t rs key.now s newest.len newest.number)
+        → AreRows rows.old.entries rs → AreRows rows.new.entries (put_matching partial.now t key.now (stored dataset.now key.now) rs)) }
+{
+    let Some(stored) = stored_key(alloc, dataset, key)? else {
+        return Ok(());
+    };
+    if !partial.matches(&stored.key) {
+        return Ok(());
+    }
+    let StoredKey {
+        index,
+        datum,
+        key: _,
+    } = stored;
+    add_row(rows, index, datum, newest)
+}
+
+/// Adds rows for the keys of a batch, from its last record on.
+fn add_records(
+    alloc: Global,
+    dataset: &str,
+    index: &Index,
+    number: u32,
+    partial: &Partial,
+    rows: &mut Rows,
+) -> Result<(), NoMemory>
+    requires { length dataset.now ≤ 255 }
+    ensures { OnOk result ((front later : List (List Pair)) (b : List Pair) → AreLengths index.now b → number ≡ 1 + length front
+        → AreRows rows.old.entries (rows_from dataset.now partial.now (front ++ b ∷ later) later) → AreRows rows.new.entries (rows_from dataset.now partial.now (front ++ b ∷ later) (b ∷ later))) }
+{
+    let mut left = index.len();
+    while left > 0 {
+        left -= 1;
+        let (key, _, len) = index.record(left);
+        add_record(alloc, dataset, key, Newest { len, number }, partial, rows)?;
+    }
+    Ok(())
+}
+
+/// Reads the records of a segment.
+pub(crate) fn records_of<F: Send, Z: Sealed<F>>(
+    alloc: Global,
+    segment: &Segment<F, Z>,
+) -> Result<Index, LensFault<F>>
+where
+    Z::Reader: Drop,
+    ensures records { IfOk result (IsIndexOf segment.now.files.entry segment.now.files.index) }
+    ensures damaged { IfErr result (λ e. OnDamaged e (IsBadIndex segment.now.files.entry segment.now.files.index)) }
+{
+    let mut lens = segment.lens(alloc)?;
+    lens.records(alloc)
+}
+
+/// The rows of a dataset, where its snapshot tells its table.
+pub(crate) fn rows_of<F: Send, Z: Sealed<F> + Drop>(
+    alloc: Global,
+    dataset: &str,
+    snapshot: &Snapshot<F, Z>,
+    partial: &Partial,
+) -> Result<Rows, LensFault<F>>
+where
+    Z::Reader: Drop,
+    requires { length dataset.now ≤ 255 }
+    ensures rows { IfOk result (λ m. (t : List (List Pair)) → Tells (map listing snapshot.now) t → AreRows m.entries (rows dataset.now partial.now t)) }
+    ensures damaged { IfErr result (λ e. OnDamaged e (IsAmongBad snapshot.now)) }
+{
+    let mut rows = BTreeMap::new(alloc);
+    let mut left = snapshot.len();
+    while left > 0 {
+        let index = records_of(alloc, snapshot.segment(left))?;
+        match add_records(alloc, dataset, &index, left, partial, &mut rows) {
+            Ok(()) => {}
+            Err(_) => return Err(LensFault::NoMemory),
+        }
+        left -= 1;
+    }
+    Ok(rows)
+}

@@ -1,0 +1,173 @@
+// The keys that stand in the files of a dataset.
+ghost use Rattle.std.specs.Prelude.{◌≡◌, ◌<◌, ◌≤◌, ◌+◌, ◌-◌, ◌^◌, ◌∷◌, Some, None, IfOk, IfSome, IsTrue, MatchOption, length, option_map, if◌then◌else◌};
+ghost use Rattle.std.specs.Option.{option_copied};
+ghost use Rattle.fd_key.specs.Names.{is_name, is_value};
+ghost use Rattle.fd_key.specs.Numerals.{cut};
+ghost use Rattle.fd_key.specs.Given.{pieces_of};
+ghost use Rattle.fd_outcome.specs.Rows.{if_pair, stored, stored_at, with_piece, with_text};
+ghost use Rattle.fd_inventory.specs.Keys.{IsStored, pieces_if};
+
+use fd_bytes::NoMemory;
+use fd_key::{Key, ValueFault, canonical, is_name};
+use fd_schema::ascii_text;
+use std::alloc::Global;
+
+/// A key that a partial request may ask for: the texts of its index and its datum, and the pairs of all three levels.
+#[derive(Drop)]
+pub struct StoredKey {
+    /// The index text.
+    pub index: String,
+    /// The datum text.
+    pub datum: String,
+    /// The pairs of dataset, index and datum.
+    pub key: Key,
+}
+
+/// What stands before the first `=`, and what stands behind it.
+#[tactic(auto, unfolding(fd_key::specs::Numerals::cut))]
+fn at_equals(text: &str) -> Option<(&str, &str)>
+    ensures { option_map (λ p. (p.0.now, p.1.now)) result ≡ cut 61 text.now }
+{
+    text.split_once('=')
+}
+
+/// What stands before the first comma, and what stands behind it.
+#[tactic(auto, unfolding(fd_key::specs::Numerals::cut))]
+fn at_comma(text: &str) -> Option<(&str, &str)>
+    ensures { option_map (λ p. (p.0.now, p.1.now)) result ≡ cut 44 text.now }
+{
+    text.split_once(',')
+}
+
+/// What stands before the first vertical line, and what stands behind it.
+#[tactic(auto, unfolding(fd_key::specs::Numerals::cut))]
+fn at_line(text: &str) -> Option<(&str, &str)>
+    ensures { option_map (λ p. (p.0.now, p.1.now)) result ≡ cut 124 text.now }
+{
+    text.split_once('|')
+}
+
+/// A name and a value in its one spelling, with `=` between them, where the text is that.
+fn spelled_pair(alloc: Global, text: &str) -> Result<Option<(&str, &str)>, NoMemory>
+    ensures pair { IfOk result (λ o. option_map (λ p. (p.0.now, p.1.now)) o ≡ if_pair (cut 61 text.now)) }
+    ensures name { IfOk result (λ o. IfSome o (λ p. IsTrue (is_name p.0.now) × IsTrue (is_value p.1.now))) }
+{
+    let Some((name, value)) = at_equals(text) else {
+        return Ok(None);
+    };
+    if !is_name(name.as_bytes()) {
+        return Ok(None);
+    }
+    match canonical(alloc, name, value) {
+        Ok(spelled) => {
+            if value == spelled.as_str() {
+                Ok(Some((name, value)))
+            } else {
+                Ok(None)
+            }
+        }
+        Err(ValueFault::BadValue) => Ok(None),
+        Err(ValueFault::NoMemory) => Err(NoMemory),
+    }
+}
+
+/// Adds the pair that a text is, if its name is new, and tells whether it is one.
+#[tactic(auto, unfolding(fd_outcome::specs::Rows::with_piece))]
+fn add_piece(alloc: Global, pairs: &mut Key, piece: &str) -> Result<bool, NoMemory>
+    requires { length pairs.old < 2 ^ 32 - 1 }
+    ensures few { IfOk result (λ is_one. length pairs.new ≤ length pairs.old + 1) }
+    ensures pair { IfOk result (λ is_one. with_piece pairs.old piece.now ≡ (if is_one then Some pairs.new else None)) }
+{
+    match spelled_pair(alloc, piece)? {
+        Some((name, value)) => {
+            if pairs.get(name).is_some() {
+                return Ok(false);
+            }
+            pairs.set(alloc, name, value)?;
+            Ok(true)
+        }
+        None => Ok(false),
+    }
+}
+
+/// The first piece of a text, up to its first comma, and what stands behind that.
+fn first_piece(text: &str) -> (&str, Option<&str>)
+    ensures pieces { pieces_of text.now ≡ result.0.now ∷ pieces_if (option_copied result.1) }
+    ensures lengths { IfSome result.1 (λ o. length o.now < length text.now) }
+{
+    match at_comma(text) {
+        Some((piece, others)) => (piece, Some(others)),
+        None => (text, None),
+    }
+}
+
+/// Adds the pairs that a text is, joined by commas, if each name is new, and tells whether it is that.
+fn add_text(alloc: Global, pairs: &mut Key, text: &str) -> Result<bool, NoMemory>
+    requires { length pairs.old + length text.now < 2 ^ 32 - 1 }
+    ensures few { IfOk result (λ is_some. length pairs.new ≤ length pairs.old + length text.now + 1) }
+    ensures pairs { IfOk result (λ is_some. with_text pairs.old text.now ≡ (if is_some then Some pairs.new else None)) }
+{
+    let mut rest = Some(text);
+    while let Some(text) = rest {
+        let (piece, others) = first_piece(text);
+        if !add_piece(alloc, pairs, piece)? {
+            return Ok(false);
+        }
+        rest = others;
+    }
+    Ok(true)
+}
+
+/// What a key in the files of a dataset is, or none where it is no index text, vertical line and datum text of pairs in
+/// their one spelling, none of whose names, nor of the dataset's, comes twice, with at most 255 bytes together.
+#[tactic(auto, unfolding(fd_outcome::specs::Rows::stored))]
+pub(crate) fn stored_key(
+    alloc: Global,
+    dataset: &str,
+    key: &[u8],
+) -> Result<Option<StoredKey>, NoMemory>
+    requires { length dataset.now ≤ 255 }
+    ensures { IfOk result (λ o. MatchOption o (stored dataset.now key.now ≡ None) (IsStored (stored dataset.now key.now))) }
+{
+    if key.len() > 256 {
+        return Ok(None);
+    }
+    let Some(text) = ascii_text(key) else {
+        return Ok(None);
+    };
+    match at_line(text) {
+        Some((index, datum)) => stored_at(alloc, dataset, index, datum),
+        None => Ok(None),
+    }
+}
+
+/// The same of its two texts.
+#[tactic(auto, unfolding(fd_outcome::specs::Rows::stored_at))]
+fn stored_at(
+    alloc: Global,
+    dataset: &str,
+    index: &str,
+    datum: &str,
+) -> Result<Option<StoredKey>, NoMemory>
+    requires { length dataset.now + length index.now + length datum.now < 2 ^ 31 }
+    ensures { IfOk result (λ o. MatchOption o (stored_at dataset.now index.now datum.now ≡ None) (IsStored (stored_at dataset.now index.now datum.now))) }
+{
+    let mut pairs = Key::new(alloc)?;
+    if !add_text(alloc, &mut pairs, dataset)? {
+        return Ok(None);
+    }
+    if !add_text(alloc, &mut pairs, index)? {
+        return Ok(None);
+    }
+    if !add_text(alloc, &mut pairs, datum)? {
+        return Ok(None);
+    }
+    if pairs.text(alloc)?.len() > 255 {
+        return Ok(None);
+    }
+    Ok(Some(StoredKey {
+        index: String::from_str(alloc, index)?,
+        datum: String::from_str(alloc, datum)?,
+        key: pairs,
+    }))
+}

@@ -1,0 +1,147 @@
+-- A dataset in which something is broken holds nothing that is told.
+use Rattle.std.proofs.Common.{◌≡◌, ◌∙◌, ◌<◌, ◌+◌, ℕ, zero, suc, Bool, true, false, List, [], ◌∷◌, ◌++◌, length, map, Option, Some, None, refl, sym, ap, inl, inr, arith, cond}
+use Rattle.std.specs.Prelude.{◌⊎◌, Contains, Result, Ok, Err, nat_lt, nat_le, ◌&&◌, take}
+use Rattle.std.proofs.lemmas.List.Elements.{Contains-append_cases}
+use Rattle.std.proofs.lemmas.Bool.Decides.{nat_tests}
+use Rattle.std.specs.Str.{bytes_eq}
+use Rattle.fd_disk.specs.declared.folders.FileName.{FileName}
+use Rattle.fd_disk.specs.Folders.{Contents}
+use Rattle.fd_core.specs.declared.batch.Pair.{Pair}
+use Rattle.fd_core.specs.declared.table.Entry.{Entry}
+use Rattle.fd_index.specs.Records.{Record, place_of}
+use Rattle.fd_segment.specs.Held.{batch_of, batch_told, batch_in, pairs_within, records_in, end_by}
+use Rattle.fd_segment.specs.declared.fault.Damage.{Damage}
+use Rattle.fd_segment.specs.declared.fault.Damage.TheVariants.{Absent, Length, Index, Beyond}
+use Rattle.fd_segment.specs.Causes.{IsBadIndex, IsBeyond}
+use Rattle.fd_recovery.specs.Damages.{damages, damages_at, damages_of, field_file, index_file}
+use Rattle.fd_recovery.specs.Recovered.{held, all_of, files_of}
+use Rattle.fd_outcome.specs.Causes.{Broken, BadTable, BadFile}
+use Rattle.fd_outcome.specs.Store.{Stands}
+
+cons_cases : {X : Type 0} (x z : X) (xs : List X) → Contains (x ∷ xs) z → (x ≡ z) ⊎ Contains xs z
+cons_cases x z xs (zero, lt, e) = inl e
+cons_cases x z xs (suc k, lt, e) = inr (k, omega arith, e)
+
+none_there : {X : Type 0} (z : X) → Contains [] z → ⊥
+none_there z (k, lt, e) = omega (arith, lt)
+
+-- ---- a batch that isn't told
+
+both_false : (a b : Bool) (x : Option (List Pair)) → b ≡ false → cond (a && b) x None ≡ None
+both_false true b x e = rw e refl
+both_false false b x e = refl
+
+first_false : (a b : Bool) (x : Option (List Pair)) → a ≡ false → cond (a && b) x None ≡ None
+first_false a b x e = rw e refl
+
+either_none : (c : Bool) (x : Option (List Pair)) → x ≡ None → cond c x None ≡ None
+either_none true x e = e
+either_none false x e = refl
+
+module _ (e : Entry) where
+  short_in : (i f : List ℕ) (d : Damage) → Contains (damages_of (field_file e) e.fields_len (Some f) ++ damages_of (index_file e) e.index_len (Some i)) d → batch_in e i f ≡ None
+  short_in i f d c = (elim (nat_lt (length f) e.fields_len) as (λ b. nat_lt (length f) e.fields_len ≡ b → batch_in e i f ≡ None) [
+    | true ↦ λ lt. let no : nat_le e.fields_len (length f) ≡ false = grind (arith, nat_tests) in both_false (nat_le e.index_len (length i)) (nat_le e.fields_len (length f)) _ no
+    | false ↦ λ ge. (elim (nat_lt (length i) e.index_len) as (λ b. nat_lt (length i) e.index_len ≡ b → batch_in e i f ≡ None) [
+      | true ↦ λ lt. let no : nat_le e.index_len (length i) ≡ false = grind (arith, nat_tests) in first_false (nat_le e.index_len (length i)) (nat_le e.fields_len (length f)) _ no
+      | false ↦ λ ge2. absurd (none_there d (rw (ge, ge2) at c))
+    ]) refl
+  ]) refl
+
+  short_told : (i f : Option (List ℕ)) (d : Damage) → Contains (damages_of (field_file e) e.fields_len f ++ damages_of (index_file e) e.index_len i) d → batch_told e i f ≡ None
+  short_told None f d c = refl
+  short_told (Some i) None d c = refl
+  short_told (Some i) (Some f) d c = short_in i f d c
+
+  bad_in : (i f : List ℕ) (at : ℕ) → records_in e i ≡ Err at → batch_in e i f ≡ None
+  bad_in i f at h = either_none (nat_le e.index_len (length i) && nat_le e.fields_len (length f)) _ (ap (pairs_within e.fields_len (take e.fields_len f)) h)
+
+  bad_told : (i f : Option (List ℕ)) (d : Damage) → IsBadIndex e i d → batch_told e i f ≡ None
+  bad_told None f d h = refl
+  bad_told (Some i) None d h = refl
+  bad_told (Some i) (Some f) (Absent file) h = absurd h
+  bad_told (Some i) (Some f) (Length file want got) h = absurd h
+  bad_told (Some i) (Some f) (Index file at) h = bad_in i f at h.1
+  bad_told (Some i) (Some f) (Beyond file end len) h = absurd h
+
+abbrev first_of : Option (ℕ × ℕ) → ℕ
+first_of None = 0
+first_of (Some p) = p.0
+
+abbrev second_of : Option (ℕ × ℕ) → ℕ
+second_of None = 0
+second_of (Some p) = p.1
+
+end_false : (n at len : ℕ) (key : List ℕ) (rs : List Record) → place_of key rs ≡ Some (at, len) → n < at + len → end_by n rs ≡ false
+end_false n at len key [] h lt = absurd cc
+end_false n at len key (r ∷ rs) h lt = (elim (bytes_eq key r.key) as (λ b. bytes_eq key r.key ≡ b → end_by n (r ∷ rs) ≡ false) [
+  | true ↦ λ same.
+      let is : (let p : Option (ℕ × ℕ) = Some (r.at, r.len) in p ≡ Some (at, len)) = rw same at h in
+      let a : r.at ≡ at = ap first_of is in
+      let l : r.len ≡ len = ap second_of is in
+      let no : nat_le (r.at + r.len) n ≡ false = grind (arith, nat_tests) in
+      rw no refl
+  | false ↦ λ apart. let later : end_by n rs ≡ false = end_false n at len key rs (rw apart at h) lt in either (nat_le (r.at + r.len) n) (end_by n rs) later
+]) refl
+  where
+    either : (a b : Bool) → b ≡ false → (a && b) ≡ false
+    either true b h = h
+    either false b h = refl
+
+module _ (e : Entry) where
+  within_none : (fields : List ℕ) (r : Result (List Record) ℕ) (key : List ℕ) (at len : ℕ) → ((rs : List Record) → r ≡ Ok rs → (let p : Option (ℕ × ℕ) = Some (at, len) in p ≡ place_of key rs)) → e.fields_len < at + len → pairs_within e.fields_len fields r ≡ None
+  within_none fields (Err x) key at len place lt = refl
+  within_none fields (Ok rs) key at len place lt = let no : end_by e.fields_len rs ≡ false = end_false e.fields_len at len key rs (sym (place rs refl)) lt in rw no refl
+
+  beyond_told : (i f : Option (List ℕ)) (key : List ℕ) (d : Damage) → IsBeyond e i key d → batch_told e i f ≡ None
+  beyond_told None f key d h = refl
+  beyond_told (Some i) None key d h = refl
+  beyond_told (Some i) (Some f) key (Absent file) h = absurd h
+  beyond_told (Some i) (Some f) key (Length file want got) h = absurd h
+  beyond_told (Some i) (Some f) key (Index file at) h = absurd h
+  beyond_told (Some i) (Some f) key (Beyond file end len) h =
+      let ends = h.3 in
+      let is : len ≡ e.fields_len = h.1 in
+      let past : len < end = h.2 in
+      let sum : end ≡ ends.at + ends.len = ends.ends in
+      either_none (nat_le e.index_len (length i) && nat_le e.fields_len (length f)) _ (within_none (take e.fields_len f) (records_in e i) key ends.at ends.len ends.place (omega (arith, is, past, sum)))
+
+-- ---- a table with such a batch
+
+module _ (files : FileName → Option (List ℕ)) where
+  abbrev batch_at : Entry → Option (List Pair)
+  batch_at e = batch_of (files_of files e)
+
+  none_first : (rest : List (Option (List Pair))) (b : Option (List Pair)) → b ≡ None → all_of (b ∷ rest) ≡ None
+  none_first rest None e = refl
+  none_first rest (Some b) e = absurd cc
+
+  none_later : (rest : List (Option (List Pair))) (b : Option (List Pair)) → all_of rest ≡ None → all_of (b ∷ rest) ≡ None
+  none_later rest None e = refl
+  none_later rest (Some b) e = rw e refl
+
+  none_among : (es : List Entry) (e : Entry) → Contains es e → batch_at e ≡ None → all_of (map batch_at es) ≡ None
+  none_among [] e c none = absurd (none_there e c)
+  none_among (x ∷ xs) e c none = elim (cons_cases x e xs c) as (λ _. all_of (map batch_at (x ∷ xs)) ≡ None) [
+    | inl same ↦ none_first (map batch_at xs) (batch_at x) (ap batch_at same ∙ none)
+    | inr later ↦ none_later (map batch_at xs) (batch_at x) (none_among xs e later none)
+  ]
+
+  none_of_damages : (es : List Entry) (d : Damage) → Contains (damages files es) d → all_of (map batch_at es) ≡ None
+  unfolding batch_of
+  none_of_damages [] d c = absurd (none_there d c)
+  none_of_damages (x ∷ xs) d c = elim (Contains-append_cases (damages_at files x) (damages files xs) d c) as (λ _. all_of (map batch_at (x ∷ xs)) ≡ None) [
+    | inl here ↦ none_first (map batch_at xs) (batch_at x) (short_told x (files (index_file x)) (files (field_file x)) d here)
+    | inr later ↦ none_later (map batch_at xs) (batch_at x) (none_of_damages xs d later)
+  ]
+
+  of_entry : (e : Entry) (d : Damage) → (IsBadIndex e (files (index_file e)) d ⊎ ((key : List ℕ) × IsBeyond e (files (index_file e)) key d)) → batch_at e ≡ None
+  unfolding batch_of
+  of_entry e d (inl bad) = bad_told e (files (index_file e)) (files (field_file e)) d bad
+  of_entry e d (inr (key, beyond)) = beyond_told e (files (index_file e)) (files (field_file e)) key d beyond
+
+-- Where something is broken, no table is told.
+pub damaged_held : (name : List ℕ) (v : Contents) (broken : Broken) → Stands name v broken → held name v ≡ None
+damaged_held name v (BadTable fault) (f, is, bad) = rw (is, bad) refl
+damaged_held name v (BadFile d) (f, es, is, listed_is, inl among) = rw (is, listed_is) (none_of_damages v.files es d among)
+damaged_held name v (BadFile d) (f, es, is, listed_is, inr (e, there, bad)) = rw (is, listed_is) (none_among v.files es e there (of_entry v.files e d bad))

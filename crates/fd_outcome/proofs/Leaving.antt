@@ -1,0 +1,54 @@
+-- A run that leaves the store as it was.
+use Rattle.std.proofs.Common.{◌≡◌, ◌∙◌, ℕ, List, [], Option, Some, None, refl, sym, inl, inr, append-nil, ap, arith}
+use Rattle.std.specs.Prelude.{◌⊎◌, Result, Ok, Err}
+use Rattle.fd_disk.specs.Folders.{Contents, Holdings, folder_at, WhereTold}
+use Rattle.fd_key.specs.Pairs as keys
+use Rattle.fd_core.specs.declared.batch.Pair.{Pair}
+use Rattle.fd_schema.specs.Rules.{Rule}
+use Rattle.fd_words.specs.declared.command.Command.{Command}
+use Rattle.fd_words.specs.declared.command.Command.TheVariants as commands
+use Rattle.fd_outcome.specs.declared.status.Status.{Status}
+use Rattle.fd_outcome.specs.declared.status.Status.TheVariants.{NoMemory, OutputFault}
+use Rattle.fd_outcome.specs.Causes.{Cause}
+use Rattle.fd_outcome.specs.Store.{Adds, Grows, Sorted, StaysFolder, Stays, table_at}
+use Rattle.fd_outcome.specs.Asking.{rules_of}
+use Rattle.fd_outcome.specs.Ends.{Leaves, LeavesBy}
+
+pub stays_folder : (name : List ℕ) (v : Contents) → StaysFolder name v v
+stays_folder name v = record { table = refl; files = λ n. refl }
+
+pub stays : (h : Holdings) → Stays h h
+stays h = record { schema = refl; folders = λ name. stays_folder name (folder_at h name) }
+
+adds_none : (pairs : List Pair) (t : List (List Pair)) (after : Option (List (List Pair))) → after ≡ Some t → Adds pairs t after
+adds_none pairs t after is = record { added = []; after_is = is ∙ ap (λ x. Some x) (sym (append-nil t)); only = λ k d lt. absurd (omega arith); few = omega arith }
+
+pub grows_none : (pairs : Sorted) (h : Holdings) → Grows pairs h h
+grows_none pairs h = record { schema = refl; each = λ name t is. adds_none (pairs name) t (table_at h name) is }
+
+-- a status at which the store may be as it was, whatever was read
+abbrev pub IsIdle : Status → Type 0
+IsIdle s = (s ≡ NoMemory) ⊎ (s ≡ OutputFault)
+
+stored_idle : (s : Status) → IsIdle s → (calm full : Type 0) (r : Result (List Rule) Cause) (given : List keys.Pair) (input : List ℕ) (left : Option (List ℕ)) (h : Holdings) → LeavesBy s calm full r given input left h h
+stored_idle s (inl is) calm full (Ok rules) given input left h = rw is (grows_none _ h)
+stored_idle s (inr is) calm full (Ok rules) given input left h = rw is (λ c. grows_none _ h)
+stored_idle s idle calm full (Err cause) given input left h = stays h
+
+leaves_idle : (command : Command) (s : Status) → IsIdle s → (calm full : Type 0) (input left : Option (List ℕ)) (h : Holdings) → Leaves command s calm full input left h h
+leaves_idle (commands.Pick wanted) s idle calm full input left h = refl
+leaves_idle commands.Describe s idle calm full input left h = refl
+leaves_idle (commands.Values decimals) s idle calm full input left h = refl
+leaves_idle (commands.Create root) s idle calm full None left h = tt
+leaves_idle (commands.Create root) s (inl is) calm full (Some octets) left h = rw is (stays h)
+leaves_idle (commands.Create root) s (inr is) calm full (Some octets) left h = rw is (inl (stays h))
+leaves_idle (commands.Archive root given) s idle calm full None left h = tt
+leaves_idle (commands.Archive root given) s idle calm full (Some octets) left h = stored_idle s idle calm full (rules_of h.schema) given octets left h
+leaves_idle (commands.Retrieve root) s idle calm full input left h = stays h
+leaves_idle (commands.List root) s idle calm full input left h = stays h
+leaves_idle (commands.Axes root) s idle calm full input left h = stays h
+leaves_idle (commands.Stats root) s idle calm full input left h = stays h
+
+pub idle_store : (command : Command) (s : Status) → IsIdle s → (calm full : Type 0) (input left : Option (List ℕ)) (has : Option Holdings) → WhereTold has has (Leaves command s calm full input left)
+idle_store command s idle calm full input left None = tt
+idle_store command s idle calm full input left (Some h) = leaves_idle command s idle calm full input left h

@@ -1,0 +1,93 @@
+-- What is stored of a stream of messages.
+use Rattle.std.specs.Prelude.{ℕ, ◌+◌, Bool, false, not, ◌&&◌, List, [], ◌∷◌, ◌++◌, length, codes, nat_lt, Option, Some, None, Result, Ok, Err, if◌then◌else◌}
+use Rattle.std.specs.Str.{bytes_eq}
+use Rattle.std.specs.Fmt.{decimal}
+use Rattle.fd_sections.specs.Message.{Sections, message_octets}
+use Rattle.fd_sections.specs.Stream.{Stream, stream}
+use Rattle.fd_key.specs.declared.fault.KeyFault.{KeyFault}
+use Rattle.fd_key.specs.Pairs as keys
+use Rattle.fd_key.specs.Keys.{key_of}
+use Rattle.fd_core.specs.declared.batch.Pair.{Pair}
+use Rattle.fd_schema.specs.Rules.{Rule, Texts, file_key, place_from}
+use Rattle.fd_listing.specs.Lines.{line}
+use Rattle.fd_outcome.specs.declared.refusal.Refusal.{Refusal}
+use Rattle.fd_outcome.specs.declared.refusal.Refusal.TheVariants.{Key}
+use Rattle.fd_outcome.specs.Inputs.{refused, of_input}
+use Rattle.fd_outcome.specs.Causes.{Cause, InStream, NoRule, TooManyDatasets}
+use Rattle.fd_outcome.specs.Asking.{is_among, count_distinct}
+
+-- a message that is stored: its dataset, and the pair under which it stands there
+pub record Stored : Type 0 where
+  pub dataset : List ℕ
+  pub pair : Pair
+
+-- the messages that are stored, in the order of the stream, why those behind them are refused, if they are, and how many
+-- octets are skipped
+pub record Taken : Type 0 where
+  pub stored : List Stored
+  pub refusal : Option Cause
+  pub junk : ℕ
+
+abbrev pub stored_at : Texts → Sections → Stored
+stored_at place m = record { dataset = place.dataset; pair = record { key = file_key place; bytes = message_octets m } }
+
+-- a 2,049th dataset
+abbrev pub is_too_many : List (List ℕ) → List ℕ → Bool
+is_too_many datasets name = not (is_among datasets name) && not (nat_lt (count_distinct datasets) 2048)
+
+-- where a message is stored, whose datasets before it were these
+abbrev pub stored_in : List (List ℕ) → Sections → List keys.Pair → Option Texts → Result Stored Cause
+stored_in datasets m key None = Err (NoRule key)
+stored_in datasets m key (Some place) = if is_too_many datasets place.dataset then Err TooManyDatasets else Ok (stored_at place m)
+
+abbrev pub keyed : List Rule → List (List ℕ) → ℕ → Sections → Result (List keys.Pair) KeyFault → Result Stored Cause
+keyed rules datasets n m (Err fault) = Err (InStream (Key n fault))
+keyed rules datasets n m (Ok key) = stored_in datasets m key (place_from 0 rules key)
+
+-- where message n is stored, or why it isn't
+abbrev pub stored_of : List Rule → List keys.Pair → List (List ℕ) → ℕ → Sections → Result Stored Cause
+stored_of rules given datasets n m = keyed rules datasets n m (key_of m given)
+
+abbrev pub ended : Option Cause → ℕ → Taken
+ended refusal junk = record { stored = []; refusal = refusal; junk = junk }
+
+-- a message that is stored before others, or a refusal, after which nothing is
+abbrev pub before : Result Stored Cause → (List ℕ → Taken) → Taken
+before (Err cause) others = ended (Some cause) 0
+before (Ok s) others = record { stored = s ∷ (others s.dataset).stored; refusal = (others s.dataset).refusal; junk = (others s.dataset).junk }
+
+-- the messages from number n on, after messages of these datasets; `last` tells why what follows them is refused, if it is
+abbrev pub taken_messages : List Rule → List keys.Pair → List (List ℕ) → ℕ → Option Cause → ℕ → List Sections → Taken
+taken_messages rules given datasets n last junk [] = ended last junk
+taken_messages rules given datasets n last junk (m ∷ ms) =
+    before (stored_of rules given datasets n m) (λ dataset. taken_messages rules given (datasets ++ dataset ∷ []) (n + 1) last junk ms)
+
+abbrev pub in_stream : Option Refusal → Option Cause
+in_stream None = None
+in_stream (Some refusal) = Some (InStream refusal)
+
+-- what is stored of a stream that comes after n messages, which were of these datasets, and after so many skipped octets
+abbrev pub taken_after : List Rule → List keys.Pair → Bool → List (List ℕ) → ℕ → ℕ → Stream → Taken
+taken_after rules given past datasets n junk s =
+    taken_messages rules given datasets (n + 1) (in_stream (refused past (n + length s.messages) s.end)) (junk + s.skipped) s.messages
+
+-- What is stored of an input.
+abbrev pub taken : List Rule → List keys.Pair → List ℕ → Taken
+taken rules given input = of_input (λ past s. taken_after rules given past [] 0 0 s) input
+
+-- what is stored of the messages that are whole in these octets
+abbrev pub taken_of : List Rule → List keys.Pair → List ℕ → List Stored
+taken_of rules given octets = (taken_after rules given false [] 0 0 (stream octets)).stored
+
+-- the pairs of one dataset, in the order of the stream
+abbrev pub pairs_for : List Stored → List ℕ → List Pair
+pairs_for [] name = []
+pairs_for (s ∷ ss) name = if bytes_eq s.dataset name then s.pair ∷ pairs_for ss name else pairs_for ss name
+
+abbrev pub datasets_in : List Stored → List (List ℕ)
+datasets_in [] = []
+datasets_in (s ∷ ss) = s.dataset ∷ datasets_in ss
+
+-- `archived n datasets d junk j`
+abbrev pub archived_line : Taken → List ℕ
+archived_line t = line (codes "archived " ++ decimal (length t.stored) ++ codes " datasets " ++ decimal (count_distinct (datasets_in t.stored)) ++ codes " junk " ++ decimal t.junk)

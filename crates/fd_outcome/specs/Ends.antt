@@ -1,0 +1,314 @@
+-- What each status tells of the words, of the input, of the store, and of what was written.
+use Rattle.std.specs.Prelude.{◌≡◌, ◌⊎◌, ◌++◌, ℕ, List, [], codes, Option, Some, None, IfSome, IsSome, Result, Ok, Err, Contains}
+use Rattle.fd_io.specs.Streams.{Takes, TakesFront}
+use Rattle.fd_disk.specs.Folders.{Holdings, folder_at}
+use Rattle.fd_key.specs.Pairs as keys
+use Rattle.fd_schema.specs.Rules.{Rule}
+use Rattle.fd_words.specs.declared.command.Command.{Command}
+use Rattle.fd_words.specs.declared.command.Command.TheVariants as commands
+use Rattle.fd_outcome.specs.declared.status.Status.{Status}
+use Rattle.fd_outcome.specs.declared.status.Status.TheVariants.{Done, Missed, Words, Refused, InputFault, OutputFault, DiskFault, NoMemory, Damaged, Limit}
+use Rattle.fd_listing.specs.Lines.{line}
+use Rattle.fd_outcome.specs.Causes.{Cause, Broken, damaged_line, table_full}
+use Rattle.fd_outcome.specs.Store.{AreNames, IsFull, Grows, GrowsBy, Plants, Stands, Stays, table_at}
+use Rattle.fd_outcome.specs.Asking.{Asked, asked_of, datasets_of, rules_of}
+use Rattle.fd_outcome.specs.Archiving.{Taken, taken, taken_of, pairs_for, datasets_in}
+use Rattle.fd_outcome.specs.Objects.{Object, Failed, Failures, IsCalm, failures}
+use Rattle.fd_outcome.specs.Outcome.{Outcome, Early, outcome, early, nothing_early}
+
+abbrev pub usage : List ℕ
+usage = line (codes "usage: fdb pick describe values generate create archive retrieve list axes stats session trial")
+
+abbrev pub input_failed : List ℕ
+input_failed = line (codes "input failed")
+
+abbrev pub output_failed : List ℕ
+output_failed = line (codes "output failed")
+
+abbrev pub disk_failed : List ℕ
+disk_failed = line (codes "disk failed")
+
+abbrev pub no_memory : List ℕ
+no_memory = line (codes "no memory")
+
+-- ---- what was written. Of output and report stand what they had taken before and after, where they tell.
+
+-- The status is that of the outcome, and all that the outcome writes was written.
+pub record Tells (s : Status) (o : Outcome) (a b c d : Option (List ℕ)) : Type 0 where
+  pub status : s ≡ o.status
+  pub output : Takes a b o.output
+  pub report : Takes c d o.report
+
+-- a front of the first text and all of the second
+abbrev pub TakesAfter : Option (List ℕ) → Option (List ℕ) → List ℕ → List ℕ → Type 0
+TakesAfter c d most text = (front : List ℕ) × (rest : List ℕ) × (most ≡ front ++ rest) × Takes c d (front ++ text)
+
+-- a front of the first text and a front of the second
+abbrev pub TakesFrontAfter : Option (List ℕ) → Option (List ℕ) → List ℕ → List ℕ → Type 0
+TakesFrontAfter c d most text = (front : List ℕ) × (rest : List ℕ) × (most ≡ front ++ rest) × TakesFront c d (front ++ text)
+
+-- the run stopped early: output and report took fronts of what they may take then, and report took this line behind it
+pub record Stops (most : Early) (text : List ℕ) (a b c d : Option (List ℕ)) : Type 0 where
+  pub output : TakesFront a b most.output
+  pub report : TakesAfter c d most.report text
+
+-- The same. Where a dataset that is read is damaged, all that is said is that report took this line last.
+abbrev pub StopsWith : Option Outcome → Early → List ℕ → Option (List ℕ) → Option (List ℕ) → Option (List ℕ) → Option (List ℕ) → Type 0
+StopsWith (Some o) most text a b c d = Stops most text a b c d
+StopsWith None most text a b c d = (before : List ℕ) × Takes c d (before ++ text)
+
+-- the lines of what the store may meet, by their statuses
+abbrev pub Troubles : Type 1
+Troubles = Status → List ℕ → Type 0
+
+abbrev pub Halts : Troubles → Status → Option Outcome → Early → Option (List ℕ) → Option (List ℕ) → Option (List ℕ) → Option (List ℕ) → Type 0
+Halts troubles s o most a b c d = (text : List ℕ) × troubles s text × StopsWith o most text a b c d
+
+-- The output failed: it took a front of what it was to take, and the report a front of what may come early and then the
+-- line that tells it.
+pub record Unwritten (o : Outcome) (most : Early) (a b c d : Option (List ℕ)) : Type 0 where
+  pub output : TakesFront a b o.output
+  pub report : TakesAfter c d most.report output_failed
+
+-- The report failed, and output had taken a front of this; the report took a front of what may come early, or that and a
+-- front of this line.
+pub record Cut (most : Early) (text written : List ℕ) (a b c d : Option (List ℕ)) : Type 0 where
+  pub output : TakesFront a b written
+  pub report : TakesFrontAfter c d most.report text
+
+-- What was written when the report failed.
+pub data Untold (failed : Failures) (troubles : Troubles) (o : Outcome) (most : Early) (a b c d : Option (List ℕ)) : Type 0 where
+  -- at a line that is told on the way
+  OnTheWay : (output : TakesFront a b most.output) (report : TakesFront c d most.report) → Untold failed troubles o most a b c d
+  -- at the end, where the output had taken all
+  AtTheEnd : (output : Takes a b o.output) (report : TakesFront c d o.report) → Untold failed troubles o most a b c d
+  -- at the line of another status that ends a run early
+  AtOutputFailed : (cause : failed.output) (cut : Cut most output_failed o.output a b c d) → Untold failed troubles o most a b c d
+  AtInputFailed : (cause : failed.input) (cut : Cut most input_failed most.output a b c d) → Untold failed troubles o most a b c d
+  AtNoMemory : (cut : Cut most no_memory most.output a b c d) → Untold failed troubles o most a b c d
+  AtTrouble : (s : Status) (text : List ℕ) (cause : troubles s text) (cut : Cut most text most.output a b c d) → Untold failed troubles o most a b c d
+
+-- A write failed: of the output, or of the report. Where a dataset that is read is damaged, less is said.
+abbrev pub Fails : Failures → Troubles → Option Outcome → Early → Option (List ℕ) → Option (List ℕ) → Option (List ℕ) → Option (List ℕ) → Type 0
+Fails failed troubles (Some o) most a b c d = (failed.output × Unwritten o most a b c d) ⊎ (failed.report × Untold failed troubles o most a b c d)
+Fails failed troubles None most a b c d = (failed.output × ((before : List ℕ) × Takes c d (before ++ output_failed))) ⊎ failed.report
+
+-- there is an outcome, and it is told
+abbrev pub TellsSome : Status → Option Outcome → Option (List ℕ) → Option (List ℕ) → Option (List ℕ) → Option (List ℕ) → Type 0
+TellsSome s None a b c d = ⊥
+TellsSome s (Some o) a b c d = Tells s o a b c d
+
+-- What the status of a command says of the outcome and of what was written.
+abbrev pub Ends : Failures → Status → Option Outcome → Early → Troubles → Option (List ℕ) → Option (List ℕ) → Option (List ℕ) → Option (List ℕ) → Type 0
+Ends failed Done o most troubles a b c d = IfSome o (λ x. Tells Done x a b c d)
+Ends failed Missed o most troubles a b c d = IfSome o (λ x. Tells Missed x a b c d)
+Ends failed Words o most troubles a b c d = ⊥
+Ends failed Refused o most troubles a b c d = TellsSome Refused o a b c d
+Ends failed InputFault o most troubles a b c d = StopsWith o most input_failed a b c d
+Ends failed OutputFault o most troubles a b c d = Fails failed troubles o most a b c d
+Ends failed DiskFault o most troubles a b c d = Halts troubles DiskFault o most a b c d
+Ends failed NoMemory o most troubles a b c d = StopsWith o most no_memory a b c d
+Ends failed Damaged o most troubles a b c d = TellsSome Damaged o a b c d ⊎ Halts troubles Damaged o most a b c d
+Ends failed Limit o most troubles a b c d = TellsSome Limit o a b c d ⊎ Halts troubles Limit o most a b c d
+
+-- ---- what a store may meet
+
+abbrev pub AmongAsked : Result (List Asked) Cause → List ℕ → Type 0
+AmongAsked (Ok asked) name = Contains (datasets_of asked) name
+AmongAsked (Err cause) name = ⊥
+
+abbrev pub AmongTaken : List keys.Pair → Result (List Rule) Cause → List ℕ → List ℕ → Type 0
+AmongTaken given (Ok rules) input name = Contains (datasets_in (taken rules given input).stored) name
+AmongTaken given (Err cause) input name = ⊥
+
+-- the command opens the dataset: `retrieve` those of the keys, `archive` those of the messages, the listings all
+abbrev pub Opens : Command → Holdings → List (List ℕ) → List ℕ → List ℕ → Type 0
+Opens (commands.Pick wanted) h names input name = ⊥
+Opens commands.Describe h names input name = ⊥
+Opens (commands.Values decimals) h names input name = ⊥
+Opens (commands.Create root) h names input name = ⊥
+Opens (commands.Archive root given) h names input name = AmongTaken given (rules_of h.schema) input name
+Opens (commands.Retrieve root) h names input name = AmongAsked (asked_of h input) name
+Opens (commands.List root) h names input name = Contains names name
+Opens (commands.Axes root) h names input name = Contains names name
+Opens (commands.Stats root) h names input name = Contains names name
+
+-- the command calls the store
+abbrev pub UsesStore : Command → Type 0
+UsesStore (commands.Pick wanted) = ⊥
+UsesStore commands.Describe = ⊥
+UsesStore (commands.Values decimals) = ⊥
+UsesStore (commands.Create root) = Unit {0}
+UsesStore (commands.Archive root given) = Unit {0}
+UsesStore (commands.Retrieve root) = Unit {0}
+UsesStore (commands.List root) = Unit {0}
+UsesStore (commands.Axes root) = Unit {0}
+UsesStore (commands.Stats root) = Unit {0}
+
+-- the command stores fields
+abbrev pub StoresFields : Command → Type 0
+StoresFields (commands.Pick wanted) = ⊥
+StoresFields commands.Describe = ⊥
+StoresFields (commands.Values decimals) = ⊥
+StoresFields (commands.Create root) = ⊥
+StoresFields (commands.Archive root given) = Unit {0}
+StoresFields (commands.Retrieve root) = ⊥
+StoresFields (commands.List root) = ⊥
+StoresFields (commands.Axes root) = ⊥
+StoresFields (commands.Stats root) = ⊥
+
+-- the line names what is broken in a dataset that the command opens
+abbrev pub TellsDamage : Command → Holdings → List (List ℕ) → List ℕ → List ℕ → Type 0
+TellsDamage command h names input text =
+    (name : List ℕ) × (broken : Broken) × Opens command h names input name × Stands name (folder_at h name) broken × (text ≡ damaged_line name broken)
+
+-- A call of the store fails; a dataset is damaged; a table of a dataset that it opens is full afterwards. Nothing else that
+-- the store meets ends a command.
+abbrev pub troubles : Command → Failures → Holdings → Holdings → List (List ℕ) → List ℕ → Troubles
+troubles command failed h i names input Done text = ⊥
+troubles command failed h i names input Missed text = ⊥
+troubles command failed h i names input Words text = ⊥
+troubles command failed h i names input Refused text = ⊥
+troubles command failed h i names input InputFault text = ⊥
+troubles command failed h i names input OutputFault text = ⊥
+troubles command failed h i names input DiskFault text = UsesStore command × failed.store × (text ≡ disk_failed)
+troubles command failed h i names input NoMemory text = ⊥
+troubles command failed h i names input Damaged text = TellsDamage command h names input text
+troubles command failed h i names input Limit text = StoresFields command × (text ≡ table_full) × ((name : List ℕ) × Opens command h names input name × IsFull i name)
+
+-- ---- of a command, where the objects tell
+
+abbrev pub nothing_held : Holdings
+nothing_held = record { schema = None; folders = λ name. None }
+
+-- where the input and the store tell, as far as the command asks them; the store before the command and after it
+abbrev pub WhereAsked : Command → Option (List ℕ) → Option Holdings → Option Holdings → (List ℕ → Holdings → Holdings → Type 0) → Type 0
+WhereAsked (commands.Pick wanted) input store after P = IfSome input (λ octets. P octets nothing_held nothing_held)
+WhereAsked commands.Describe input store after P = IfSome input (λ octets. P octets nothing_held nothing_held)
+WhereAsked (commands.Values decimals) input store after P = IfSome input (λ octets. P octets nothing_held nothing_held)
+WhereAsked (commands.Create root) input store after P = IfSome input (λ octets. IfSome store (λ h. IfSome after (P octets h)))
+WhereAsked (commands.Archive root given) input store after P = IfSome input (λ octets. IfSome store (λ h. IfSome after (P octets h)))
+WhereAsked (commands.Retrieve root) input store after P = IfSome input (λ octets. IfSome store (λ h. IfSome after (P octets h)))
+WhereAsked (commands.List root) input store after P = IfSome input (λ octets. IfSome store (λ h. IfSome after (P octets h)))
+WhereAsked (commands.Axes root) input store after P = IfSome input (λ octets. IfSome store (λ h. IfSome after (P octets h)))
+WhereAsked (commands.Stats root) input store after P = IfSome store (λ h. IfSome after (P [] h))
+
+-- What a status says of a command, of its input and of its store.
+abbrev pub Runs : Command → Status → Object Holdings → Object (List ℕ) → Object (List ℕ) → Object (List ℕ) → Type 0
+Runs command s store input output report = WhereAsked command input.before store.before store.now (λ octets h i. (names : List (List ℕ)) → AreNames h names
+    → Ends (failures store input output report) s (outcome command h names octets) (early command h names octets) (troubles command (failures store input output report) h i names octets)
+    output.before output.now report.before report.now)
+
+-- What a status says where the words are no command: nothing goes to the output, and only the report can fail.
+abbrev pub EndsUnasked : Status → Object (List ℕ) → Object (List ℕ) → Type 0
+EndsUnasked Done output report = ⊥
+EndsUnasked Missed output report = ⊥
+EndsUnasked Words output report = Stops nothing_early usage output.before output.now report.before report.now
+EndsUnasked Refused output report = ⊥
+EndsUnasked InputFault output report = ⊥
+EndsUnasked OutputFault output report = Failed report × TakesFront output.before output.now [] × (TakesFront report.before report.now usage ⊎ TakesFront report.before report.now no_memory)
+EndsUnasked DiskFault output report = ⊥
+EndsUnasked NoMemory output report = Stops nothing_early no_memory output.before output.now report.before report.now
+EndsUnasked Damaged output report = ⊥
+EndsUnasked Limit output report = ⊥
+
+-- no read of the input and no write of the output failed
+abbrev pub AreCalm : Object (List ℕ) → Object (List ℕ) → Type 0
+AreCalm input output = IsCalm input × IsCalm output
+
+-- At 0, 1, 3 and 9 no read of the input and no write of the output failed, so a fault is told. A full table is told in
+-- its place.
+abbrev pub Calm : Command → Status → Object (List ℕ) → Object (List ℕ) → Object (List ℕ) → Type 0
+Calm command Done input output report = AreCalm input output
+Calm command Missed input output report = AreCalm input output
+Calm command Words input output report = Unit {0}
+Calm command Refused input output report = AreCalm input output
+Calm command InputFault input output report = Unit {0}
+Calm command OutputFault input output report = Unit {0}
+Calm command DiskFault input output report = Unit {0}
+Calm command NoMemory input output report = Unit {0}
+Calm command Damaged input output report = Unit {0}
+Calm command Limit input output report = AreCalm input output ⊎ (StoresFields command × Takes report.before report.now table_full)
+
+-- At 0 and 1 the input was read to its end. `stats` reads none of it.
+abbrev pub ReadsOut : Command → Option (List ℕ) → Option (List ℕ) → Type 0
+ReadsOut (commands.Stats root) before after = after ≡ before
+ReadsOut (commands.Pick wanted) before after = IfSome before (λ octets. after ≡ Some [])
+ReadsOut commands.Describe before after = IfSome before (λ octets. after ≡ Some [])
+ReadsOut (commands.Values decimals) before after = IfSome before (λ octets. after ≡ Some [])
+ReadsOut (commands.Create root) before after = IfSome before (λ octets. after ≡ Some [])
+ReadsOut (commands.Archive root given) before after = IfSome before (λ octets. after ≡ Some [])
+ReadsOut (commands.Retrieve root) before after = IfSome before (λ octets. after ≡ Some [])
+ReadsOut (commands.List root) before after = IfSome before (λ octets. after ≡ Some [])
+ReadsOut (commands.Axes root) before after = IfSome before (λ octets. after ≡ Some [])
+
+-- the datasets that the command opens aren't damaged
+abbrev pub AreSound : Command → Holdings → List (List ℕ) → List ℕ → Type 0
+AreSound command h names input = (name : List ℕ) → Opens command h names input name → IsSome (table_at h name)
+
+-- Where no count of faults rose and no dataset that it opens is damaged, a command ends with the status of its outcome, or
+-- memory ran out, or, for `archive`, a table was full.
+abbrev pub Completes : Command → Status → Option (List ℕ) → Option Holdings → Option Holdings → Type 0
+Completes command s input store after = WhereAsked command input store after (λ octets h i. (names : List (List ℕ)) → AreNames h names → AreSound command h names octets
+    → (o : Outcome) → outcome command h names octets ≡ Some o → (s ≡ o.status) ⊎ ((s ≡ NoMemory) ⊎ (StoresFields command × (s ≡ Limit))))
+
+-- ---- what becomes of the store
+
+-- the octets before those that are left were read, and the messages that are whole in them are stored
+pub record StoresRead (rules : List Rule) (given : List keys.Pair) (input : List ℕ) (left : Option (List ℕ)) (h i : Holdings) : Type 0 where
+  pub seen : List ℕ
+  pub rest : List ℕ
+  pub input_is : input ≡ seen ++ rest
+  pub left_is : left ≡ Some rest
+  pub grows : GrowsBy (pairs_for (taken_of rules given seen)) h i
+
+-- a table of one of the datasets is full, and what was stored is of the stream
+pub record StoresUntilFull (stored : Taken) (h i : Holdings) : Type 0 where
+  pub name : List ℕ
+  pub among : Contains (datasets_in stored.stored) name
+  pub full : IsFull i name
+  pub grows : Grows (pairs_for stored.stored) h i
+
+-- What `archive` leaves of the store. `calm` says that no call of the store has failed, `full` that the line of a full table
+-- was told.
+abbrev pub LeavesStored : Status → Type 0 → Type 0 → List Rule → List keys.Pair → List ℕ → Option (List ℕ) → Holdings → Holdings → Type 0
+LeavesStored Done calm full rules given input left h i = GrowsBy (pairs_for (taken rules given input).stored) h i
+LeavesStored Missed calm full rules given input left h i = ⊥
+LeavesStored Words calm full rules given input left h i = ⊥
+LeavesStored Refused calm full rules given input left h i = GrowsBy (pairs_for (taken rules given input).stored) h i
+LeavesStored InputFault calm full rules given input left h i = StoresRead rules given input left h i
+LeavesStored OutputFault calm full rules given input left h i = calm → Grows (pairs_for (taken rules given input).stored) h i
+LeavesStored DiskFault calm full rules given input left h i = calm → Grows (pairs_for (taken rules given input).stored) h i
+LeavesStored NoMemory calm full rules given input left h i = Grows (pairs_for (taken rules given input).stored) h i
+LeavesStored Damaged calm full rules given input left h i = Grows (pairs_for (taken rules given input).stored) h i
+LeavesStored Limit calm full rules given input left h i = GrowsBy (pairs_for (taken rules given input).stored) h i ⊎ (full × StoresUntilFull (taken rules given input) h i)
+
+abbrev pub LeavesBy : Status → Type 0 → Type 0 → Result (List Rule) Cause → List keys.Pair → List ℕ → Option (List ℕ) → Holdings → Holdings → Type 0
+LeavesBy s calm full (Ok rules) given input left h i = LeavesStored s calm full rules given input left h i
+LeavesBy s calm full (Err cause) given input left h i = Stays h i
+
+-- What `create` leaves of the store.
+abbrev pub LeavesSchema : Status → List ℕ → Holdings → Holdings → Type 0
+LeavesSchema Done input h i = Plants input h i
+LeavesSchema Missed input h i = ⊥
+LeavesSchema Words input h i = ⊥
+LeavesSchema Refused input h i = Stays h i
+LeavesSchema InputFault input h i = Stays h i
+LeavesSchema OutputFault input h i = Stays h i ⊎ Plants input h i
+LeavesSchema DiskFault input h i = Stays h i ⊎ Plants input h i
+LeavesSchema NoMemory input h i = Stays h i
+LeavesSchema Damaged input h i = ⊥
+LeavesSchema Limit input h i = Stays h i
+
+-- What a command leaves of the store: a command over a stream doesn't call it, and a command that only reads leaves the
+-- schema, each table and each file as they were.
+abbrev pub Leaves : Command → Status → Type 0 → Type 0 → Option (List ℕ) → Option (List ℕ) → Holdings → Holdings → Type 0
+Leaves (commands.Pick wanted) s calm full input left h i = i ≡ h
+Leaves commands.Describe s calm full input left h i = i ≡ h
+Leaves (commands.Values decimals) s calm full input left h i = i ≡ h
+Leaves (commands.Create root) s calm full input left h i = IfSome input (λ octets. LeavesSchema s octets h i)
+Leaves (commands.Archive root given) s calm full input left h i = IfSome input (λ octets. LeavesBy s calm full (rules_of h.schema) given octets left h i)
+Leaves (commands.Retrieve root) s calm full input left h i = Stays h i
+Leaves (commands.List root) s calm full input left h i = Stays h i
+Leaves (commands.Axes root) s calm full input left h i = Stays h i
+Leaves (commands.Stats root) s calm full input left h i = Stays h i

@@ -1,0 +1,50 @@
+-- Why a stream is refused, and the line that tells it.
+use Rattle.std.specs.Prelude.{ℕ, List, ◌++◌, codes}
+use Rattle.std.specs.Fmt.{decimal}
+use Rattle.fd_key.specs.declared.fault.KeyFault.{KeyFault}
+use Rattle.fd_packing.specs.declared.fault.FieldFault.{FieldFault}
+use Rattle.fd_packing.specs.declared.fault.FieldFault.TheVariants as fields
+use Rattle.fd_listing.specs.Lines.{blank, line}
+use Rattle.fd_listing.specs.Describe.{key_fault_text}
+use Rattle.fd_outcome.specs.declared.refusal.Refusal.{Refusal}
+use Rattle.fd_outcome.specs.declared.refusal.Refusal.TheVariants as refusals
+use Rattle.fd_outcome.specs.declared.status.Status.{Status}
+use Rattle.fd_outcome.specs.declared.status.Status.TheVariants.{Refused, Limit}
+
+-- the kind of a fault and its numbers
+abbrev pub field_fault_text : FieldFault → List ℕ
+field_fault_text (fields.Template template) = codes "Template " ++ decimal template
+field_fault_text (fields.BadLength said) = codes "BadLength " ++ decimal said
+field_fault_text (fields.Bits bits) = codes "Bits " ++ decimal bits
+field_fault_text (fields.ReferenceNotFinite raw) = codes "ReferenceNotFinite " ++ decimal raw
+field_fault_text (fields.TooWide need) = codes "TooWide " ++ decimal need
+field_fault_text (fields.BitMap indicator) = codes "BitMap " ++ decimal indicator
+field_fault_text (fields.MapShort need found) = codes "MapShort" ++ blank (decimal need ++ blank (decimal found))
+field_fault_text (fields.Count said found) = codes "Count" ++ blank (decimal said ++ blank (decimal found))
+field_fault_text (fields.PackedShort need found) = codes "PackedShort" ++ blank (decimal need ++ blank (decimal found))
+field_fault_text fields.NoMemory = codes "NoMemory"
+
+-- the line that tells why a message has no key
+abbrev pub refused_key_line : ℕ → KeyFault → List ℕ
+refused_key_line n fault = line (codes "refused key " ++ decimal n ++ codes " " ++ key_fault_text fault)
+
+-- the line that tells why a field is not read
+abbrev pub refused_field_line : ℕ → FieldFault → List ℕ
+refused_field_line n fault = line (codes "refused field " ++ decimal n ++ codes " " ++ field_fault_text fault)
+
+-- the line that tells why the input is refused
+abbrev pub refusal_line : Refusal → List ℕ
+refusal_line (refusals.Message n) = line (codes "refused message " ++ decimal n)
+refusal_line (refusals.Key n fault) = refused_key_line n fault
+refusal_line (refusals.Field n fault) = refused_field_line n fault
+refusal_line (refusals.TooLong len) = line (codes "limit TooLong " ++ decimal len)
+refusal_line (refusals.Points points) = line (codes "limit Points " ++ decimal points)
+refusal_line refusals.Input = line (codes "limit Input 68719476736")
+
+abbrev pub refusal_status : Refusal → Status
+refusal_status (refusals.Message n) = Refused
+refusal_status (refusals.Key n fault) = Refused
+refusal_status (refusals.Field n fault) = Refused
+refusal_status (refusals.TooLong len) = Limit
+refusal_status (refusals.Points points) = Limit
+refusal_status refusals.Input = Limit

@@ -1,0 +1,33 @@
+//! What each command of the program makes of its words, its input and the store: the definitions that all commands are
+//! proved against, what each status says, and the small parts that their bodies share.
+#![tactic(auto)]
+
+ghost use Rattle.fd_outcome.specs.Worked.{Rows};
+
+mod kinds;
+mod listing;
+mod pieces;
+mod reading;
+mod refusal;
+mod report;
+mod status;
+mod stored;
+
+pub use kinds::{
+    is_request_limit, is_schema_limit, request_kind, schema_kind, tell_limit, tell_place, tell_text,
+};
+pub use listing::Listing;
+pub use pieces::{INPUT_LIMIT, new_buffer, read_piece, read_some};
+pub use reading::{Unread, read_front};
+pub use refusal::{Refusal, refusal_of};
+pub use report::{
+    tell, tell_disk_failed, tell_input_failed, tell_no_memory, tell_number, tell_output_failed,
+    tell_refusal,
+};
+pub use status::Status;
+pub use stored::{Unruled, stored_schema};
+
+/// The worked rows.
+pub fn every_row()
+    ensures { Rows }
+{}

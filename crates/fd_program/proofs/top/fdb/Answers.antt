@@ -1,0 +1,27 @@
+use Rattle.std.proofs.Common.{sym, ◌∙◌}
+use Rattle.fd_words.specs.Texts.{texts}
+use Rattle.fd_words.specs.Words.{command_of}
+use Rattle.fd_outcome.specs.Objects.{object}
+use Rattle.fd_outcome.proofs.Completing.{asked_complete, unasked_ends, unasked_calm, starved_ends, starved_store, starved_calm, starved_complete}
+use Rattle.fd_program.proofs.top.fdb.Goals as goal
+
+pub returns-in-Ok-Some-clause-complete : goal.returns-in-Ok-Some-clause-complete
+returns-in-Ok-Some-clause-complete g c = asked_complete (command_of (texts c.args.words.now)) _ _ _ _ _ _ (sym c.in-Ok-Some.ensures.command ∙ c.in-Ok-Some.field-0-is) c.run.ensures.ran
+
+pub returns-in-Ok-None-clause-ends : goal.returns-in-Ok-None-clause-ends
+returns-in-Ok-None-clause-ends g c = unasked_ends (command_of (texts c.args.words.now)) _ (object (g.S.Store.has c.args.store.now) (g.S.Store.has c.args.store.now) (g.S.Store.faults c.args.store.now) (g.S.Store.faults c.args.store.now)) (object (g.I.Source.left c.args.input.now) (g.I.Source.left c.args.input.now) (g.I.Source.faults c.args.input.now) (g.I.Source.faults c.args.input.now)) _ _ _ _ _ _ _ (sym c.in-Ok-None.ensures.command ∙ c.in-Ok-None.field-0-is) c.tell.ensures
+
+pub returns-in-Err-clause-ends : goal.returns-in-Err-clause-ends
+returns-in-Err-clause-ends g c = starved_ends _ _ _ _ _ _ _ _ _ _ _ _ _ _ c.tell_no_memory.ensures (command_of (texts c.args.words.now))
+
+pub returns-in-Err-clause-store : goal.returns-in-Err-clause-store
+returns-in-Err-clause-store g c = starved_store _ _ _ _ _ 0 0 (g.K.Sink.taken c.args.output.now) 0 0 _ _ _ _ c.tell_no_memory.ensures (command_of (texts c.args.words.now))
+
+pub returns-in-Err-clause-complete : goal.returns-in-Err-clause-complete
+returns-in-Err-clause-complete g c = starved_complete _ _ _ _ _ _ _ (g.K.Sink.taken c.args.output.now) _ _ _ _ _ _ c.tell_no_memory.ensures (command_of (texts c.args.words.now))
+
+pub returns-in-Ok-None-clause-calm : goal.returns-in-Ok-None-clause-calm
+returns-in-Ok-None-clause-calm g c = unasked_calm (command_of (texts c.args.words.now)) _ _ _ _ (sym c.in-Ok-None.ensures.command ∙ c.in-Ok-None.field-0-is)
+
+pub returns-in-Err-clause-calm : goal.returns-in-Err-clause-calm
+returns-in-Err-clause-calm g c = starved_calm _ (g.S.Store.has c.args.store.now) 0 0 _ _ _ _ _ _ _ _ _ _ c.tell_no_memory.ensures (command_of (texts c.args.words.now))

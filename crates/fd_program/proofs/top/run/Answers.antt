@@ -1,0 +1,22 @@
+use Rattle.std.proofs.Common.{sym, subst}
+use Rattle.fd_outcome.specs.Objects.{object}
+use Rattle.fd_outcome.specs.Ran.{Ran}
+use Rattle.fd_program.proofs.top.run.Goals as goal
+
+pub returns-in-Pick-clause-ran : goal.returns-in-Pick-clause-ran
+returns-in-Pick-clause-ran g c = subst (λ command. Ran command c.pick.result (object (g.S.Store.has c.args.store.now) (g.S.Store.has c.args.store.now) (g.S.Store.faults c.args.store.now) (g.S.Store.faults c.args.store.now)) (object (g.I.Source.left c.args.input.now) (g.I.Source.left c.pick.new.input) (g.I.Source.faults c.args.input.now) (g.I.Source.faults c.pick.new.input)) (object (g.K.Sink.taken c.args.output.now) (g.K.Sink.taken c.pick.new.output) (g.K.Sink.faults c.args.output.now) (g.K.Sink.faults c.pick.new.output)) (object (g.E.Sink.taken c.args.report.now) (g.E.Sink.taken c.pick.new.report) (g.E.Sink.faults c.args.report.now) (g.E.Sink.faults c.pick.new.report))) (sym c.in-Pick.is) (c.pick.ensures _ _)
+
+pub returns-in-Describe-clause-ran : goal.returns-in-Describe-clause-ran
+returns-in-Describe-clause-ran g c = subst (λ command. Ran command c.write_list.result (object (g.S.Store.has c.args.store.now) (g.S.Store.has c.args.store.now) (g.S.Store.faults c.args.store.now) (g.S.Store.faults c.args.store.now)) (object (g.I.Source.left c.args.input.now) (g.I.Source.left c.write_list.new.input) (g.I.Source.faults c.args.input.now) (g.I.Source.faults c.write_list.new.input)) (object (g.K.Sink.taken c.args.output.now) (g.K.Sink.taken c.write_list.new.output) (g.K.Sink.faults c.args.output.now) (g.K.Sink.faults c.write_list.new.output)) (object (g.E.Sink.taken c.args.report.now) (g.E.Sink.taken c.write_list.new.report) (g.E.Sink.faults c.args.report.now) (g.E.Sink.faults c.write_list.new.report))) (sym c.in-Describe.is) (c.write_list.ensures _ _)
+
+pub returns-in-Values-clause-ran : goal.returns-in-Values-clause-ran
+returns-in-Values-clause-ran g c = subst (λ command. Ran command c.write_list-in-Values.result (object (g.S.Store.has c.args.store.now) (g.S.Store.has c.args.store.now) (g.S.Store.faults c.args.store.now) (g.S.Store.faults c.args.store.now)) (object (g.I.Source.left c.args.input.now) (g.I.Source.left c.write_list-in-Values.new.input) (g.I.Source.faults c.args.input.now) (g.I.Source.faults c.write_list-in-Values.new.input)) (object (g.K.Sink.taken c.args.output.now) (g.K.Sink.taken c.write_list-in-Values.new.output) (g.K.Sink.faults c.args.output.now) (g.K.Sink.faults c.write_list-in-Values.new.output)) (object (g.E.Sink.taken c.args.report.now) (g.E.Sink.taken c.write_list-in-Values.new.report) (g.E.Sink.faults c.args.report.now) (g.E.Sink.faults c.write_list-in-Values.new.report))) (sym c.in-Values.is) (c.write_list-in-Values.ensures _ _)
+
+pub returns-in-Create-clause-ran : goal.returns-in-Create-clause-ran
+returns-in-Create-clause-ran g c = subst (λ command. Ran command c.create.result (object (g.S.Store.has c.args.store.now) (g.S.Store.has c.create.new.store) (g.S.Store.faults c.args.store.now) (g.S.Store.faults c.create.new.store)) (object (g.I.Source.left c.args.input.now) (g.I.Source.left c.create.new.input) (g.I.Source.faults c.args.input.now) (g.I.Source.faults c.create.new.input)) (object (g.K.Sink.taken c.args.output.now) (g.K.Sink.taken c.args.output.now) (g.K.Sink.faults c.args.output.now) (g.K.Sink.faults c.args.output.now)) (object (g.E.Sink.taken c.args.report.now) (g.E.Sink.taken c.create.new.report) (g.E.Sink.faults c.args.report.now) (g.E.Sink.faults c.create.new.report))) (sym c.in-Create.is) (c.create.ensures.ran _ _)
+
+pub returns-in-Archive-clause-ran : goal.returns-in-Archive-clause-ran
+returns-in-Archive-clause-ran g c = subst (λ command. Ran command c.archive.result (object (g.S.Store.has c.args.store.now) (g.S.Store.has c.archive.new.store) (g.S.Store.faults c.args.store.now) (g.S.Store.faults c.archive.new.store)) (object (g.I.Source.left c.args.input.now) (g.I.Source.left c.archive.new.input) (g.I.Source.faults c.args.input.now) (g.I.Source.faults c.archive.new.input)) (object (g.K.Sink.taken c.args.output.now) (g.K.Sink.taken c.args.output.now) (g.K.Sink.faults c.args.output.now) (g.K.Sink.faults c.args.output.now)) (object (g.E.Sink.taken c.args.report.now) (g.E.Sink.taken c.archive.new.report) (g.E.Sink.faults c.args.report.now) (g.E.Sink.faults c.archive.new.report))) (sym c.in-Archive.is) (c.archive.ensures.ran _ _)
+
+pub returns-in-Retrieve-clause-ran : goal.returns-in-Retrieve-clause-ran
+returns-in-Retrieve-clause-ran g c = subst (λ command. Ran command c.retrieve.result (object (g.S.Store.has c.args.store.now) (g.S.Store.has c.retrieve.new.store) (g.S.Store.faults c.args.store.now) (g.S.Store.faults c.retrieve.new.store)) (object (g.I.Source.left c.args.input.now) (g.I.Source.left c.retrieve.new.input) (g.I.Source.faults c.args.input.now) (g.I.Source.faults c.retrieve.new.input)) (object (g.K.Sink.taken c.args.output.now) (g.K.Sink.taken c.retrieve.new.output) (g.K.Sink.faults c.args.output.now) (g.K.Sink.faults c.retrieve.new.output)) (object (g.E.Sink.taken c.args.report.now) (g.E.Sink.taken c.retrieve.new.report) (g.E.Sink.faults c.args.report.now) (g.E.Sink.faults c.retrieve.new.report))) (sym c.in-Retrieve.is) (c.retrieve.ensures.ran)

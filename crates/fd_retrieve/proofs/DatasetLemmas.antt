@@ -1,0 +1,138 @@
+-- Datasets that were opened: by their texts, and by their segments.
+use Rattle.std.proofs.Common.{◌≡◌, ◌∙◌, ◌<◌, ◌≤◌, ◌+◌, ◌||◌, ℕ, zero, suc, Bool, true, false, List, [], ◌∷◌, length, map, drop, get_or, All, IfSome, Option, Some, None, inl, inr, refl, sym, ap, subst, arith, drop-cons, if◌then◌else◌}
+use Rattle.std.specs.Prelude.{slice_get, Contains}
+use Rattle.std.specs.Str.{bytes_eq}
+use Rattle.std.specs.Arc.{arc_value}
+use Rattle.std.specs.declared.sync.Arc.{Arc}
+use Rattle.std.proofs.lemmas.Slice.Eq.{bytes_eq-Decides}
+use Rattle.fd_segment.specs.Held.{Standing}
+use Rattle.fd_segment.specs.Shared.{standings}
+use Rattle.std.specs.Prelude.{option_map, Result, Ok, Err, IfOk, IfErr}
+use Rattle.std.proofs.lemmas.List.Elements.{All-head, All-tail}
+use Rattle.fd_disk.proofs.NameLemmas.{is_or_not}
+use Rattle.fd_core.specs.declared.batch.Pair.{Pair}
+use Rattle.fd_core.specs.Batches.{newest}
+use Rattle.fd_dataset.specs.Listed.{listing}
+use Rattle.fd_recovery.specs.Recovered.{all_of}
+use Rattle.fd_retriever.specs.declared.fault.Got.TheVariants.{Miss}
+use Rattle.fd_retriever.specs.Answers.{IsAnswer, Tells}
+use Rattle.fd_retriever.specs.Kept.{Fits, Kept}
+use Rattle.fd_retrieve.proofs.Staying.{some_is}
+use Rattle.fd_outcome.specs.Asking.{is_among}
+use Rattle.fd_retrieve.specs.Open.{IsFirstNamed, Open, names_of, table_in, table_of}
+
+-- none of the first datasets has the text
+pub record IsPast (os : List Open) (name : List ℕ) (i : ℕ) : Type 0 where
+  pub table : table_in os name ≡ table_in (drop i os) name
+  pub among : is_among (names_of os) name ≡ is_among (names_of (drop i os)) name
+
+pub past_none : (os : List Open) (name : List ℕ) → IsPast os name 0
+past_none os name = record { table = refl; among = refl }
+
+split : (os : List Open) (i : ℕ) (o : Open) → i < length os → o ≡ get_or os i o → drop i os ≡ o ∷ drop (i + 1) os
+split os i o within is = let up : suc i ≡ i + 1 = omega arith in drop-cons os i o within ∙ ap (λ x. x ∷ drop (suc i) os) (sym is) ∙ ap (λ k. o ∷ drop k os) up
+
+pub past_more : (os : List Open) (name : List ℕ) (i : ℕ) (o : Open) → IsPast os name i → i < length os → o ≡ get_or os i o → bytes_eq name o.name ≡ false → IsPast os name (i + 1)
+past_more os name i o past within is differs = record {
+  table = past.table ∙ ap (λ l. table_in l name) (split os i o within is) ∙ ap (λ b. if b then table_of o else table_in (drop (i + 1) os) name) differs;
+  among = past.among ∙ ap (λ l. is_among (names_of l) name) (split os i o within is) ∙ ap (λ b. b || is_among (names_of (drop (i + 1) os)) name) differs;
+}
+
+pub at_get : {A : Type 0} (xs : List A) (i : ℕ) (x : A) → i < length xs → x ≡ get_or xs i x → slice_get xs i ≡ Some x
+at_get [] i x lt is = absurd (omega (arith, lt))
+at_get (y ∷ ys) zero x lt is = ap (λ z. Some z) (sym is)
+at_get (y ∷ ys) (suc i) x lt is = at_get ys i x (omega (arith, lt)) is
+
+pub first_named : (os : List Open) (name : List ℕ) (i : ℕ) (o : Open) → IsPast os name i → i < length os → o ≡ get_or os i o → bytes_eq name o.name ≡ true → IsFirstNamed os name i
+first_named os name i o past within is same = (
+  o,
+  at_get os i o within is,
+  sym ((bytes_eq-Decides name o.name).0 same),
+  past.table ∙ ap (λ l. table_in l name) (split os i o within is) ∙ ap (λ b. if b then table_of o else table_in (drop (i + 1) os) name) same,
+)
+
+pub past_all : (os : List Open) (name : List ℕ) (i : ℕ) → IsPast os name i → length os ≤ i → is_among (names_of os) name ≡ false
+past_all os name i past all = past.among ∙ ap (λ l. is_among (names_of l) name) (nothing os i all)
+  where
+    nothing : (xs : List Open) (k : ℕ) → length xs ≤ k → drop k xs ≡ []
+    nothing [] zero le = refl
+    nothing [] (suc k) le = refl
+    nothing (x ∷ xs) zero le = absurd (omega (arith, le))
+    nothing (x ∷ xs) (suc k) le = nothing xs k (omega (arith, le))
+
+pub segment_at : {A : Type 0} (xs : List (Arc Standing A)) (i : ℕ) (x : Arc Standing A) → i < length xs → x ≡ get_or xs i x → Contains (standings xs) (arc_value x)
+segment_at [] i x lt is = absurd (omega (arith, lt))
+segment_at (y ∷ ys) zero x lt is = (0, omega arith, ap arc_value (sym is))
+segment_at (y ∷ ys) (suc i) x lt is = let later = segment_at ys i x (omega (arith, lt)) is in (suc later.0, (let l = later.1 in omega (arith, l)), later.2)
+
+-- ---- what is found in a dataset
+
+closed_table : (os : List Open) (d : List ℕ) → is_among (names_of os) d ≡ false → table_in os d ≡ Some []
+closed_table [] d out = refl
+closed_table (o ∷ os) d out = elim (is_or_not (bytes_eq d o.name)) [
+  | inl same ↦ absurd (cc (sym (ap (λ b. b || is_among (names_of os) d) same) ∙ out))
+  | inr differs ↦ ap (λ b. if b then table_of o else table_in os d) differs ∙ closed_table os d (sym (ap (λ b. b || is_among (names_of os) d) differs) ∙ out)
+]
+
+pub missed_table : (os : List Open) (d key : List ℕ) (t : List (List Pair)) (a : Option (List ℕ)) → is_among (names_of os) d ≡ false → table_in os d ≡ Some t → IsAnswer (newest t key) a a Miss
+missed_table os d key t a out is = let none : t ≡ [] = some_is t [] (sym is ∙ closed_table os d out) in subst (λ x. IsAnswer (newest x key) a a Miss) (sym none) refl
+
+pub get_within : {A : Type 0} (xs : List A) (i : ℕ) (x : A) → slice_get xs i ≡ Some x → i < length xs
+get_within [] i x is = absurd cc
+get_within (y ∷ ys) zero x is = omega arith
+get_within (y ∷ ys) (suc i) x is = let later = get_within ys i x is in omega (arith, later)
+
+pub same_get : {A : Type 0} (xs : List A) (i : ℕ) (x d : A) → slice_get xs i ≡ Some x → d ≡ get_or xs i d → x ≡ d
+same_get xs i x d at is = some_is x d (sym at ∙ at_get xs i d (get_within xs i x at) is)
+
+pub fits_of : {A : Type 0} (current : Option A) (number : A → ℕ) (lenses : A → List Kept) (os : List Open) (n : ℕ) (o : Open) → IfSome current (λ c. IfSome (slice_get os (number c)) (λ p. Fits (lenses c) (map listing p.shown))) → slice_get os n ≡ Some o
+    → IfSome current (λ c. number c ≡ n → Fits (lenses c) (map listing o.shown))
+fits_of None number lenses os n o fits at = tt
+fits_of (Some c) number lenses os n o fits at = λ e. subst (λ q. IfSome q (λ p. Fits (lenses c) (map listing p.shown))) (ap (slice_get os) e ∙ at) fits
+
+all_told : (bs : List (Option (List Pair))) (t : List (List Pair)) → all_of bs ≡ Some t → bs ≡ map (λ b. Some b) t
+all_told [] t e = ap (map (λ b. Some b)) (some_is [] t e)
+all_told (None ∷ bs) t e = absurd cc
+all_told (Some b ∷ bs) t e = go (all_of bs) (λ more is. all_told bs more is) e
+  where
+    go : (o : Option (List (List Pair))) → ((more : List (List Pair)) → o ≡ Some more → bs ≡ map (λ b. Some b) more) → option_map (λ more. b ∷ more) o ≡ Some t → Some b ∷ bs ≡ map (λ b. Some b) t
+    go None rest e = absurd cc
+    go (Some more) rest e = ap (λ l. Some b ∷ l) (rest more refl) ∙ ap (map (λ b. Some b)) (some_is (b ∷ more) t e)
+
+pub tells_of : (os : List Open) (d : List ℕ) (o : Open) (t : List (List Pair)) → table_in os d ≡ table_of o → table_in os d ≡ Some t → Tells (map listing o.shown) t
+tells_of os d o t is told = all_told (map (λ l. l.batch) (map listing o.shown)) t (sym is ∙ told)
+
+pub ok_told : {A B E : Type 0} (r : Result A E) (P : B → Type 0) (Q : B → Type 0) (R : A → B → Type 0) → ((t : B) → Q t → P t) → IfOk r (λ a. (t : B) → P t → R a t) → IfOk r (λ a. (t : B) → Q t → R a t)
+ok_told (Ok a) P Q R f k = λ t q. k t (f t q)
+ok_told (Err e) P Q R f k = tt
+
+pub err_told : {A B E : Type 0} (r : Result A E) (P : B → Type 0) (Q : B → Type 0) (R : B → Type 0) → ((t : B) → Q t → P t) → IfErr r (λ e. (t : B) → P t → R t) → IfErr r (λ e. (t : B) → Q t → R t)
+err_told (Ok a) P Q R f k = tt
+err_told (Err e) P Q R f k = λ t q. k t (f t q)
+
+-- ---- among lists
+
+pub contains_mapped : {A B : Type 0} (f : A → B) (xs : List A) (x : A) → Contains xs x → Contains (map f xs) (f x)
+contains_mapped f [] x (k, lt, e) = absurd (omega (arith, lt))
+contains_mapped f (y ∷ ys) x (zero, lt, e) = (0, omega arith, ap f e)
+contains_mapped f (y ∷ ys) x (suc k, lt, e) = let later = contains_mapped f ys x (k, omega (arith, lt), e) in (suc later.0, (let l = later.1 in omega (arith, l)), later.2)
+
+-- a value of a mapped list is that of an element
+pub contains_of : {A B : Type 0} (f : A → B) (xs : List A) (y : B) → Contains (map f xs) y → (x : A) × Contains xs x × (f x ≡ y)
+contains_of f [] y (k, lt, e) = absurd (omega (arith, lt))
+contains_of f (x ∷ xs) y (zero, lt, e) = (x, (0, omega arith, refl), e)
+contains_of f (x ∷ xs) y (suc k, lt, e) = let later = contains_of f xs y (k, omega (arith, lt), e) in (later.0, (suc later.1.0, (let l = later.1.1 in omega (arith, l)), later.1.2), later.2)
+
+pub among_named : (os : List Open) (i : ℕ) (o : Open) → slice_get os i ≡ Some o → is_among (names_of os) o.name ≡ true
+among_named [] i o at = absurd cc
+among_named (x ∷ xs) zero o at = ap (λ b. b || is_among (names_of xs) o.name) ((bytes_eq-Decides o.name x.name).1 (ap (λ (q : Open). q.name) (sym (some_is x o at))))
+among_named (x ∷ xs) (suc i) o at = let later = among_named xs i o at in or_true (bytes_eq o.name x.name) (is_among (names_of xs) o.name) later
+  where
+    or_true : (a b : Bool) → b ≡ true → (a || b) ≡ true
+    or_true true b e = refl
+    or_true false b e = e
+
+pub all_at : (P : Open → Type 0) (xs : List Open) (i : ℕ) (x : Open) → All P xs → slice_get xs i ≡ Some x → P x
+all_at P [] i x all at = absurd cc
+all_at P (y ∷ ys) zero x all at = subst P (some_is y x at) (All-head P y ys all)
+all_at P (y ∷ ys) (suc i) x all at = all_at P ys i x (All-tail P y ys all) at

@@ -1,0 +1,10 @@
+pub mod Staying
+pub mod TableLemmas
+pub mod OpenLemmas
+pub mod DatasetLemmas
+pub mod ReadyLemmas
+pub mod RequestLemmas
+pub mod AnsweringLemmas
+pub mod PrepareLemmas
+pub mod RetrieveExits
+pub mod StopExits

@@ -1,0 +1,36 @@
+use Rattle.std.proofs.Common.{rules, ◌≡◌, ◌∙◌, ◌<◌, ◌≤◌, ◌+◌, ◌++◌, ◌∷◌, [], false, true, length, IfSome, List, map, subst, sym, ap, arith, take, drop}
+use Rattle.std.proofs.lemmas.List.{length-map}
+use Rattle.fd_schema.specs.Reading.{seen_place}
+use Rattle.fd_schema.specs.Seen.{texts}
+use Rattle.fd_schema.specs.declared.place.Place.{Place}
+use Rattle.fd_retrieve.specs.Tables.{AreTables, datasets_in}
+use Rattle.fd_retrieve.proofs.Staying.{stays_told, told_both}
+use Rattle.fd_retrieve.proofs.PrepareLemmas.{many_told, subst_length, tables_start, tables_told, take_end, take_more, take_rest}
+use Rattle.fd_retrieve.proofs.tables.tables_of.Goals as goal
+
+pub returns-in-Err-clause-too_many : goal.returns-in-Err-clause-too_many
+returns-in-Err-clause-too_many g c =
+    let ds = datasets_in c.args.places.now in
+    let d = (seen_place c.index-places-i.result).dataset in
+    let more = take_more (λ (p : Place). (seen_place p).dataset) c.args.places.now c.loop-i.i c.index-places-i.result (omega (arith, c.loop-i-test.true)) c.index-places-i.is in
+    many_told c.in-Err.stop (g.S.Store.has c.args.store.now) (g.S.Store.has c.loop-i.store) (take c.loop-i.i ds) (drop (c.loop-i.i + 1) ds) (texts c.loop-i.names.items) ds d c.loop-i.invariant.stays c.loop-i.invariant.tables
+    (take_rest ds (c.loop-i.i + 1) ∙ ap (λ l. l ++ drop (c.loop-i.i + 1) ds) more) (subst_length c.in-Err.stop (g.S.Store.has c.loop-i.store) c.loop-i.names.items d c.in-Err.ensures.too_many)
+
+pub returns-in-Err-clause-stays : goal.returns-in-Err-clause-stays
+returns-in-Err-clause-stays g c = told_both (g.S.Store.has c.args.store.now) (g.S.Store.has c.loop-i.store) (g.S.Store.has c.add_table.new.store) c.loop-i.invariant.stays c.in-Err.ensures.stays
+
+pub loop-i-preserved : goal.loop-i-preserved
+loop-i-preserved g c =
+    let ds = datasets_in c.args.places.now in
+    let d = (seen_place c.index-places-i.result).dataset in
+    let more = take_more (λ (p : Place). (seen_place p).dataset) c.args.places.now c.loop-i.i c.index-places-i.result (omega (arith, c.loop-i-test.true)) c.index-places-i.is in
+    let later = c.add_table.ensures.later in
+    let before = c.loop-i.invariant.later in
+    record {
+      home = c.add_table.ensures.home;
+      stays = told_both (g.S.Store.has c.args.store.now) (g.S.Store.has c.loop-i.store) (g.S.Store.has c.add_table.new.store) c.loop-i.invariant.stays c.add_table.ensures.stays;
+      few = c.add_table.ensures.few;
+      tables = subst (λ l. IfSome (g.S.Store.has c.args.store.now) (λ h. AreTables h l (texts c.add_table.new.names.items))) (sym more)
+          (tables_told (g.S.Store.has c.args.store.now) (g.S.Store.has c.loop-i.store) (take c.loop-i.i ds) (texts c.loop-i.names.items) d (texts c.add_table.new.names.items) c.loop-i.invariant.stays c.loop-i.invariant.tables c.in-Ok.ensures.added);
+      later = omega (arith, later, before);
+    }

@@ -1,0 +1,6 @@
+pub mod Open
+pub mod Tables
+pub mod Stops
+pub mod Finding
+pub mod Ready
+pub mod Telling

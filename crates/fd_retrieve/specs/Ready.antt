@@ -1,0 +1,86 @@
+-- What stands ready for the answer of a request.
+use Rattle.std.specs.Prelude.{◌≡◌, ◌⊎◌, ◌≤◌, ℕ, IfSome, true, false, List, [], ◌∷◌, ◌++◌, length, map, All, Option, Some, Result, Ok, Err, string_bytes}
+use Rattle.fd_disk.specs.Folders.{Holdings, WhereTold, folder_at}
+use Rattle.fd_schema.specs.declared.place.Place.{Place}
+use Rattle.fd_schema.specs.Reading.{seen_place}
+use Rattle.fd_request.specs.Expansion.{Keyword, expand}
+use Rattle.fd_outcome.specs.Asking.{Asked, answers, asked_of, is_among, placed, request_in, rules_of, ◌then◌}
+use Rattle.fd_outcome.specs.Causes.{Cause}
+use Rattle.fd_outcome.specs.Objects.{IsCalm, Object}
+use Rattle.fd_outcome.specs.Store.{Stands, Stays, has_table, table_at}
+use Rattle.fd_recovery.specs.declared.fault.OpenFault.{OpenFault}
+use Rattle.fd_recovery.specs.declared.fault.OpenFault.TheVariants as faults
+use Rattle.fd_retrieve.specs.declared.stop.Broken.{Broken}
+use Rattle.fd_retrieve.specs.declared.stop.Broken.TheVariants as brokens
+use Rattle.fd_retrieve.specs.declared.stop.Stop.{Stop}
+use Rattle.fd_retrieve.specs.declared.stop.Stop.TheVariants as stops
+use Rattle.fd_retrieve.specs.Finding.{asked_of_all}
+use Rattle.fd_retrieve.specs.Open.{IsOpenIn, Open, names_of, table_in}
+use Rattle.fd_retrieve.specs.Stops.{seen_broken}
+use Rattle.fd_retrieve.specs.Tables.{datasets_in}
+
+-- the keys that are asked for, with their places, or why there are none; how many datasets they have isn't looked at
+abbrev pub placed_of : Holdings → List ℕ → Result (List Asked) Cause
+placed_of h input = rules_of h.schema then λ rules. (request_in input then λ keywords. placed rules (expand keywords))
+
+-- the keys of a request with these places
+abbrev pub asked_at : List Keyword → List Place → List Asked
+asked_at keywords places = asked_of_all (expand keywords) (map seen_place places)
+
+-- a dataset was opened, or it has no table
+abbrev pub MayOpen : Holdings → List Open → List ℕ → List Open → Type 0
+MayOpen h os name after = ((o : Open) × IsOpenIn h o × (o.name ≡ name) × (after ≡ os ++ o ∷ [])) ⊎ ((has_table h name ≡ false) × (after ≡ os))
+
+-- The datasets were opened: of these, each that has a table.
+pub record AreOpen (h : Holdings) (names : List (List ℕ)) (os : List Open) : Type 0 where
+  pub each : All (IsOpenIn h) os
+  pub from : (n : List ℕ) → is_among (names_of os) n ≡ true → is_among names n ≡ true
+  pub all : (n : List ℕ) → is_among names n ≡ true → has_table h n ≡ true → is_among (names_of os) n ≡ true
+
+-- this is broken in the dataset of this name; or want of memory
+abbrev pub IsBrokenAs : {F : Type 0} → List ℕ → Broken → Stop F → Type 0
+IsBrokenAs name broken (stops.Disk f) = ⊥
+IsBrokenAs name broken stops.Input = ⊥
+IsBrokenAs name broken stops.Missing = ⊥
+IsBrokenAs name broken (stops.Schema line kind) = ⊥
+IsBrokenAs name broken (stops.Request at kind) = ⊥
+IsBrokenAs name broken (stops.NoRule text) = ⊥
+IsBrokenAs name broken stops.TooMany = ⊥
+IsBrokenAs name broken (stops.Broken dataset b) = (string_bytes dataset ≡ name) × (b ≡ broken)
+IsBrokenAs name broken stops.NoMemory = Unit {0}
+
+-- one of these datasets is broken; or a fault of the store, or want of memory
+abbrev pub IsBrokenOf : {F : Type 0} → Stop F → Holdings → List (List ℕ) → Type 0
+IsBrokenOf (stops.Disk f) h names = Unit {0}
+IsBrokenOf stops.Input h names = ⊥
+IsBrokenOf stops.Missing h names = ⊥
+IsBrokenOf (stops.Schema line kind) h names = ⊥
+IsBrokenOf (stops.Request at kind) h names = ⊥
+IsBrokenOf (stops.NoRule text) h names = ⊥
+IsBrokenOf stops.TooMany h names = ⊥
+IsBrokenOf (stops.Broken dataset broken) h names = (is_among names (string_bytes dataset) ≡ true) × Stands (string_bytes dataset) (folder_at h (string_bytes dataset)) (seen_broken broken)
+IsBrokenOf stops.NoMemory h names = Unit {0}
+
+-- the dataset of this name isn't opened for this cause
+abbrev pub IsUnopened : {F : Type 0} → List ℕ → OpenFault F → Stop F → Type 0
+IsUnopened name (faults.Disk f) stop = stop ≡ stops.Disk f
+IsUnopened name (faults.NotATable at want found) stop = IsBrokenAs name (brokens.Table at want found) stop
+IsUnopened name (faults.Damaged d) stop = IsBrokenAs name (brokens.File d) stop
+IsUnopened name (faults.TooMany count) stop = ⊥
+IsUnopened name faults.NoMemory stop = stop ≡ stops.NoMemory
+
+-- The request's keys have these places, and the datasets of the places that have tables are open.
+pub record IsReady (h : Holdings) (input : List ℕ) (keywords : List Keyword) (places : List Place) (os : List Open) : Type 0 where
+  pub asked : asked_of h input ≡ Ok (asked_at keywords places)
+  pub answered : answers (table_in os) (asked_at keywords places) ≡ answers (table_at h) (asked_at keywords places)
+  pub each : All (IsOpenIn h) os
+  pub among : (n : List ℕ) → is_among (names_of os) n ≡ true → is_among (datasets_in places) n ≡ true
+
+-- A request stands ready, which was made so out of a store and an input: all of the input was read without a fault, and
+-- the store, whose count of faults was m and is n, stays.
+pub record Begins (before now : Option Holdings) (m n : ℕ) (input : Object (List ℕ)) (keywords : List Keyword) (places : List Place) (os : List Open) : Type 0 where
+  pub ready : IfSome before (λ h. IfSome input.before (λ octets. IsReady h octets keywords places os))
+  pub stays : WhereTold before now Stays
+  pub later : m ≤ n
+  pub calm : IsCalm input
+  pub read : IfSome input.before (λ octets. input.now ≡ Some [])

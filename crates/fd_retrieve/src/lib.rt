@@ -1,0 +1,16 @@
+//! `retrieve`: the newest fields of a request's keys, in its order, out of the datasets of a store.
+#![tactic(auto)]
+
+mod answering;
+mod asking;
+mod datasets;
+mod opened;
+mod preparing;
+mod retrieving;
+mod stop;
+mod tables;
+mod telling;
+
+pub use retrieving::retrieve;
+pub use stop::Broken;
+pub use telling::{tell_broken, tell_schema};

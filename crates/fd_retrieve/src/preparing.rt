@@ -1,0 +1,186 @@
+// What stands ready before the first key is answered.
+ghost use Rattle.std.specs.Prelude.{◌≡◌, ◌≤◌, [], ◌∷◌, List, ℕ, Some, Ok, false, length, IfOk, IfErr, IfSome, OnOk};
+ghost use Rattle.fd_bytes.specs.Causes.{Rose};
+ghost use Rattle.fd_disk.specs.Folders.{WhereTold};
+ghost use Rattle.fd_schema.specs.Seen.{texts};
+ghost use Rattle.fd_recovery.specs.Causes.{NotTooMany};
+ghost use Rattle.fd_request.specs.Expansion.{expand};
+ghost use Rattle.fd_outcome.specs.Asking.{asked_of};
+ghost use Rattle.fd_outcome.specs.Store.{Stays};
+ghost use Rattle.fd_retrieve.specs.Ready.{AreOpen, IsBrokenOf, IsReady, IsUnopened, MayOpen, asked_at, placed_of};
+ghost use Rattle.fd_retrieve.specs.Stops.{IsOfRequest, OfDataset, OnInput, OnRefusal, Says};
+
+use crate::asking::{places_of, request_of};
+use crate::datasets::Datasets;
+use crate::opened::{Opened, open};
+use crate::stop::{Broken, Stop};
+use crate::tables::tables_of;
+use fd_disk::{Folder, Sealed, Store};
+use fd_io::Source;
+use fd_outcome::{Unruled, stored_schema};
+use fd_recovery::OpenFault;
+use fd_request::Request;
+use fd_schema::Place;
+use std::alloc::Global;
+use std::sync::Wait;
+
+/// A request, the places of its keys, and the datasets of the places that have tables.
+#[derive(Drop)]
+pub(crate) struct Ready<F: Send, Z: Sealed<F> + Drop>
+where
+    Z::Reader: Drop,
+{
+    pub(crate) request: Request,
+    pub(crate) places: Vec<Place>,
+    pub(crate) datasets: Datasets<F, Z>,
+}
+
+/// Reads the request, and opens the datasets of its keys. Each is given back.
+pub(crate) fn prepared<F: Send + Drop, X: Drop, S: Store<F>, I: Source<X>, R: Wait>(
+    rt: &R,
+    alloc: Global,
+    root: &str,
+    store: &mut S,
+    input: &mut I,
+) -> Result<Ready<F, <S::Folder as Folder<F>>::Sealed>, Stop<F>>
+where
+    <S::Folder as Folder<F>>::Sealed: Drop,
+    <<S::Folder as Folder<F>>::Sealed as Sealed<F>>::Reader: Drop,
+    requires home { (n : List ℕ) → S.out store.old n ≡ false }
+    ensures prepared { IfOk result (λ r. IfSome (S.has store.old) (λ h. IfSome (I.left input.old) (λ octets. IsReady h octets r.request r.places.items r.datasets))) }
+    ensures count { IfOk result (λ r. length r.places.items ≡ length (expand r.request)) }
+    ensures read { OnOk result (IfSome (I.left input.old) (λ octets. I.left input.new ≡ Some [])) }
+    ensures says { IfErr result (λ e. IfSome (S.has store.old) (λ h. IfSome (I.left input.old) (λ octets. Says e h (asked_of h octets)))) }
+    ensures input { IfErr result (λ e. OnInput e (Rose (I.faults input.old) (I.faults input.new))) }
+    ensures calm { OnOk result (I.faults input.new ≡ I.faults input.old) }
+    ensures calm_err { IfErr result (λ e. OnRefusal e (I.faults input.new ≡ I.faults input.old)) }
+    ensures stays { WhereTold (S.has store.old) (S.has store.new) Stays }
+    ensures home { (n : List ℕ) → S.out store.new n ≡ false }
+    ensures later { S.faults store.old ≤ S.faults store.new }
+{
+    let (request, places) = match placed(alloc, root, store, input) {
+        Ok(pair) => pair,
+        Err(stop) => return Err(stop),
+    };
+    let names = match tables_of(alloc, store, &places) {
+        Ok(names) => names,
+        Err(stop) => return Err(stop),
+    };
+    match open_all(rt, alloc, store, &names) {
+        Ok(opened) => Ok(Ready {
+            request,
+            places,
+            datasets: Datasets::new(opened),
+        }),
+        Err(stop) => Err(stop),
+    }
+}
+
+/// Reads the request, and finds the places of its keys by the stored schema.
+fn placed<F: Send, X: Drop, S: Store<F>, I: Source<X>>(
+    alloc: Global,
+    root: &str,
+    store: &mut S,
+    input: &mut I,
+) -> Result<(Request, Vec<Place>), Stop<F>>
+    ensures placed { IfOk result (λ r. IfSome (S.has store.old) (λ h. IfSome (I.left input.old) (λ octets. placed_of h octets ≡ Ok (asked_at r.0 r.1.items)))) }
+    ensures count { IfOk result (λ r. length r.1.items ≡ length (expand r.0)) }
+    ensures read { OnOk result (IfSome (I.left input.old) (λ octets. I.left input.new ≡ Some [])) }
+    ensures says { IfErr result (λ e. IfSome (S.has store.old) (λ h. IfSome (I.left input.old) (λ octets. IsOfRequest e (placed_of h octets)))) }
+    ensures input { IfErr result (λ e. OnInput e (Rose (I.faults input.old) (I.faults input.new))) }
+    ensures calm { OnOk result (I.faults input.new ≡ I.faults input.old) }
+    ensures calm_err { IfErr result (λ e. OnRefusal e (I.faults input.new ≡ I.faults input.old)) }
+    ensures has { S.has store.new ≡ S.has store.old }
+    ensures out { S.out store.new ≡ S.out store.old }
+    ensures later { S.faults store.old ≤ S.faults store.new }
+{
+    let schema = match stored_schema(alloc, store, root) {
+        Ok(schema) => schema,
+        Err(Unruled::Disk(fault)) => return Err(Stop::Disk(fault)),
+        Err(Unruled::Missing) => return Err(Stop::Missing),
+        Err(Unruled::At { line, kind }) => return Err(Stop::Schema { line, kind }),
+        Err(Unruled::NoMemory) => return Err(Stop::NoMemory),
+    };
+    let request = match request_of(alloc, input) {
+        Ok(request) => request,
+        Err(stop) => return Err(stop),
+    };
+    match places_of(alloc, &schema, &request) {
+        Ok(places) => Ok((request, places)),
+        Err(stop) => Err(stop),
+    }
+}
+
+/// Opens the datasets of these names, and gives each back.
+fn open_all<F: Send + Drop, S: Store<F>, R: Wait>(
+    rt: &R,
+    alloc: Global,
+    store: &mut S,
+    names: &[String],
+) -> Result<Vec<Opened<F, <S::Folder as Folder<F>>::Sealed>>, Stop<F>>
+where
+    <S::Folder as Folder<F>>::Sealed: Drop,
+    requires home { (n : List ℕ) → S.out store.old n ≡ false }
+    ensures opened { IfOk result (λ v. IfSome (S.has store.old) (λ h. AreOpen h (texts names.now) v.items)) }
+    ensures broken { IfErr result (λ e. IfSome (S.has store.old) (λ h. IsBrokenOf e h (texts names.now))) }
+    ensures of { IfErr result OfDataset }
+    ensures stays { WhereTold (S.has store.old) (S.has store.new) Stays }
+    ensures home { (n : List ℕ) → S.out store.new n ≡ false }
+    ensures later { S.faults store.old ≤ S.faults store.new }
+{
+    let mut opened = Vec::new(alloc);
+    for i in 0..names.len() {
+        match open_more(rt, alloc, store, &mut opened, &names[i]) {
+            Ok(()) => {}
+            Err(stop) => return Err(stop),
+        }
+    }
+    Ok(opened)
+}
+
+/// Opens one dataset more, where it has a table, and gives it back.
+fn open_more<F: Send + Drop, S: Store<F>, R: Wait>(
+    rt: &R,
+    alloc: Global,
+    store: &mut S,
+    opened: &mut Vec<Opened<F, <S::Folder as Folder<F>>::Sealed>>,
+    name: &str,
+) -> Result<(), Stop<F>>
+where
+    <S::Folder as Folder<F>>::Sealed: Drop,
+    requires home { (n : List ℕ) → S.out store.old n ≡ false }
+    ensures opened { OnOk result (IfSome (S.has store.old) (λ h. MayOpen h opened.old.items name.now opened.new.items)) }
+    ensures broken { IfErr result (λ e. IfSome (S.has store.old) (λ h. IsBrokenOf e h (name.now ∷ []))) }
+    ensures of { IfErr result OfDataset }
+    ensures stays { WhereTold (S.has store.old) (S.has store.new) Stays }
+    ensures home { (n : List ℕ) → S.out store.new n ≡ false }
+    ensures later { S.faults store.old ≤ S.faults store.new }
+{
+    match open(rt, alloc, store, name) {
+        Ok(Some(one)) => match opened.push(one) {
+            Ok(()) => Ok(()),
+            Err(_) => Err(Stop::NoMemory),
+        },
+        Ok(None) => Ok(()),
+        Err(fault) => Err(unopened(alloc, name, fault)),
+    }
+}
+
+/// Why a dataset isn't opened.
+fn unopened<F: Drop>(alloc: Global, name: &str, fault: OpenFault<F>) -> Stop<F>
+    requires { NotTooMany fault }
+    ensures is { IsUnopened name.now fault result }
+    ensures of { OfDataset result }
+{
+    let broken = match fault {
+        OpenFault::Disk(fault) => return Stop::Disk(fault),
+        OpenFault::NotATable { at, want, found } => Broken::Table { at, want, found },
+        OpenFault::Damaged(damage) => Broken::File(damage),
+        OpenFault::TooMany { .. } => unreachable!(),
+        OpenFault::NoMemory => return Stop::NoMemory,
+    };
+    match String::from_str(alloc, name) {
+        Ok(dataset) => Stop::Broken { dataset, broken },
+        Err(_) => Stop::NoMemory,
+    }
+}

@@ -1,0 +1,122 @@
+-- What the words of the command line ask for.
+use Rattle.std.specs.Prelude.{◌≤◌, IfSome, Bool, false, not, ◌==◌, ◌^◌, nat_lt, length, List, [], ◌∷◌, codes, Option, Some, None, unwrap_or, option_and_then, option_map, is_some, ◌||◌, if◌then◌else◌, Result, Ok, Err}
+use Rattle.std.specs.Str.{bytes_eq}
+use Rattle.std.specs.Map.{lookup}
+use Rattle.fd_key.specs.Pairs.{Pair, text_of}
+use Rattle.fd_key.specs.Canonical.{pair_of}
+use Rattle.fd_key.specs.Given.{Refusal, given_of}
+use Rattle.fd_words.specs.declared.command.Command.{Command}
+use Rattle.fd_words.specs.declared.command.Command.TheVariants as commands
+use Rattle.fd_words.specs.Numbers.{decimals_number}
+use Rattle.fd_words.specs.Reading.{Text, Said}
+use Rattle.fd_words.specs.Saying.{said}
+
+-- ---- pairs of `pick`
+
+abbrev pub put_first : Pair → Option (List Pair) → Option (List Pair)
+put_first p others = option_map (λ ps. p ∷ ps) others
+
+-- the pairs `name=value` that the words are, each value in its one spelling, where each word is one
+abbrev pub all_pairs : List Text → Option (List Pair)
+all_pairs [] = Some []
+all_pairs (word ∷ words) = option_and_then (λ p. put_first p (all_pairs words)) (pair_of word)
+
+-- a name comes twice
+abbrev pub repeats_name : List Pair → Bool
+repeats_name [] = false
+repeats_name (p ∷ ps) = is_some (text_of ps p.0) || repeats_name ps
+
+abbrev pub unless_repeated : List Pair → Option (List Pair)
+unless_repeated ps = if repeats_name ps then None else Some ps
+
+-- the pairs that the words ask for, where each word is one and no name comes twice
+abbrev pub wanted_pairs : List Text → Option (List Pair)
+wanted_pairs words = option_and_then unless_repeated (all_pairs words)
+
+-- `pick` has one or more pairs
+abbrev pub pick_of : List Text → Option Command
+pick_of [] = None
+pick_of (word ∷ words) = option_map commands.Pick (wanted_pairs (word ∷ words))
+
+-- ---- the other commands over streams
+
+-- `describe` has no words
+abbrev pub describe_of : List Text → Option Command
+describe_of [] = Some commands.Describe
+describe_of (word ∷ words) = None
+
+-- `values` may have a number of decimals, and no words that stand alone
+abbrev pub values_of : List Text → Option Text → Option Command
+values_of [] None = Some (commands.Values None)
+values_of [] (Some text) = option_map commands.Values (decimals_number text)
+values_of (word ∷ words) decimals = None
+
+-- ---- commands over a store
+
+-- a root is neither empty nor begins with a hyphen
+abbrev pub is_root : Text → Bool
+is_root [] = false
+is_root (b ∷ bs) = not (b == 45)
+
+-- the root, where one word stands alone and can be one
+abbrev pub root_of : List Text → Option Text
+root_of [] = None
+root_of (word ∷ []) = if is_root word then Some word else None
+root_of (word ∷ (other ∷ words)) = None
+
+abbrev pub if_given : Result (List Pair) Refusal → Option (List Pair)
+if_given (Ok pairs) = Some pairs
+if_given (Err refusal) = None
+
+-- the pairs that a text of fewer than 2^31 bytes gives, where it gives any
+abbrev pub given_read : Text → Option (List Pair)
+given_read text = if nat_lt (length text) (2 ^ 31) then if_given (given_of text) else None
+
+-- the pairs of `--with`; without the option there are none
+abbrev pub given_in : Option Text → Option (List Pair)
+given_in option = given_read (unwrap_or option [])
+
+-- The commands that have a root. A command has its line here, and its words their form, once it is written.
+abbrev pub rooted : Text → Option (List Pair) → Text → Option Command
+rooted name given root =
+    if bytes_eq name (codes "create") then Some (commands.Create root)
+    else if bytes_eq name (codes "archive") then option_map (commands.Archive root) given
+    else if bytes_eq name (codes "retrieve") then Some (commands.Retrieve root)
+    else None
+
+-- the command of that name, where the words behind it say this
+abbrev pub command_said : Text → Said → Option Command
+command_said name s =
+    if bytes_eq name (codes "pick") then pick_of s.alone
+    else if bytes_eq name (codes "describe") then describe_of s.alone
+    else if bytes_eq name (codes "values") then values_of s.alone (lookup (bytes_eq (codes "decimals")) s.options)
+    else option_and_then (rooted name (given_in (lookup (bytes_eq (codes "with")) s.options))) (root_of s.alone)
+
+-- The command that the words ask for, or none where they have no form: a command's name, then its options, each at most
+-- once, as `--name value` or `--name=value`, and the words that stand alone, in any order.
+abbrev pub command_of : List Text → Option Command
+command_of words = option_and_then (λ p. command_said p.0 p.1) (said words)
+
+-- a command asks for at most 30 decimals
+abbrev pub HasFewDecimals : Command → Type 0
+HasFewDecimals (commands.Values decimals) = IfSome decimals (λ d. d ≤ 30)
+HasFewDecimals (commands.Pick wanted) = Unit {0}
+HasFewDecimals commands.Describe = Unit {0}
+HasFewDecimals (commands.Create root) = Unit {0}
+HasFewDecimals (commands.Archive root given) = Unit {0}
+HasFewDecimals (commands.Retrieve root) = Unit {0}
+HasFewDecimals (commands.List root) = Unit {0}
+HasFewDecimals (commands.Axes root) = Unit {0}
+HasFewDecimals (commands.Stats root) = Unit {0}
+
+-- the command is written
+abbrev pub Stands : Command → Type 0
+Stands (commands.Pick wanted) = Unit {0}
+Stands commands.Describe = Unit {0}
+Stands (commands.Values decimals) = Unit {0}
+Stands (commands.Create root) = Unit {0}
+Stands (commands.Archive root given) = Unit {0}
+Stands (commands.Retrieve root) = Unit {0}
+Stands (commands.List root) = ⊥
+Stands (commands.Axes root) = ⊥
+Stands (commands.Stats root) = ⊥

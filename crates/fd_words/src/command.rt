@@ -1,0 +1,246 @@
+ghost use Rattle.std.specs.Prelude.{◌≡◌, codes, IfOk, IfSome, option_map};
+ghost use Rattle.std.specs.Str.{bytes_eq};
+ghost use Rattle.std.specs.Map.{lookup};
+ghost use Rattle.std.specs.Option.{option_copied};
+ghost use Rattle.clap.specs.Words.{rows_of, found_of};
+ghost use Rattle.fd_words.specs.Texts.{texts};
+ghost use Rattle.fd_words.specs.Reading.{Said, Tells};
+ghost use Rattle.fd_words.specs.Grammar.{options_of};
+ghost use Rattle.fd_words.specs.declared.command.Command.TheVariants.{Archive};
+ghost use Rattle.fd_words.specs.Words.{command_of, command_said, rooted, wanted_pairs, pick_of, describe_of, values_of, is_root, root_of, given_in, given_read, HasFewDecimals, Stands};
+
+use crate::numbers::decimals_number;
+use crate::parse::{alone, option_text, parse};
+use crate::root::Root;
+use crate::wanted::Wanted;
+use clap::ArgMatches;
+use fd_bytes::NoMemory;
+use fd_key::{Given, GivenFault, ValueFault, read_pair};
+use std::alloc::Global;
+
+/// What the words ask for.
+#[derive(Drop)]
+pub enum Command {
+    /// The last message of a stream whose key has all the pairs.
+    Pick(Wanted),
+    /// What each message of a stream holds.
+    Describe,
+    /// The values of each message of a stream, exactly, or with so many decimals.
+    Values(Option<u8>),
+    /// To store a schema.
+    Create(Root),
+    /// To store the messages of a stream, with the given pairs in their keys.
+    Archive(Root, Given),
+    /// The stored messages of a request.
+    Retrieve(Root),
+    /// A line for each stored key.
+    List(Root),
+    /// A line for the values of each name.
+    Axes(Root),
+    /// A line for each dataset.
+    Stats(Root),
+}
+
+/// The command that the words ask for, or none where they have no form.
+pub fn read_command(alloc: Global, words: &[&str]) -> Result<Option<Command>, NoMemory>
+    ensures command { IfOk result (λ o. o ≡ command_of (texts words.now)) }
+    ensures few { IfOk result (λ o. IfSome o HasFewDecimals) }
+    ensures stands { IfOk result (λ o. IfSome o Stands) }
+{
+    match parse(alloc, words)? {
+        None => Ok(None),
+        Some(matches) => match matches.subcommand() {
+            None => Ok(None),
+            Some((name, own)) => command_named(alloc, name, own),
+        },
+    }
+}
+
+/// The command of this name, with what the words behind the name say.
+fn command_named(
+    alloc: Global,
+    name: &str,
+    own: &ArgMatches<'_>,
+) -> Result<Option<Command>, NoMemory>
+    ensures command { (s : Said) → Tells (options_of name.now) s (rows_of (found_of own.now)) → IfOk result (λ o. o ≡ command_said name.now s) }
+    ensures few { IfOk result (λ o. IfSome o HasFewDecimals) }
+    ensures stands { IfOk result (λ o. IfSome o Stands) }
+{
+    match alone(own) {
+        Some(words) => command_with(alloc, name, own, words),
+        None => command_with(alloc, name, own, &[]),
+    }
+}
+
+/// The command of this name, with these words that stand alone.
+fn command_with(
+    alloc: Global,
+    name: &str,
+    own: &ArgMatches<'_>,
+    words: &[&str],
+) -> Result<Option<Command>, NoMemory>
+    ensures command { (s : Said) → Tells (options_of name.now) s (rows_of (found_of own.now)) → s.alone ≡ texts words.now → IfOk result (λ o. o ≡ command_said name.now s) }
+    ensures few { IfOk result (λ o. IfSome o HasFewDecimals) }
+    ensures stands { IfOk result (λ o. IfSome o Stands) }
+{
+    if name == "pick" {
+        return pick_command(alloc, words);
+    }
+    if name == "describe" {
+        return Ok(describe_command(words));
+    }
+    if name == "values" {
+        return Ok(values_command(words, option_text(own, "decimals")));
+    }
+    match root_in(alloc, words)? {
+        Some(root) => rooted(alloc, name, root, own),
+        None => Ok(None),
+    }
+}
+
+/// A command that has a root.
+fn rooted(
+    alloc: Global,
+    name: &str,
+    root: Root,
+    own: &ArgMatches<'_>,
+) -> Result<Option<Command>, NoMemory>
+    ensures command { (s : Said) → Tells (options_of name.now) s (rows_of (found_of own.now)) → IfOk result (λ o. o ≡ rooted name.now (given_in (lookup (bytes_eq (codes "with")) s.options)) root) }
+    ensures few { IfOk result (λ o. IfSome o HasFewDecimals) }
+    ensures stands { IfOk result (λ o. IfSome o Stands) }
+{
+    if name == "create" {
+        return Ok(Some(Command::Create(root)));
+    }
+    if name == "archive" {
+        return archive_command(alloc, root, option_text(own, "with"));
+    }
+    if name == "retrieve" {
+        return Ok(Some(Command::Retrieve(root)));
+    }
+    Ok(None)
+}
+
+/// `archive` with the text of its option, if it has one.
+fn archive_command(
+    alloc: Global,
+    root: Root,
+    with: Option<&str>,
+) -> Result<Option<Command>, NoMemory>
+    ensures command { IfOk result (λ o. o ≡ option_map (Archive root) (given_in (option_copied with.entry))) }
+    ensures few { IfOk result (λ o. IfSome o HasFewDecimals) }
+    ensures stands { IfOk result (λ o. IfSome o Stands) }
+{
+    let text = match with {
+        Some(text) => text,
+        None => "",
+    };
+    match given_read(alloc, text)? {
+        Some(given) => Ok(Some(Command::Archive(root, given))),
+        None => Ok(None),
+    }
+}
+
+/// The pairs that a word gives.
+fn given_read(alloc: Global, text: &str) -> Result<Option<Given>, NoMemory>
+    ensures { IfOk result (λ o. o ≡ given_read text.now) }
+{
+    if text.len() >= 0x8000_0000 {
+        return Ok(None);
+    }
+    match Given::read(alloc, text) {
+        Ok(given) => Ok(Some(given)),
+        Err(GivenFault::NoMemory) => Err(NoMemory),
+        Err(_) => Ok(None),
+    }
+}
+
+/// The root that the words are, where they are one word that can be one.
+fn root_in(alloc: Global, words: &[&str]) -> Result<Option<Root>, NoMemory>
+    ensures { IfOk result (λ o. o ≡ root_of (texts words.now)) }
+{
+    match words {
+        [word] => {
+            if is_root(word) {
+                Ok(Some(Root::new(alloc, word)?))
+            } else {
+                Ok(None)
+            }
+        }
+        _ => Ok(None),
+    }
+}
+
+/// Tells that a word can be a root: it is neither empty nor begins with a hyphen.
+fn is_root(word: &str) -> bool
+    ensures { result ≡ is_root word.now }
+{
+    match word.as_bytes() {
+        [] => false,
+        [first, ..] => *first != b'-',
+    }
+}
+
+/// `pick` of one or more pairs.
+fn pick_command(alloc: Global, words: &[&str]) -> Result<Option<Command>, NoMemory>
+    ensures command { IfOk result (λ o. o ≡ pick_of (texts words.now)) }
+    ensures few { IfOk result (λ o. IfSome o HasFewDecimals) }
+    ensures stands { IfOk result (λ o. IfSome o Stands) }
+{
+    if words.is_empty() {
+        return Ok(None);
+    }
+    match wanted_pairs(alloc, words)? {
+        Some(wanted) => Ok(Some(Command::Pick(wanted))),
+        None => Ok(None),
+    }
+}
+
+/// `describe`, which has no words behind it.
+fn describe_command(words: &[&str]) -> Option<Command>
+    ensures command { result ≡ describe_of (texts words.now) }
+    ensures few { IfSome result HasFewDecimals }
+    ensures stands { IfSome result Stands }
+{
+    match words {
+        [] => Some(Command::Describe),
+        _ => None,
+    }
+}
+
+/// `values`, with or without a number of decimals.
+fn values_command(words: &[&str], decimals: Option<&str>) -> Option<Command>
+    ensures command { result ≡ values_of (texts words.now) (option_copied decimals.entry) }
+    ensures few { IfSome result HasFewDecimals }
+    ensures stands { IfSome result Stands }
+{
+    if !words.is_empty() {
+        return None;
+    }
+    let Some(text) = decimals else {
+        return Some(Command::Values(None));
+    };
+    match decimals_number(text.as_bytes()) {
+        Some(decimals) => Some(Command::Values(decimals)),
+        None => None,
+    }
+}
+
+/// The pairs that the words stand for, where each word is one and no name comes twice.
+fn wanted_pairs(alloc: Global, words: &[&str]) -> Result<Option<Wanted>, NoMemory>
+    ensures { IfOk result (λ o. o ≡ wanted_pairs (texts words.now)) }
+{
+    let mut wanted = Wanted::new(alloc);
+    for word in words {
+        let (name, text) = match read_pair(alloc, word) {
+            Ok(pair) => pair,
+            Err(ValueFault::BadValue) => return Ok(None),
+            Err(ValueFault::NoMemory) => return Err(NoMemory),
+        };
+        if wanted.has(name.as_str()) {
+            return Ok(None);
+        }
+        wanted.push(name, text)?;
+    }
+    Ok(Some(wanted))
+}

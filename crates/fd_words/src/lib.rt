@@ -1,0 +1,16 @@
+//! The words of the program's command line: which command they ask for.
+#![tactic(auto)]
+
+mod app;
+mod command;
+mod numbers;
+mod parse;
+mod root;
+mod wanted;
+
+pub use command::{Command, read_command};
+pub use root::Root;
+pub use wanted::Wanted;
+
+#[cfg(test)]
+mod tests;

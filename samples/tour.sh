@@ -1,0 +1,24 @@
+#!/usr/bin/env bash
+# A first walk through the store: makes one in a new folder, archives the sample stream, retrieves all of it, and compares the
+# bytes. FDB names the program, where it isn't to be built here; a folder may be given.
+set -eu
+here=$(cd "$(dirname "$0")" && pwd)
+fdb=${FDB:-$here/../fdb}
+work=${1:-$(mktemp -d)}
+store=$work/store
+
+step() {
+  echo
+  echo "\$ $*"
+}
+
+step "fdb create STORE < samples/schema"
+"$fdb" create "$store" < "$here/schema"
+step "fdb archive STORE --with class=od,expver=0001 < samples/forecast.grib2"
+"$fdb" archive "$store" --with class=od,expver=0001 < "$here/forecast.grib2"
+step "fdb retrieve STORE < samples/request > out.grib2"
+"$fdb" retrieve "$store" < "$here/request" > "$work/out.grib2"
+cmp "$here/forecast.grib2" "$work/out.grib2"
+echo "out.grib2 has the $(wc -c < "$work/out.grib2") bytes of forecast.grib2"
+echo
+echo "The store stands in $store: $(find "$store" -type f | wc -l) files, $(du -sb "$store" | cut -f1) bytes."
