@@ -172,14 +172,14 @@ module _ (root : List ℕ) (given : List keys.Pair) (start now : Option Holdings
       unread_ran u rose told =
           told_of InputFault input_failed told refl refl (λ e. rose) (λ e. absurd (apart is_disk_fault InputFault DiskFault refl refl e)) (λ t. tt)
           (either_leaves InputFault input_failed told
-            (λ _ octets h i x y z. let r = read octets x in record {
-              seen = r.seen;
-              rest = r.rest;
-              input_is = r.octets_are;
-              left_is = r.left_is;
-              grows = subst (λ ss. GrowsBy (pairs_for ss) h i) (sym r.whole) (at_both (GrowsBy (pairs_for u.all)) u.grows h i y z);
-            })
-            (λ octets h i x y z q. let r = read octets x in subst (λ ss. Grows (pairs_for ss) h i) (sym r.stored_is) (grows_front u.all r.more h i (grows_of u.all h i (at_both (GrowsBy (pairs_for u.all)) u.grows h i y z)))))
+          (λ _ octets h i x y z. let r = read octets x in record {
+            seen = r.seen;
+            rest = r.rest;
+            input_is = r.octets_are;
+            left_is = r.left_is;
+            grows = subst (λ ss. GrowsBy (pairs_for ss) h i) (sym r.whole) (at_both (GrowsBy (pairs_for u.all)) u.grows h i y z);
+          })
+          (λ octets h i x y z q. let r = read octets x in subst (λ ss. Grows (pairs_for ss) h i) (sym r.stored_is) (grows_front u.all r.more h i (grows_of u.all h i (at_both (GrowsBy (pairs_for u.all)) u.grows h i y z)))))
           (never_whole _ InputFault refl)
           (λ octets h i x y z names. stop_ends octets h i names InputFault input_failed (rose, refl) told)
         where
@@ -254,9 +254,9 @@ module _ (root : List ℕ) (given : List keys.Pair) (start now : Option Holdings
       no_rule_ran text w calm told =
           cause_ran w.all w.grows Refused (line (codes "refused NoRule " ++ string_bytes text)) refl refl refl refl refl tt (calm, refl) (λ octets h i g. g)
           (λ octets x.
-            let e = at_some input.before (λ o. EndsAfter w.name (ends.NoRule text) w.all (taken rules given o)) w.ends octets x in
-            let y = ended_so w.all (causes.NoRule e.ends.0) (taken rules given octets) e.rest e.is e.ends.1 e.ends.2 in
-            (y.0, y.1 ∙ ap (λ t. record { output = []; report = line (codes "refused NoRule " ++ t); status = Refused }) (sym e.ends.3)))
+          let e = at_some input.before (λ o. EndsAfter w.name (ends.NoRule text) w.all (taken rules given o)) w.ends octets x in
+          let y = ended_so w.all (causes.NoRule e.ends.0) (taken rules given octets) e.rest e.is e.ends.1 e.ends.2 in
+          (y.0, y.1 ∙ ap (λ t. record { output = []; report = line (codes "refused NoRule " ++ t); status = Refused }) (sym e.ends.3)))
           told
 
       too_many_ran : {F : Type 0} → RefusedKept has kept rules given {F = F} input.before start now ends.TooMany → IsCalm input → ToldAs (telling causes.TooManyDatasets).status (telling causes.TooManyDatasets).line → Out
@@ -278,7 +278,7 @@ module _ (root : List ℕ) (given : List keys.Pair) (start now : Option Holdings
             told_of Damaged (damaged_line name broken) t refl refl (λ e. absurd (apart is_input_fault Damaged InputFault refl refl e)) (λ e. absurd (apart is_disk_fault Damaged DiskFault refl refl e)) (λ _. tt)
             (either_leaves Damaged (damaged_line name broken) t (λ _. front_grows all grows front) (λ octets h i x y z q. front_grows all grows front octets h i x y z)) (never_whole _ Damaged refl)
             (λ octets h i x y z names. stop_ends octets h i names Damaged (damaged_line name broken)
-              (name, broken, opens octets h names name y (at_some input.before (λ o. Contains (datasets_in (taken rules given o).stored) name) among octets x), at_some start (λ s. Stands name (folder_at s name) broken) stands h y, refl) t)
+            (name, broken, opens octets h names name y (at_some input.before (λ o. Contains (datasets_in (taken rules given o).stored) name) among octets x), at_some start (λ s. Stands name (folder_at s name) broken) stands h y, refl) t)
         | inr t ↦ starved_ran all grows front t
       ]
 
@@ -287,13 +287,16 @@ module _ (root : List ℕ) (given : List keys.Pair) (start now : Option Holdings
       full_ran all grows front name is_full among told =
           told_of Limit table_full told refl refl (λ e. absurd (apart is_input_fault Limit InputFault refl refl e)) (λ e. absurd (apart is_disk_fault Limit DiskFault refl refl e)) (λ took. inr (tt, took))
           (either_leaves Limit table_full told
-            (λ took octets h i x y z. inr (took, record {
+          (λ took octets h i x y z. inr (
+            took,
+            record {
               name = name;
               among = contains octets x;
               full = at_some now (λ t. IsFull t name) is_full i z;
               grows = front_grows all grows front octets h i x y z;
-            }))
-            (λ octets h i x y z q. front_grows all grows front octets h i x y z))
+            },
+          ))
+          (λ octets h i x y z q. front_grows all grows front octets h i x y z))
           (never_whole _ Limit refl)
           (λ octets h i x y z names. stop_ends octets h i names Limit table_full (tt, refl, (name, opens octets h names name y (contains octets x), at_some now (λ t. IsFull t name) is_full i z)) told)
         where
@@ -384,12 +387,12 @@ module _ (root : List ℕ) (given : List keys.Pair) (has : Option Holdings) (sm 
       (same_leaves (λ octets h e. let x = said h e in subst (λ y. LeavesAs result y h octets) (sym x.2) (stays h)))
       (chosen s which (λ s. ((s ≡ Done) ⊎ (s ≡ Missed)) → ReadsOut (Archive root given) input.before input.now) (never_whole _ Damaged refl) (never_whole _ Limit refl) (never_whole _ NoMemory refl))
       (λ octets h i x y z names.
-        let q = said h y in
-        let cause = causes.InStored q.0 q.1 in
-        elim (told_if q.0 q.1 q.3) as (λ _. EndsAs root given has has sm sn input a k report result h i names octets) [
-          | inl t ↦ line_ends root given has has sm sn input a k report result octets h i names (telling cause).status (telling cause).line (cause_told cause) (ap (λ r. Some (archived given r octets)) q.2) t
-          | inr t ↦ stop_ends root given has has sm sn input a k report result octets h i names NoMemory no_memory refl t
-        ])
+      let q = said h y in
+      let cause = causes.InStored q.0 q.1 in
+      elim (told_if q.0 q.1 q.3) as (λ _. EndsAs root given has has sm sn input a k report result h i names octets) [
+        | inl t ↦ line_ends root given has has sm sn input a k report result octets h i names (telling cause).status (telling cause).line (cause_told cause) (ap (λ r. Some (archived given r octets)) q.2) t
+        | inr t ↦ stop_ends root given has has sm sn input a k report result octets h i names NoMemory no_memory refl t
+      ])
     where
       chosen : (s : Status) → (s ≡ Damaged) ⊎ ((s ≡ Limit) ⊎ (s ≡ NoMemory)) → (P : Status → Type 0) → P Damaged → P Limit → P NoMemory → P s
       chosen s (inl e) P d l n = subst P (sym e) d

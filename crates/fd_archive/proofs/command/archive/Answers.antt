@@ -16,7 +16,7 @@ returns-in-Ok-clause-ran g c = λ a k.
     subst (λ h. Ran (Archive c.args.root.now c.args.given.now) c.archive_by.result (object h (g.S.Store.has c.archive_by.new.store) (g.S.Store.faults c.args.store.now) (g.S.Store.faults c.archive_by.new.store)) (object (g.I.Source.left c.args.input.now) (g.I.Source.left c.archive_by.new.input) (g.I.Source.faults c.args.input.now) (g.I.Source.faults c.archive_by.new.input)) (object a a k k) (object (g.E.Sink.taken c.args.report.now) (g.E.Sink.taken c.archive_by.new.report) (g.E.Sink.faults c.args.report.now) (g.E.Sink.faults c.archive_by.new.report)))
     c.stored_schema.ensures.has
     (c.archive_by.ensures.ran c.args.root.now (g.S.Store.faults c.args.store.now) a k c.stored_schema.ensures.later
-      (subst (λ h. IfSome h (λ h. rules_of h.schema ≡ Ok c.in-Ok.schema)) (sym c.stored_schema.ensures.has) c.in-Ok.ensures.ok))
+    (subst (λ h. IfSome h (λ h. rules_of h.schema ≡ Ok c.in-Ok.schema)) (sym c.stored_schema.ensures.has) c.in-Ok.ensures.ok))
 
 pub returns-in-Err-Disk-clause-ran : goal.returns-in-Err-Disk-clause-ran
 returns-in-Err-Disk-clause-ran g c = λ a k.
@@ -27,7 +27,7 @@ returns-in-Err-Disk-clause-ran g c = λ a k.
     let report = object (g.E.Sink.taken c.args.report.now) (g.E.Sink.taken c.tell_disk_failed.new.report) (g.E.Sink.faults c.args.report.now) (g.E.Sink.faults c.tell_disk_failed.new.report) in
     subst (λ h. Ran (Archive c.args.root.now c.args.given.now) c.tell_disk_failed.result (object start h sm sn) input (object a a k k) report) (sym (c.note.ensures.has ∙ c.stored_schema.ensures.has))
     (unread_schema_ran c.args.root.now c.args.given.now start sm sn input a k report c.tell_disk_failed.result
-      (rose_later sm (g.S.Store.faults c.stored_schema.new.store) sn c.stored_schema.ensures.later c.note.ensures.cause) c.tell_disk_failed.ensures)
+    (rose_later sm (g.S.Store.faults c.stored_schema.new.store) sn c.stored_schema.ensures.later c.note.ensures.cause) c.tell_disk_failed.ensures)
 
 pub returns-in-Err-Missing-clause-ran : goal.returns-in-Err-Missing-clause-ran
 returns-in-Err-Missing-clause-ran g c = λ a k.
@@ -56,4 +56,4 @@ returns-in-Err-NoMemory-clause-ran g c = λ a k.
     let faults = g.I.Source.faults c.args.input.now in
     subst (λ h. Ran (Archive c.args.root.now c.args.given.now) c.tell_no_memory.result (object start h (g.S.Store.faults c.args.store.now) (g.S.Store.faults c.stored_schema.new.store)) (object left left faults faults) (object a a k k) (object (g.E.Sink.taken c.args.report.now) (g.E.Sink.taken c.tell_no_memory.new.report) (g.E.Sink.faults c.args.report.now) (g.E.Sink.faults c.tell_no_memory.new.report))) (sym c.stored_schema.ensures.has)
     (starved (Archive c.args.root.now c.args.given.now) c.tell_no_memory.result start (g.S.Store.faults c.args.store.now) (g.S.Store.faults c.stored_schema.new.store) left left faults faults a k k
-      (g.E.Sink.taken c.args.report.now) (g.E.Sink.taken c.tell_no_memory.new.report) (g.E.Sink.faults c.args.report.now) (g.E.Sink.faults c.tell_no_memory.new.report) c.tell_no_memory.ensures)
+    (g.E.Sink.taken c.args.report.now) (g.E.Sink.taken c.tell_no_memory.new.report) (g.E.Sink.faults c.args.report.now) (g.E.Sink.faults c.tell_no_memory.new.report) c.tell_no_memory.ensures)

@@ -55,11 +55,11 @@ returns-in-Err-clause-ran g c = λ root faults a k le ruled.
     (object (g.E.Sink.taken c.args.report.now) (g.E.Sink.taken c.tell_halt.new.report) (g.E.Sink.faults c.args.report.now) (g.E.Sink.faults c.tell_halt.new.report)) c.tell_halt.result c.args.schema.now ruled (ap is_some c.tell_halt.ensures.has ∙ c.store_all-found.ensures.told)
     _ _ has kept c.in-Err.halt c.store_all-found.result.1
     (subst (λ n. InputKept has kept c.args.schema.now c.args.given.now left after start n (Err c.in-Err.halt) c.store_all-found.result.1) (sym c.tell_halt.ensures.has)
-      (subst (λ f. InputKept has kept c.args.schema.now c.args.given.now left after start mid f c.store_all-found.result.1) is c.store_all-found.ensures.stored))
+    (subst (λ f. InputKept has kept c.args.schema.now c.args.given.now left after start mid f c.store_all-found.result.1) is c.store_all-found.ensures.stored))
     (subst (λ f. IfErr f (λ e. is_unread e ≡ true → Rose before later)) is c.store_all-found.ensures.read)
     (subst (λ f. IfErr f (λ e. is_refusal e ≡ true → later ≡ before)) is c.store_all-found.ensures.refused)
     (on_disk c.in-Err.halt (Rose (g.S.Store.faults c.store_all-found.new.store) (g.S.Store.faults c.tell_halt.new.store)) (Rose faults (g.S.Store.faults c.tell_halt.new.store))
-      (rose_later faults (g.S.Store.faults c.store_all-found.new.store) (g.S.Store.faults c.tell_halt.new.store) (omega (arith, le, at))) c.tell_halt.ensures.noted)
+    (rose_later faults (g.S.Store.faults c.store_all-found.new.store) (g.S.Store.faults c.tell_halt.new.store) (omega (arith, le, at))) c.tell_halt.ensures.noted)
     c.tell_halt.ensures.told
 
 pub returns-in-Err-clause-home : goal.returns-in-Err-clause-home
