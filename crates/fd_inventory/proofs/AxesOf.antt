@@ -58,10 +58,10 @@ pairs_put rs [] a = refl
 pairs_put rs (p ∷ ps) a =
     ap (put_pair p.0 p.1) (pairs_put rs ps a.1)
     ∙ upsert_put (put order p.1) [] (λ n. put_value (text_of ps n) (values_in n rs)) (λ n. put_value (text_of (p ∷ ps) n) (values_in n rs)) p.0
-      (λ k other. ap (λ b. put_value (cond b (Some p.1) (text_of ps k)) (values_in k rs)) (not_same k p.0 other))
-      (put_names ps (names_in rs)) (names_rise ps (names_in rs) (all_names_rise rs))
-      (λ none. let m = no_text ps (names_in rs) p.0 none in ap (λ o. put_value o (values_in p.0 rs)) m.0 ∙ no_values rs p.0 m.1)
-      (ap (λ b. put_value (cond b (Some p.1) (text_of ps p.0)) (values_in p.0 rs)) (self p.0) ∙ ap (λ o. put order p.1 (put_value o (values_in p.0 rs))) (sym a.0))
+    (λ k other. ap (λ b. put_value (cond b (Some p.1) (text_of ps k)) (values_in k rs)) (not_same k p.0 other))
+    (put_names ps (names_in rs)) (names_rise ps (names_in rs) (all_names_rise rs))
+    (λ none. let m = no_text ps (names_in rs) p.0 none in ap (λ o. put_value o (values_in p.0 rs)) m.0 ∙ no_values rs p.0 m.1)
+    (ap (λ b. put_value (cond b (Some p.1) (text_of ps p.0)) (values_in p.0 rs)) (self p.0) ∙ ap (λ o. put order p.1 (put_value o (values_in p.0 rs))) (sym a.0))
 
 pub axes_put : (r : Row) (rs : List Row) → AreApart r.key.datum_pairs → upsert (put_pairs r.key.datum_pairs) [] r.key.index (axes_of rs) ≡ axes_of (r ∷ rs)
 axes_put r rs a =

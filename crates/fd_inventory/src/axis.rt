@@ -179,12 +179,7 @@ fn push_name(
 }
 
 /// Appends the lines of the names of an index text.
-fn push_names(
-    lines: &mut String,
-    dataset: &str,
-    index: &str,
-    names: &Names,
-) -> Result<(), NoMemory>
+fn push_names(lines: &mut String, dataset: &str, index: &str, names: &Names) -> Result<(), NoMemory>
     ensures { OnOk result (string_bytes lines.new ≡ string_bytes lines.old ++ names_lines dataset.now index.now (seen_names names.now.entries)) }
 {
     for (name, values) in names {

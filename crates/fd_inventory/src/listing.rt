@@ -50,7 +50,10 @@ pub(crate) fn write_text<X, K: Sink<X>>(sink: &mut K, text: &str) -> Result<(), 
 }
 
 /// Writes the lines that are held once there are many, and lets go of them.
-pub(crate) fn write_many<X, K: Sink<X>>(lines: &mut String, sink: &mut K) -> Result<(), TextFault<X>>
+pub(crate) fn write_many<X, K: Sink<X>>(
+    lines: &mut String,
+    sink: &mut K,
+) -> Result<(), TextFault<X>>
     ensures took { OnOk result (TakesAllBut (K.taken sink.old) (K.taken sink.new) (string_bytes lines.old) (string_bytes lines.new)) }
     ensures front { OnErr result (TakesFront (K.taken sink.old) (K.taken sink.new) (string_bytes lines.old)) }
     ensures cause { HasSinkCause result (K.faults sink.old) (K.faults sink.new) }
