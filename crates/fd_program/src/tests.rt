@@ -431,7 +431,8 @@ fn archives(rt: HostRuntime) -> Result<(), Fail> {
 const LISTED: &str =
     "class=od,expver=0001,date=20240101,time=0000 centre=98,type=1,levtype=100 param=0.0.0,step=0,levelist=100000 183 ";
 
-const AXES: &str = "class=od,expver=0001,date=20240101,time=0000 centre=98,type=1,levtype=100 levelist=100000
+const AXES: &str =
+    "class=od,expver=0001,date=20240101,time=0000 centre=98,type=1,levtype=100 levelist=100000
 class=od,expver=0001,date=20240101,time=0000 centre=98,type=1,levtype=100 param=0.0.0
 class=od,expver=0001,date=20240101,time=0000 centre=98,type=1,levtype=100 step=0
 ";

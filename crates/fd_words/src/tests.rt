@@ -45,7 +45,12 @@ fn reads_words(rt: HostRuntime) -> Result<(), Fail> {
     check(&rt, alloc, &["values", "--decimals", "30"], "values 30")?;
     check(&rt, alloc, &["create", "s"], "create s")?;
     check(&rt, alloc, &["archive", "s"], "archive s 0")?;
-    check(&rt, alloc, &["archive", "--with=class=od", "s"], "archive s 1")?;
+    check(
+        &rt,
+        alloc,
+        &["archive", "--with=class=od", "s"],
+        "archive s 1",
+    )?;
     check(&rt, alloc, &["retrieve", "a b"], "retrieve a b")?;
     check(&rt, alloc, &["list", "s"], "list s")?;
     check(&rt, alloc, &["axes", "s"], "axes s")?;
