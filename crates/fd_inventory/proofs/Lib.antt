@@ -1,4 +1,6 @@
 mod Asking
+mod AxesOf
+mod AxisLines
 mod Batches
 mod Counts
 mod Lengths
@@ -6,3 +8,4 @@ mod Lining
 mod Newness
 mod Pieces
 mod Placing
+pub mod Upserting

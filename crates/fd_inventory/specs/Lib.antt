@@ -3,3 +3,4 @@ pub mod Shown
 pub mod Indexes
 pub mod Written
 pub mod Counted
+pub mod Axes

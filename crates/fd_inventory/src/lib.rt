@@ -2,12 +2,14 @@
 //! `list`, `axes` and `stats`.
 #![tactic(auto)]
 
+mod axis;
 mod counting;
 mod fault;
 mod listing;
 mod rows;
 mod stored_key;
 
+pub use axis::axes;
 pub use counting::stats;
 pub use fault::LinesFault;
 pub use listing::list;

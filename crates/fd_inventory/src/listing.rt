@@ -38,7 +38,7 @@ fn push_row(
 }
 
 /// Writes a text.
-fn write_text<X, K: Sink<X>>(sink: &mut K, text: &str) -> Result<(), TextFault<X>>
+pub(crate) fn write_text<X, K: Sink<X>>(sink: &mut K, text: &str) -> Result<(), TextFault<X>>
     ensures took { OnOk result (Takes (K.taken sink.old) (K.taken sink.new) text.now) }
     ensures front { OnErr result (TakesFront (K.taken sink.old) (K.taken sink.new) text.now) }
     ensures cause { HasSinkCause result (K.faults sink.old) (K.faults sink.new) }
@@ -50,7 +50,10 @@ fn write_text<X, K: Sink<X>>(sink: &mut K, text: &str) -> Result<(), TextFault<X
 }
 
 /// Writes the lines that are held once there are many, and lets go of them.
-fn write_many<X, K: Sink<X>>(lines: &mut String, sink: &mut K) -> Result<(), TextFault<X>>
+pub(crate) fn write_many<X, K: Sink<X>>(
+    lines: &mut String,
+    sink: &mut K,
+) -> Result<(), TextFault<X>>
     ensures took { OnOk result (TakesAllBut (K.taken sink.old) (K.taken sink.new) (string_bytes lines.old) (string_bytes lines.new)) }
     ensures front { OnErr result (TakesFront (K.taken sink.old) (K.taken sink.new) (string_bytes lines.old)) }
     ensures cause { HasSinkCause result (K.faults sink.old) (K.faults sink.new) }

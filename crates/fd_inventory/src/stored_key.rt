@@ -102,7 +102,7 @@ fn first_piece(text: &str) -> (&str, Option<&str>)
 }
 
 /// Adds the pairs that a text is, joined by commas, if each name is new, and tells whether it is that.
-fn add_text(alloc: Global, pairs: &mut Key, text: &str) -> Result<bool, NoMemory>
+pub(crate) fn add_text(alloc: Global, pairs: &mut Key, text: &str) -> Result<bool, NoMemory>
     requires { length pairs.old + length text.now < 2 ^ 32 - 1 }
     ensures few { IfOk result (λ is_some. length pairs.new ≤ length pairs.old + length text.now + 1) }
     ensures pairs { IfOk result (λ is_some. with_text pairs.old text.now ≡ (if is_some then Some pairs.new else None)) }

@@ -8,3 +8,4 @@ pub mod Damaging
 pub mod Completing
 pub mod Exits
 pub mod InputLaws
+pub mod AnyCommand

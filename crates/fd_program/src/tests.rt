@@ -149,7 +149,7 @@ fn refuses_words(rt: HostRuntime) -> Result<(), Fail> {
     check_usage(&rt, alloc, &["pick", "step=0", "STEP=0"])?;
     check_usage(&rt, alloc, &["values", "--decimals=1", "--decimals=1"])?;
     check_usage(&rt, alloc, &["create", "s", "t"])?;
-    check_usage(&rt, alloc, &["stats", "s"])?;
+    check_usage(&rt, alloc, &["stats"])?;
     Ok(())
 }
 
@@ -425,6 +425,91 @@ fn archives(rt: HostRuntime) -> Result<(), Fail> {
         newer.as_slice(),
         found,
     )?;
+    Ok(())
+}
+
+const LISTED: &str =
+    "class=od,expver=0001,date=20240101,time=0000 centre=98,type=1,levtype=100 param=0.0.0,step=0,levelist=100000 183 ";
+
+const AXES: &str =
+    "class=od,expver=0001,date=20240101,time=0000 centre=98,type=1,levtype=100 levelist=100000
+class=od,expver=0001,date=20240101,time=0000 centre=98,type=1,levtype=100 param=0.0.0
+class=od,expver=0001,date=20240101,time=0000 centre=98,type=1,levtype=100 step=0
+";
+
+/// `stats` over this store ends its line so, and `list` its one line with this number.
+fn check_contents<R: Abort + Wait>(
+    rt: &R,
+    alloc: Global,
+    store: &mut MemStore,
+    number: &str,
+    totals: &str,
+) -> Result<(), Fail> {
+    let run = plain(&["list", "s"], b"list,param=0.0.0", 5);
+    let line = format!(in alloc; "{LISTED}{number}\n")?;
+    check_over(rt, alloc, store, &run, Status::Done, line.as_bytes(), "")?;
+    let run = plain(&["stats", "s"], b"", 5);
+    let line = format!(in alloc; "class=od,expver=0001,date=20240101,time=0000 {totals}\n")?;
+    check_over(rt, alloc, store, &run, Status::Done, line.as_bytes(), "")?;
+    Ok(())
+}
+
+/// An archive of this input over this store tells this.
+fn check_archive<R: Abort + Wait>(
+    rt: &R,
+    alloc: Global,
+    store: &mut MemStore,
+    input: &[u8],
+    report: &str,
+) -> Result<(), Fail> {
+    let words = ["archive", "s", "--with=class=od,expver=0001"];
+    let run = plain(&words, input, 100);
+    check_over(rt, alloc, store, &run, Status::Done, b"", report)
+}
+
+/// What a store tells of itself after nothing, one field, and a newer field of its key.
+#[test]
+fn tells_contents(rt: HostRuntime) -> Result<(), Fail> {
+    let alloc = rt.alloc();
+    let mut store = MemStore::new(alloc, 65_536, 256)?;
+    check_create(&rt, alloc, &mut store, SCHEMA, Status::Done, "created\n")?;
+    let none = "archived 0 datasets 0 junk 0\n";
+    check_archive(&rt, alloc, &mut store, b"", none)?;
+    let run = plain(&["stats", "s"], b"", 5);
+    check_over(&rt, alloc, &mut store, &run, Status::Done, b"", "")?;
+    let one = "archived 1 datasets 1 junk 0\n";
+    check_archive(&rt, alloc, &mut store, &FIELD, one)?;
+    let totals = "entries 1 fields 1 keys 1 bytes 183";
+    check_contents(&rt, alloc, &mut store, "1", totals)?;
+    let run = plain(&["axes", "s"], b"list", 5);
+    let axes = AXES.as_bytes();
+    check_over(&rt, alloc, &mut store, &run, Status::Done, axes, "")?;
+    let newer = field(alloc, 0, 43)?;
+    check_archive(&rt, alloc, &mut store, newer.as_slice(), one)?;
+    let totals = "entries 2 fields 2 keys 1 bytes 366";
+    check_contents(&rt, alloc, &mut store, "2", totals)?;
+    Ok(())
+}
+
+/// Two fields of one key in one archive are one field of one entry.
+#[test]
+fn counts_masked_fields_once(rt: HostRuntime) -> Result<(), Fail> {
+    let alloc = rt.alloc();
+    let mut store = MemStore::new(alloc, 65_536, 256)?;
+    check_create(&rt, alloc, &mut store, SCHEMA, Status::Done, "created\n")?;
+    let mut both = Vec::from_slice(alloc, &FIELD)?;
+    both.extend_from_slice(&field(alloc, 0, 43)?)?;
+    let two = "archived 2 datasets 1 junk 0\n";
+    check_archive(&rt, alloc, &mut store, both.as_slice(), two)?;
+    let totals = "entries 1 fields 1 keys 1 bytes 366";
+    check_contents(&rt, alloc, &mut store, "1", totals)?;
+    let run = plain(&["list", "s"], b"list,param", 5);
+    let refused = "refused request 10 Pair\n";
+    check_over(&rt, alloc, &mut store, &run, Status::Refused, b"", refused)?;
+    store.fail(alloc, "schema", Op::Read, 1)?;
+    let run = plain(&["stats", "s"], b"", 5);
+    let failed = "disk failed\n";
+    check_over(&rt, alloc, &mut store, &run, Status::DiskFault, b"", failed)?;
     Ok(())
 }
 

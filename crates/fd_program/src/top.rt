@@ -13,6 +13,7 @@ ghost use Rattle.fd_outcome.specs.Ran.{Ran};
 use crate::create::create;
 use crate::streams::{pick, write_list};
 use fd_archive::archive;
+use fd_contents::{axes, list, stats};
 use fd_disk::{Folder, Sealed, Shelf, Store};
 use fd_io::{Sink, Source};
 use fd_outcome::{Listing, Status, tell, tell_no_memory};
@@ -114,8 +115,8 @@ where
         Command::Create(root) => create(alloc, root, store, input, report),
         Command::Archive(root, given) => archive(rt, alloc, root, given, store, input, report),
         Command::Retrieve(root) => retrieve(rt, alloc, root, store, input, output, report),
-        Command::List(_) => unreachable!(),
-        Command::Axes(_) => unreachable!(),
-        Command::Stats(_) => unreachable!(),
+        Command::List(root) => list(rt, alloc, root, store, input, output, report),
+        Command::Axes(root) => axes(rt, alloc, root, store, input, output, report),
+        Command::Stats(root) => stats(rt, alloc, root, store, output, report),
     }
 }

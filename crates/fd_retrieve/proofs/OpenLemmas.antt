@@ -81,6 +81,11 @@ module _ {A : Type 0} where
   batches_listed [] = refl
   batches_listed (x ∷ xs) = ap (λ (l : List (Option (List Pair))). batch_of (arc_value x).files ∷ l) (batches_listed xs)
 
+  -- what shared segments list
+  pub listings_of : (xs : List (Arc Standing A)) → map listing (standings xs) ≡ listings xs
+  listings_of [] = refl
+  listings_of (x ∷ xs) = ap (λ l. listing_of x ∷ l) (listings_of xs)
+
   -- as the folder has it
   pub open_of : (name : List ℕ) (v : Contents) (es : List Entry) (xs : List (Arc Standing A)) (o : Open) → o.name ≡ name → map listing o.shown ≡ listings xs → o.segments ≡ standings xs
       → true ≡ is_some v.table → IfSome v.table (λ f. listed name f.reads ≡ Ok es) → AreTakenUp name (Some v) es (standings xs)

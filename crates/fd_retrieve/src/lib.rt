@@ -11,6 +11,9 @@ mod stop;
 mod tables;
 mod telling;
 
+pub use opened::{Opened, open};
+pub use preparing::unopened;
 pub use retrieving::retrieve;
-pub use stop::Broken;
-pub use telling::{tell_broken, tell_schema};
+pub use stop::{Broken, Stop};
+pub use tables::has_table;
+pub use telling::{tell_broken, tell_schema, tell_stop};

@@ -24,7 +24,7 @@ use std::sync::{Arc, Wait};
 
 /// A dataset as it was when it was opened: its text, what its table listed, and the files of that.
 #[derive(Drop)]
-pub(crate) struct Opened<F: Send, Z: Sealed<F> + Drop> {
+pub struct Opened<F: Send, Z: Sealed<F> + Drop> {
     pub(crate) name: String,
     pub(crate) snapshot: Snapshot<F, Z>,
     pub(crate) segments: Vec<Arc<Segment<F, Z>>>,
@@ -47,10 +47,31 @@ impl<F: Send, Z: Sealed<F> + Drop> Opened<F, Z> {
     {
         name == self.name.as_str()
     }
+
+    /// The dataset's text.
+    pub fn name(&self) -> &str
+        ensures { result.now ≡ self.now.name }
+    {
+        self.name.as_str()
+    }
+
+    /// What the table listed.
+    pub fn snapshot(&self) -> &Snapshot<F, Z>
+        ensures { result.now ≡ self.now.shown }
+    {
+        &self.snapshot
+    }
+
+    /// The segments of what the table listed, in its order.
+    pub fn segments(&self) -> &[Arc<Segment<F, Z>>]
+        ensures { standings result.now ≡ self.now.segments }
+    {
+        &self.segments
+    }
 }
 
 /// Opens a dataset of the store, whose folder isn't out, and gives it back; `None` exactly where there is no table.
-pub(crate) fn open<F: Send, S: Store<F>, R: Wait>(
+pub fn open<F: Send, S: Store<F>, R: Wait>(
     rt: &R,
     alloc: Global,
     store: &mut S,
@@ -60,6 +81,7 @@ where
     <S::Folder as Folder<F>>::Sealed: Drop,
     requires home { (n : List ℕ) → S.out store.old n ≡ false }
     ensures opened { IfOk result (λ o. IfSome o (λ r. (r.name ≡ name.now) × IfSome (S.has store.old) (λ h. IsOpenIn h r))) }
+    ensures same { IfOk result (λ o. IfSome o (λ r. map listing r.shown ≡ map listing r.segments)) }
     ensures none { IfOk result (λ o. IfSome (S.has store.old) (λ h. is_some o ≡ has_table h name.now)) }
     ensures broken { IfErr result (λ e. IfSome (S.has store.old) (λ h. StandsAsSaid name.now (folder_at h name.now) e)) }
     ensures never { IfErr result NotTooMany }
@@ -89,6 +111,7 @@ where
     requires back { D.table_out folder.old ≡ false }
     requires dataset { D.name folder.old ≡ name.now }
     ensures opened { IfOk result (λ o. IfSome o (λ r. (r.name ≡ name.now) × IfSome (D.has folder.old) (λ v. IsOpenOf v r))) }
+    ensures same { IfOk result (λ o. IfSome o (λ r. map listing r.shown ≡ map listing r.segments)) }
     ensures none { IfOk result (λ o. IfSome (D.has folder.old) (λ v. is_some o ≡ is_some v.table)) }
     ensures broken { IfErr result (λ e. IfSome (D.has folder.old) (λ v. StandsAsSaid name.now v e)) }
     ensures never { IfErr result NotTooMany }

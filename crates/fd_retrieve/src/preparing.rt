@@ -167,7 +167,7 @@ where
 }
 
 /// Why a dataset isn't opened.
-fn unopened<F: Drop>(alloc: Global, name: &str, fault: OpenFault<F>) -> Stop<F>
+pub fn unopened<F: Drop>(alloc: Global, name: &str, fault: OpenFault<F>) -> Stop<F>
     requires { NotTooMany fault }
     ensures is { IsUnopened name.now fault result }
     ensures of { OfDataset result }

@@ -93,14 +93,15 @@ fn is_one_of(names: &[String], text: &str) -> bool
     false
 }
 
-/// Tells that a dataset of the store has a table, whose folder isn't out.
-fn has_table<F: Send, S: Store<F>>(
+/// Tells that a dataset of the store has a table, whose folder isn't out. One whose text has more than 255 bytes has none.
+pub fn has_table<F: Send, S: Store<F>>(
     alloc: Global,
     store: &mut S,
     name: &str,
 ) -> Result<bool, Down<F>>
     requires home { (n : List ℕ) → S.out store.old n ≡ false }
     ensures there { IfOk result (λ b. IfSome (S.has store.old) (λ h. b ≡ has_table h name.now)) }
+    ensures short { IfOk result (λ b. b ≡ true → length name.now ≤ 255) }
     ensures stays { WhereTold (S.has store.old) (S.has store.new) Stays }
     ensures home { (n : List ℕ) → S.out store.new n ≡ false }
     ensures later { S.faults store.old ≤ S.faults store.new }

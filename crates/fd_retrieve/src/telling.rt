@@ -21,8 +21,8 @@ use fd_schema::SchemaKind;
 use fd_segment::Damage;
 use std::alloc::{AllocError, Global};
 
-/// Writes the line of a request that isn't answered. A fault of the store is counted.
-pub(crate) fn tell_stop<F: Send + Drop, X: Drop, S: Store<F>, E: Sink<X>>(
+/// Writes the line of what isn't answered. A fault of the store is counted.
+pub fn tell_stop<F: Send + Drop, X: Drop, S: Store<F>, E: Sink<X>>(
     alloc: Global,
     store: &mut S,
     report: &mut E,

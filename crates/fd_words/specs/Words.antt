@@ -76,13 +76,21 @@ given_read text = if nat_lt (length text) (2 ^ 31) then if_given (given_of text)
 abbrev pub given_in : Option Text → Option (List Pair)
 given_in option = given_read (unwrap_or option [])
 
+-- the commands that list what a store holds
+abbrev pub listing_of : Text → Text → Option Command
+listing_of name root =
+    if bytes_eq name (codes "list") then Some (commands.List root)
+    else if bytes_eq name (codes "axes") then Some (commands.Axes root)
+    else if bytes_eq name (codes "stats") then Some (commands.Stats root)
+    else None
+
 -- The commands that have a root. A command has its line here, and its words their form, once it is written.
 abbrev pub rooted : Text → Option (List Pair) → Text → Option Command
 rooted name given root =
     if bytes_eq name (codes "create") then Some (commands.Create root)
     else if bytes_eq name (codes "archive") then option_map (commands.Archive root) given
     else if bytes_eq name (codes "retrieve") then Some (commands.Retrieve root)
-    else None
+    else listing_of name root
 
 -- the command of that name, where the words behind it say this
 abbrev pub command_said : Text → Said → Option Command
@@ -117,6 +125,6 @@ Stands (commands.Values decimals) = Unit {0}
 Stands (commands.Create root) = Unit {0}
 Stands (commands.Archive root given) = Unit {0}
 Stands (commands.Retrieve root) = Unit {0}
-Stands (commands.List root) = ⊥
-Stands (commands.Axes root) = ⊥
-Stands (commands.Stats root) = ⊥
+Stands (commands.List root) = Unit {0}
+Stands (commands.Axes root) = Unit {0}
+Stands (commands.Stats root) = Unit {0}

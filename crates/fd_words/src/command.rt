@@ -7,7 +7,7 @@ ghost use Rattle.fd_words.specs.Texts.{texts};
 ghost use Rattle.fd_words.specs.Reading.{Said, Tells};
 ghost use Rattle.fd_words.specs.Grammar.{options_of};
 ghost use Rattle.fd_words.specs.declared.command.Command.TheVariants.{Archive};
-ghost use Rattle.fd_words.specs.Words.{command_of, command_said, rooted, wanted_pairs, pick_of, describe_of, values_of, is_root, root_of, given_in, given_read, HasFewDecimals, Stands};
+ghost use Rattle.fd_words.specs.Words.{command_of, command_said, listing_of, rooted, wanted_pairs, pick_of, describe_of, values_of, is_root, root_of, given_in, given_read, HasFewDecimals, Stands};
 
 use crate::numbers::decimals_number;
 use crate::parse::{alone, option_text, parse};
@@ -118,7 +118,25 @@ fn rooted(
     if name == "retrieve" {
         return Ok(Some(Command::Retrieve(root)));
     }
-    Ok(None)
+    Ok(listing_of(name, root))
+}
+
+/// A command that lists what a store holds.
+fn listing_of(name: &str, root: Root) -> Option<Command>
+    ensures command { result ≡ listing_of name.now root }
+    ensures few { IfSome result HasFewDecimals }
+    ensures stands { IfSome result Stands }
+{
+    if name == "list" {
+        return Some(Command::List(root));
+    }
+    if name == "axes" {
+        return Some(Command::Axes(root));
+    }
+    if name == "stats" {
+        return Some(Command::Stats(root));
+    }
+    None
 }
 
 /// `archive` with the text of its option, if it has one.

@@ -52,6 +52,9 @@ fn reads_words(rt: HostRuntime) -> Result<(), Fail> {
         "archive s 1",
     )?;
     check(&rt, alloc, &["retrieve", "a b"], "retrieve a b")?;
+    check(&rt, alloc, &["list", "s"], "list s")?;
+    check(&rt, alloc, &["axes", "s"], "axes s")?;
+    check(&rt, alloc, &["stats", "s"], "stats s")?;
     Ok(())
 }
 
@@ -74,7 +77,8 @@ fn refuses_words(rt: HostRuntime) -> Result<(), Fail> {
         &["values", "--decimals=1", "--decimals=1"],
         "none",
     )?;
-    check(&rt, alloc, &["list", "s"], "none")?;
+    check(&rt, alloc, &["list", "s", "t"], "none")?;
+    check(&rt, alloc, &["axes", "--with=class=od", "s"], "none")?;
     check(&rt, alloc, &["create"], "none")?;
     check(&rt, alloc, &["create", ""], "none")?;
     check(&rt, alloc, &["create", "-"], "none")?;

@@ -20,3 +20,12 @@ returns-in-Archive-clause-ran g c = subst (λ command. Ran command c.archive.res
 
 pub returns-in-Retrieve-clause-ran : goal.returns-in-Retrieve-clause-ran
 returns-in-Retrieve-clause-ran g c = subst (λ command. Ran command c.retrieve.result (object (g.S.Store.has c.args.store.now) (g.S.Store.has c.retrieve.new.store) (g.S.Store.faults c.args.store.now) (g.S.Store.faults c.retrieve.new.store)) (object (g.I.Source.left c.args.input.now) (g.I.Source.left c.retrieve.new.input) (g.I.Source.faults c.args.input.now) (g.I.Source.faults c.retrieve.new.input)) (object (g.K.Sink.taken c.args.output.now) (g.K.Sink.taken c.retrieve.new.output) (g.K.Sink.faults c.args.output.now) (g.K.Sink.faults c.retrieve.new.output)) (object (g.E.Sink.taken c.args.report.now) (g.E.Sink.taken c.retrieve.new.report) (g.E.Sink.faults c.args.report.now) (g.E.Sink.faults c.retrieve.new.report))) (sym c.in-Retrieve.is) (c.retrieve.ensures.ran)
+
+pub returns-in-List-clause-ran : goal.returns-in-List-clause-ran
+returns-in-List-clause-ran g c = subst (λ command. Ran command c.list.result (object (g.S.Store.has c.args.store.now) (g.S.Store.has c.list.new.store) (g.S.Store.faults c.args.store.now) (g.S.Store.faults c.list.new.store)) (object (g.I.Source.left c.args.input.now) (g.I.Source.left c.list.new.input) (g.I.Source.faults c.args.input.now) (g.I.Source.faults c.list.new.input)) (object (g.K.Sink.taken c.args.output.now) (g.K.Sink.taken c.list.new.output) (g.K.Sink.faults c.args.output.now) (g.K.Sink.faults c.list.new.output)) (object (g.E.Sink.taken c.args.report.now) (g.E.Sink.taken c.list.new.report) (g.E.Sink.faults c.args.report.now) (g.E.Sink.faults c.list.new.report))) (sym c.in-List.is) (c.list.ensures.ran)
+
+pub returns-in-Axes-clause-ran : goal.returns-in-Axes-clause-ran
+returns-in-Axes-clause-ran g c = subst (λ command. Ran command c.axes.result (object (g.S.Store.has c.args.store.now) (g.S.Store.has c.axes.new.store) (g.S.Store.faults c.args.store.now) (g.S.Store.faults c.axes.new.store)) (object (g.I.Source.left c.args.input.now) (g.I.Source.left c.axes.new.input) (g.I.Source.faults c.args.input.now) (g.I.Source.faults c.axes.new.input)) (object (g.K.Sink.taken c.args.output.now) (g.K.Sink.taken c.axes.new.output) (g.K.Sink.faults c.args.output.now) (g.K.Sink.faults c.axes.new.output)) (object (g.E.Sink.taken c.args.report.now) (g.E.Sink.taken c.axes.new.report) (g.E.Sink.faults c.args.report.now) (g.E.Sink.faults c.axes.new.report))) (sym c.in-Axes.is) (c.axes.ensures.ran)
+
+pub returns-in-Stats-clause-ran : goal.returns-in-Stats-clause-ran
+returns-in-Stats-clause-ran g c = subst (λ command. Ran command c.stats.result (object (g.S.Store.has c.args.store.now) (g.S.Store.has c.stats.new.store) (g.S.Store.faults c.args.store.now) (g.S.Store.faults c.stats.new.store)) (object (g.I.Source.left c.args.input.now) (g.I.Source.left c.args.input.now) (g.I.Source.faults c.args.input.now) (g.I.Source.faults c.args.input.now)) (object (g.K.Sink.taken c.args.output.now) (g.K.Sink.taken c.stats.new.output) (g.K.Sink.faults c.args.output.now) (g.K.Sink.faults c.stats.new.output)) (object (g.E.Sink.taken c.args.report.now) (g.E.Sink.taken c.stats.new.report) (g.E.Sink.faults c.args.report.now) (g.E.Sink.faults c.stats.new.report))) (sym c.in-Stats.is) (c.stats.ensures.ran _ _)

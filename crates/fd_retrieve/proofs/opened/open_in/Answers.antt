@@ -1,4 +1,4 @@
-use Rattle.std.proofs.Common.{rules, ◌≡◌, ◌∙◌, ap, true, List, ℕ, None, Option, Some, IfSome, map}
+use Rattle.std.proofs.Common.{rules, ◌≡◌, ◌∙◌, ap, sym, true, List, ℕ, None, Option, Some, IfSome, map}
 use Rattle.std.specs.Prelude.{is_some, option_map, Ok}
 use Rattle.fd_disk.specs.Folders.{with_table, without_table}
 use Rattle.fd_core.specs.Table.{listed}
@@ -6,7 +6,7 @@ use Rattle.fd_segment.specs.Held.{batch_of}
 use Rattle.fd_segment.specs.Shared.{standings}
 use Rattle.fd_dataset.specs.Listed.{listing, listings}
 use Rattle.fd_recovery.specs.Recovered.{AreTakenUp, all_of, held}
-use Rattle.fd_retrieve.proofs.OpenLemmas.{lists_again, open_told}
+use Rattle.fd_retrieve.proofs.OpenLemmas.{listings_of, lists_again, open_told}
 use Rattle.fd_retrieve.proofs.Staying.{Back, table_back}
 use Rattle.fd_retrieve.proofs.opened.open_in.Goals as goal
 
@@ -25,6 +25,14 @@ returns-in-Ok-clause-opened g c =
     let taken : AreTakenUp name old toc.entries (standings xs) = search rules in
     let told : IfSome old (λ v. all_of (map (λ s. batch_of s.files) (standings xs)) ≡ held name v) = search rules in
     (text, open_told name old toc.entries xs o text shown segments there lists taken told)
+
+pub returns-in-Ok-clause-same : goal.returns-in-Ok-clause-same
+returns-in-Ok-clause-same g c =
+    let xs = c.in-Ok-Some.recovered.segments.items in
+    let o = c.in-Ok.opened in
+    let shown : map listing o.shown ≡ listings xs = search rules in
+    let segments : o.segments ≡ standings xs = search rules in
+    shown ∙ sym (ap (map listing) segments ∙ listings_of xs)
 
 pub returns-in-Ok-clause-stays : goal.returns-in-Ok-clause-stays
 returns-in-Ok-clause-stays g c =

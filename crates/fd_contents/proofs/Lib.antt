@@ -1,0 +1,5 @@
+mod Names
+mod Texts
+mod Opened
+mod Partial
+mod Exits

@@ -1,0 +1,157 @@
+-- What a dataset that was opened says of its lines and of its damage.
+use Rattle.std.proofs.Common.{◌≡◌, ◌∙◌, ℕ, Bool, true, false, true≢false, ◌||◌, List, [], ◌∷◌, length, map, Option, Some, None, IfSome, refl, sym, ap, subst, inl, inr}
+use Rattle.std.specs.Prelude.{◌⊎◌, is_some, option_map, Contains, Ok, Err, OnErr, OnOk, Result}
+use Rattle.fd_bytes.specs.Causes.{Rose}
+use Rattle.fd_disk.specs.Folders.{Contents, Holdings, folder_at}
+use Rattle.fd_core.specs.declared.batch.Pair.{Pair}
+use Rattle.fd_core.specs.declared.table.Entry.{Entry}
+use Rattle.fd_core.specs.Table.{listed}
+use Rattle.fd_dataset.specs.Listed.{listing}
+use Rattle.fd_io.specs.Streams.{Takes, TakesFront}
+use Rattle.fd_recovery.specs.Damages.{index_file}
+use Rattle.fd_recovery.specs.Recovered.{all_of, files_of, held}
+use Rattle.fd_segment.specs.Causes.{IsBadIndex, IsBeyond}
+use Rattle.fd_segment.specs.Held.{Files, Standing}
+use Rattle.fd_segment.specs.declared.fault.Damage.{Damage}
+use Rattle.fd_inventory.specs.Indexes.{IsAmongBad, Tells}
+use Rattle.fd_inventory.specs.Written.{HasLinesCause}
+use Rattle.fd_inventory.proofs.Upserting.{self}
+use Rattle.fd_outcome.specs.Asking.{is_among}
+use Rattle.fd_inventory.specs.declared.fault.LinesFault.{LinesFault}
+use Rattle.fd_inventory.specs.declared.fault.LinesFault.TheVariants as faults
+use Rattle.fd_request.specs.Expansion.{Keyword}
+use Rattle.fd_outcome.specs.Causes.{BadFile}
+use Rattle.fd_outcome.specs.Outcome.{stats_of}
+use Rattle.fd_outcome.specs.Rows.{axes_text, list_text, stats_text}
+use Rattle.fd_outcome.specs.Store.{Stands, Stays, entries_in, if_listed, table_at}
+use Rattle.fd_retrieve.specs.Open.{AreListed, IsOpenIn, IsOpenOf, Open, table_of}
+use Rattle.fd_retrieve.proofs.DatasetLemmas.{contains_mapped, contains_of}
+use Rattle.fd_contents.specs.declared.lines.Lines.{Lines}
+use Rattle.fd_contents.specs.declared.lines.Lines.TheVariants as lines
+use Rattle.fd_retrieve.specs.declared.stop.Stop.{Stop}
+use Rattle.fd_contents.specs.declared.datasets.Halt.{Halt}
+use Rattle.fd_contents.specs.declared.datasets.Halt.TheVariants as halts
+use Rattle.fd_contents.specs.Halts.{IsWrite, OnStop}
+use Rattle.fd_contents.specs.Texts.{text_for}
+
+some_is : {A : Type 0} (x y : A) → (let o : Option A = Some x in o ≡ Some y) → x ≡ y
+some_is x y e = cc e
+
+-- what is made of something made that is there
+record Made {A B : Type 0} (f : A → B) (o : Option A) (y : B) : Type 0 where
+  from : A
+  is : o ≡ Some from
+  makes : f from ≡ y
+
+made_of : {A B : Type 0} (f : A → B) (o : Option A) (y : B) → option_map f o ≡ Some y → Made f o y
+made_of f None y e = absurd (true≢false (sym (ap is_some e)))
+made_of f (Some x) y e = record { from = x; is = refl; makes = some_is (f x) y e }
+
+-- each listing has a batch of the table
+tells_all : (ls : List Standing) (t : List (List Pair)) → all_of (map (λ l. l.batch) (map listing ls)) ≡ Some t → Tells (map listing ls) t
+tells_all [] t e = ap (map (λ (b : List Pair). Some b)) (some_is [] t e)
+tells_all (l ∷ ls) t e = by (listing l).batch refl (tells_all ls) e
+  where
+    by : (o : Option (List Pair)) → (listing l).batch ≡ o → ((u : List (List Pair)) → all_of (map (λ x. x.batch) (map listing ls)) ≡ Some u → Tells (map listing ls) u)
+        → all_of (o ∷ map (λ x. x.batch) (map listing ls)) ≡ Some t → Tells (map listing (l ∷ ls)) t
+    by None is again h = absurd (true≢false (sym (ap is_some h)))
+    by (Some b) is again h =
+        let m = made_of (λ (more : List (List Pair)). b ∷ more) (all_of (map (λ x. x.batch) (map listing ls))) t h in
+        subst (λ u. (listing l).batch ∷ map (λ x. x.batch) (map listing ls) ≡ map (λ c. Some c) u) m.makes (λ i. is i ∷ again m.from m.is i)
+
+-- ---- the entries that its table listed
+
+entries_at : (es : List Entry) (v : Contents) → map (λ (f : Files). f.entry) (map (files_of v.files) es) ≡ es
+entries_at [] v = refl
+entries_at (e ∷ es) v = ap (λ l. e ∷ l) (entries_at es v)
+
+entries_in_files : (ss : List Standing) → map (λ (f : Files). f.entry) (map (λ s. s.files) ss) ≡ map (λ s. s.files.entry) ss
+entries_in_files [] = refl
+entries_in_files (s ∷ ss) = ap (λ l. s.files.entry ∷ l) (entries_in_files ss)
+
+entries_listed : (ss : List Standing) → map (λ l. l.entry) (map listing ss) ≡ map (λ s. s.files.entry) ss
+entries_listed [] = refl
+entries_listed (s ∷ ss) = ap (λ l. s.files.entry ∷ l) (entries_listed ss)
+
+module _ (h : Holdings) (o : Open) (open_ : IsOpenIn h o) (same : map listing o.shown ≡ map listing o.segments) where
+  shown_entries : map (λ s. s.files.entry) o.shown ≡ open_.listed.entries
+  shown_entries =
+      sym (entries_listed o.shown) ∙ ap (map (λ l. l.entry)) same ∙ entries_listed o.segments ∙ sym (entries_in_files o.segments)
+      ∙ ap (map (λ (f : Files). f.entry)) open_.listed.files ∙ entries_at open_.listed.entries (folder_at h o.name)
+
+  table_entries : entries_in o.name (folder_at h o.name).table ≡ Some open_.listed.entries
+  table_entries = ap (entries_in o.name) open_.listed.table_is ∙ ap if_listed open_.listed.lists
+
+  -- the lines of its table are those that are made of what it shows
+  told_by : (f : List (List Pair) → List ℕ) (text : List ℕ) → option_map f (table_at h o.name) ≡ Some text → (t : List (List Pair)) × Tells (map listing o.shown) t × (f t ≡ text)
+  told_by f text e =
+      let m = made_of f (table_at h o.name) text e in
+      (m.from, tells_all o.shown m.from (open_.held ∙ m.is), m.makes)
+
+  pub list_told : (keywords : List Keyword) (text : List ℕ) → text_for (lines.List keywords) h o.name ≡ Some text → (t : List (List Pair)) × Tells (map listing o.shown) t × (list_text keywords o.name t ≡ text)
+  list_told keywords text e = told_by (list_text keywords o.name) text e
+
+  pub axes_told : (keywords : List Keyword) (text : List ℕ) → text_for (lines.Axes keywords) h o.name ≡ Some text → (t : List (List Pair)) × Tells (map listing o.shown) t × (axes_text keywords o.name t ≡ text)
+  axes_told keywords text e = told_by (axes_text keywords o.name) text e
+
+  pub stats_told : (text : List ℕ) → text_for lines.Stats h o.name ≡ Some text → (t : List (List Pair)) × Tells (map listing o.shown) t × (stats_text o.name (map (λ s. s.files.entry) o.shown) t ≡ text)
+  stats_told text e =
+      let of : stats_of o.name (Some open_.listed.entries) (table_at h o.name) ≡ Some text = ap (λ es. stats_of o.name es (table_at h o.name)) (sym table_entries) ∙ e in
+      by (table_at h o.name) refl of
+    where
+      by : (q : Option (List (List Pair))) → table_at h o.name ≡ q → stats_of o.name (Some open_.listed.entries) q ≡ Some text
+          → (t : List (List Pair)) × Tells (map listing o.shown) t × (stats_text o.name (map (λ s. s.files.entry) o.shown) t ≡ text)
+      by None is h = absurd (true≢false (sym (ap is_some h)))
+      by (Some t) is h = (t, tells_all o.shown t (open_.held ∙ is), ap (λ es. stats_text o.name es t) shown_entries ∙ some_is (stats_text o.name open_.listed.entries t) text h)
+
+-- ---- damage
+
+pub stands_at : (h : Holdings) (o : Open) (d : Damage) → IsOpenIn h o → IsAmongBad o.segments d → Stands o.name (folder_at h o.name) (BadFile d)
+stands_at h o d open_ (s, there, bad) =
+    let v = folder_at h o.name in
+    let l = open_.listed in
+    let has = contains_mapped (λ (x : Standing). x.files) o.segments s there in
+    let e = contains_of (files_of v.files) l.entries s.files (subst (λ fs. Contains fs s.files) l.files has) in
+    let moved : IsBadIndex e.0 (v.files (index_file e.0)) d = subst (λ (f : Files). IsBadIndex f.entry f.index d) (sym e.2) bad in
+    (l.table, l.entries, l.table_is, l.lists, inr (e.0, e.1, inl moved))
+
+-- ---- what lines that failed say of the sink
+
+pub rose_by : {F X : Type 0} (e : LinesFault F X) (m n : ℕ) → IsWrite e → (let r : Result (Unit {0}) (LinesFault F X) = Err e in HasLinesCause r m n) → Rose m n
+rose_by (faults.Disk f) m n is cause = absurd is
+rose_by (faults.Write x) m n is cause = cause
+rose_by (faults.Damaged d) m n is cause = absurd is
+rose_by faults.NoMemory m n is cause = absurd is
+
+pub among_self : (name : List ℕ) → is_among (name ∷ []) name ≡ true
+among_self name = ap (λ b. b || false) (self name)
+
+pub on_stop : {F X : Type 0} (halt : Halt F X) (P Q : Stop F → Type 0) → ((stop : Stop F) → P stop → Q stop) → OnStop halt P → OnStop halt Q
+on_stop (halts.Stop stop) P Q to p = to stop p
+on_stop (halts.Unwritten x) P Q to p = tt
+
+-- ---- what lines that were written say of the dataset
+
+pub on_ok : {A E P Q : Type 0} → (P → Q) → (r : Result A E) → OnOk r P → OnOk r Q
+on_ok f (Ok x) p = f p
+on_ok f (Err e) p = tt
+
+pub on_err : {A E P Q : Type 0} → (P → Q) → (r : Result A E) → OnErr r P → OnErr r Q
+on_err f (Ok x) p = tt
+on_err f (Err e) p = f p
+
+module _ (o : Open) (l : Lines) (shown : List Standing) (name : List ℕ) (P : List ℕ → Type 0) (shown_is : shown ≡ o.shown) (name_is : name ≡ o.name) (same : map listing o.shown ≡ map listing o.segments) where
+  pub list_took : (ks : List Keyword) → l ≡ lines.List ks → ((t : List (List Pair)) → Tells (map listing shown) t → P (list_text ks name t)) → (h : Holdings) (text : List ℕ) → IsOpenIn h o → text_for l h o.name ≡ Some text → P text
+  list_took ks is took h text open_ e =
+      let x = list_told h o open_ same ks text (subst (λ k. text_for k h o.name ≡ Some text) is e) in
+      subst P x.2 (subst (λ n. P (list_text ks n x.0)) name_is (took x.0 (subst (λ s. Tells (map listing s) x.0) (sym shown_is) x.1)))
+
+  pub axes_took : (ks : List Keyword) → l ≡ lines.Axes ks → ((t : List (List Pair)) → Tells (map listing shown) t → P (axes_text ks name t)) → (h : Holdings) (text : List ℕ) → IsOpenIn h o → text_for l h o.name ≡ Some text → P text
+  axes_took ks is took h text open_ e =
+      let x = axes_told h o open_ same ks text (subst (λ k. text_for k h o.name ≡ Some text) is e) in
+      subst P x.2 (subst (λ n. P (axes_text ks n x.0)) name_is (took x.0 (subst (λ s. Tells (map listing s) x.0) (sym shown_is) x.1)))
+
+  pub stats_took : l ≡ lines.Stats → ((t : List (List Pair)) → Tells (map listing shown) t → P (stats_text name (map (λ s. s.files.entry) shown) t)) → (h : Holdings) (text : List ℕ) → IsOpenIn h o → text_for l h o.name ≡ Some text → P text
+  stats_took is took h text open_ e =
+      let x = stats_told h o open_ same text (subst (λ k. text_for k h o.name ≡ Some text) is e) in
+      subst P x.2 (subst (λ n. P (stats_text n (map (λ s. s.files.entry) o.shown) x.0)) name_is (subst (λ s. P (stats_text name (map (λ y. y.files.entry) s) x.0)) shown_is (took x.0 (subst (λ s. Tells (map listing s) x.0) (sym shown_is) x.1))))

@@ -1,0 +1,205 @@
+// The lines of all datasets, one dataset after the other.
+ghost use Rattle.std.specs.Prelude.{◌≡◌, ◌≤◌, [], ◌∷◌, List, ℕ, Some, false, is_some, length, map, IfOk, IfErr, IfSome, OnErr, OnOk};
+ghost use Rattle.fd_bytes.specs.Causes.{Rose};
+ghost use Rattle.fd_disk.specs.Folders.{Holdings, WhereTold};
+ghost use Rattle.fd_dataset.specs.Listed.{listing};
+ghost use Rattle.fd_io.specs.Streams.{Takes, TakesFront};
+ghost use Rattle.fd_schema.specs.Seen.{texts};
+ghost use Rattle.fd_outcome.specs.Store.{AreNames, Stays, has_table};
+ghost use Rattle.fd_retrieve.specs.Open.{IsOpenIn};
+ghost use Rattle.fd_retrieve.specs.Ready.{IsBrokenOf};
+ghost use Rattle.fd_retrieve.specs.Stops.{OfDataset};
+ghost use Rattle.fd_contents.specs.Halts.{IsWrite, OnStop, OnUnwritten};
+ghost use Rattle.fd_contents.specs.Texts.{text_for, texts_for};
+
+use crate::lines::{Lines, damage_of, write_lines};
+use fd_disk::{Down, Folder, Sealed, Store};
+use fd_inventory::LinesFault;
+use fd_io::Sink;
+use fd_retrieve::{Broken, Opened, Stop, has_table, open, unopened};
+use std::alloc::Global;
+use std::sync::Wait;
+
+/// Why the lines weren't written to their end.
+#[derive(Drop)]
+pub(crate) enum Halt<F, X> {
+    /// A call of the store failed, a dataset is damaged, or memory ran out.
+    Stop(Stop<F>),
+    /// A write of the output failed.
+    Unwritten(X),
+}
+
+/// Opens a dataset of the store, and gives it back; `None` exactly where there is no table. A dataset whose text has more
+/// than 255 bytes has none.
+fn opened_at<F: Send + Drop, S: Store<F>, R: Wait>(
+    rt: &R,
+    alloc: Global,
+    store: &mut S,
+    name: &str,
+) -> Result<Option<Opened<F, <S::Folder as Folder<F>>::Sealed>>, Stop<F>>
+where
+    <S::Folder as Folder<F>>::Sealed: Drop,
+    requires home { (n : List ℕ) → S.out store.old n ≡ false }
+    ensures opened { IfOk result (λ o. IfSome o (λ r. (r.name ≡ name.now) × IfSome (S.has store.old) (λ h. IsOpenIn h r))) }
+    ensures short { IfOk result (λ o. IfSome o (λ r. length r.name ≤ 255)) }
+    ensures same { IfOk result (λ o. IfSome o (λ r. map listing r.shown ≡ map listing r.segments)) }
+    ensures none { IfOk result (λ o. IfSome (S.has store.old) (λ h. is_some o ≡ has_table h name.now)) }
+    ensures broken { IfErr result (λ e. IfSome (S.has store.old) (λ h. IsBrokenOf e h (name.now ∷ []))) }
+    ensures of { IfErr result OfDataset }
+    ensures stays { WhereTold (S.has store.old) (S.has store.new) Stays }
+    ensures home { (n : List ℕ) → S.out store.new n ≡ false }
+    ensures later { S.faults store.old ≤ S.faults store.new }
+{
+    if name.len() > 255 {
+        return match has_table(alloc, store, name) {
+            Ok(_) => Ok(None),
+            Err(Down::Fault(fault)) => Err(Stop::Disk(fault)),
+            Err(Down::NoMemory) => Err(Stop::NoMemory),
+        };
+    }
+    match open(rt, alloc, store, name) {
+        Ok(opened) => Ok(opened),
+        Err(fault) => Err(unopened(alloc, name, fault)),
+    }
+}
+
+/// What is damaged in a dataset whose lines met a damage. Where none is met any more, nothing can be said of the files, as
+/// where memory is refused.
+fn damaged<F: Send, Z: Sealed<F> + Drop>(alloc: Global, dataset: &Opened<F, Z>) -> Stop<F>
+where
+    Z::Reader: Drop,
+    ensures broken { (h : Holdings) → IsOpenIn h dataset.now → IsBrokenOf result h (dataset.now.name ∷ []) }
+    ensures of { OfDataset result }
+{
+    let damage = match damage_of(alloc, dataset.segments()) {
+        Ok(Some(damage)) => damage,
+        Ok(None) | Err(Down::NoMemory) => return Stop::NoMemory,
+        Err(Down::Fault(fault)) => return Stop::Disk(fault),
+    };
+    match String::from_str(alloc, dataset.name()) {
+        Ok(dataset) => Stop::Broken {
+            dataset,
+            broken: Broken::File(damage),
+        },
+        Err(_) => Stop::NoMemory,
+    }
+}
+
+/// What ended the lines of a dataset.
+fn halted<F: Send + Drop, Z: Sealed<F> + Drop, X>(
+    alloc: Global,
+    dataset: &Opened<F, Z>,
+    fault: LinesFault<F, X>,
+) -> Halt<F, X>
+where
+    Z::Reader: Drop,
+    ensures broken { OnStop result (λ stop. (h : Holdings) → IsOpenIn h dataset.now → IsBrokenOf stop h (dataset.now.name ∷ [])) }
+    ensures of { OnStop result OfDataset }
+    ensures write { OnUnwritten result (IsWrite fault) }
+{
+    match fault {
+        LinesFault::Disk(fault) => Halt::Stop(Stop::Disk(fault)),
+        LinesFault::Write(fault) => Halt::Unwritten(fault),
+        LinesFault::Damaged(_) => Halt::Stop(damaged(alloc, dataset)),
+        LinesFault::NoMemory => Halt::Stop(Stop::NoMemory),
+    }
+}
+
+/// Writes the lines of one dataset, whose folder isn't out; none where it has no table. It is given back.
+fn print_one<F: Send + Drop, X: Drop, S: Store<F>, K: Sink<X>, R: Wait>(
+    rt: &R,
+    alloc: Global,
+    lines: &Lines,
+    store: &mut S,
+    name: &str,
+    output: &mut K,
+) -> Result<(), Halt<F, X>>
+where
+    <S::Folder as Folder<F>>::Sealed: Drop,
+    <<S::Folder as Folder<F>>::Sealed as Sealed<F>>::Reader: Drop,
+    requires home { (n : List ℕ) → S.out store.old n ≡ false }
+    ensures took { OnOk result (IfSome (S.has store.old) (λ h. (text : List ℕ) → text_for lines.now h name.now ≡ Some text → Takes (K.taken output.old) (K.taken output.new) text)) }
+    ensures front { OnErr result (IfSome (S.has store.old) (λ h. (text : List ℕ) → text_for lines.now h name.now ≡ Some text → TakesFront (K.taken output.old) (K.taken output.new) text)) }
+    ensures broken { IfErr result (λ e. OnStop e (λ stop. IfSome (S.has store.old) (λ h. IsBrokenOf stop h (name.now ∷ [])))) }
+    ensures of { IfErr result (λ e. OnStop e OfDataset) }
+    ensures calm { OnOk result (K.faults output.new ≡ K.faults output.old) }
+    ensures write { IfErr result (λ e. OnUnwritten e (Rose (K.faults output.old) (K.faults output.new))) }
+    ensures stays { WhereTold (S.has store.old) (S.has store.new) Stays }
+    ensures home { (n : List ℕ) → S.out store.new n ≡ false }
+    ensures later { S.faults store.old ≤ S.faults store.new }
+{
+    let opened = match opened_at(rt, alloc, store, name) {
+        Ok(Some(opened)) => opened,
+        Ok(None) => return Ok(()),
+        Err(stop) => return Err(Halt::Stop(stop)),
+    };
+    match write_lines(alloc, lines, &opened, output) {
+        Ok(()) => Ok(()),
+        Err(fault) => Err(halted(alloc, &opened, fault)),
+    }
+}
+
+/// Writes the lines of the datasets of these names, in their order.
+fn print_each<F: Send + Drop, X: Drop, S: Store<F>, K: Sink<X>, R: Wait>(
+    rt: &R,
+    alloc: Global,
+    lines: &Lines,
+    store: &mut S,
+    names: &[String],
+    output: &mut K,
+) -> Result<(), Halt<F, X>>
+where
+    <S::Folder as Folder<F>>::Sealed: Drop,
+    <<S::Folder as Folder<F>>::Sealed as Sealed<F>>::Reader: Drop,
+    requires home { (n : List ℕ) → S.out store.old n ≡ false }
+    ensures took { OnOk result (IfSome (S.has store.old) (λ h. (text : List ℕ) → texts_for lines.now h (texts names.now) ≡ Some text → Takes (K.taken output.old) (K.taken output.new) text)) }
+    ensures front { OnErr result (IfSome (S.has store.old) (λ h. (text : List ℕ) → texts_for lines.now h (texts names.now) ≡ Some text → TakesFront (K.taken output.old) (K.taken output.new) text)) }
+    ensures broken { IfErr result (λ e. OnStop e (λ stop. IfSome (S.has store.old) (λ h. IsBrokenOf stop h (texts names.now)))) }
+    ensures of { IfErr result (λ e. OnStop e OfDataset) }
+    ensures calm { OnOk result (K.faults output.new ≡ K.faults output.old) }
+    ensures write { IfErr result (λ e. OnUnwritten e (Rose (K.faults output.old) (K.faults output.new))) }
+    ensures stays { WhereTold (S.has store.old) (S.has store.new) Stays }
+    ensures home { (n : List ℕ) → S.out store.new n ≡ false }
+    ensures later { S.faults store.old ≤ S.faults store.new }
+{
+    for i in 0..names.len() {
+        match print_one(rt, alloc, lines, store, &names[i], output) {
+            Ok(()) => {}
+            Err(halt) => return Err(halt),
+        }
+    }
+    Ok(())
+}
+
+/// Writes the lines of all datasets of the store, in the order of their texts. Each is given back before the next is opened.
+pub(crate) fn print<F: Send + Drop, X: Drop, S: Store<F>, K: Sink<X>, R: Wait>(
+    rt: &R,
+    alloc: Global,
+    lines: &Lines,
+    store: &mut S,
+    output: &mut K,
+) -> Result<(), Halt<F, X>>
+where
+    <S::Folder as Folder<F>>::Sealed: Drop,
+    <<S::Folder as Folder<F>>::Sealed as Sealed<F>>::Reader: Drop,
+    requires home { (n : List ℕ) → S.out store.old n ≡ false }
+    ensures took { OnOk result (IfSome (S.has store.old) (λ h. (names : List (List ℕ)) (text : List ℕ) → AreNames h names → texts_for lines.now h names ≡ Some text → Takes (K.taken output.old) (K.taken output.new) text)) }
+    ensures front { OnErr result (IfSome (S.has store.old) (λ h. (names : List (List ℕ)) (text : List ℕ) → AreNames h names → texts_for lines.now h names ≡ Some text → TakesFront (K.taken output.old) (K.taken output.new) text)) }
+    ensures broken { IfErr result (λ e. OnStop e (λ stop. IfSome (S.has store.old) (λ h. (names : List (List ℕ)) → AreNames h names → IsBrokenOf stop h names))) }
+    ensures of { IfErr result (λ e. OnStop e OfDataset) }
+    ensures calm { OnOk result (K.faults output.new ≡ K.faults output.old) }
+    ensures write { IfErr result (λ e. OnUnwritten e (Rose (K.faults output.old) (K.faults output.new))) }
+    ensures stays { WhereTold (S.has store.old) (S.has store.new) Stays }
+    ensures home { (n : List ℕ) → S.out store.new n ≡ false }
+    ensures later { S.faults store.old ≤ S.faults store.new }
+{
+    let names = match store.names(alloc) {
+        Ok(names) => names,
+        Err(Down::Fault(fault)) => return Err(Halt::Stop(Stop::Disk(fault))),
+        Err(Down::NoMemory) => return Err(Halt::Stop(Stop::NoMemory)),
+    };
+    match print_each(rt, alloc, lines, store, &names, output) {
+        Ok(()) => Ok(()),
+        Err(halt) => Err(halt),
+    }
+}
