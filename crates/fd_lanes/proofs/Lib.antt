@@ -1,0 +1,12 @@
+mod Tables
+mod Histories
+mod Walking
+mod Receipts
+mod Legality
+mod Stepping
+mod Rooms
+mod Running
+mod Placing
+mod Rows
+mod Crews
+mod Answering

@@ -1,0 +1,374 @@
+//! All lanes, each in a thread of its own.
+ghost use Rattle.std.specs.Prelude.{◌≡◌, ◌<◌, ◌≤◌, ◌+◌, ◌-◌, [], List, All, ℕ, length, map, IfOk, IfErr, slice_index_or};
+ghost use Rattle.std.specs.Vec.{vec_capacity};
+ghost use mathlib.Core.List.{IsPrefix};
+ghost use Rattle.fd_core.specs.declared.batch.Pair.{Pair};
+ghost use Rattle.fd_schema.specs.Reading.{seen_place};
+ghost use Rattle.fd_retriever.specs.Answers.{Tells};
+ghost use Rattle.fd_turn.specs.declared.view.Lock.TheVariants.{Free};
+ghost use Rattle.fd_turn.specs.Passes.{view, IsOf, IsSame};
+ghost use Rattle.fd_turn.specs.Views.{all_parts, recipient};
+ghost use Rattle.fd_lanes.specs.Acts.{ArePlaces, LanesFit, all_acts};
+ghost use Rattle.fd_lanes.specs.Legal.{IsRunOf};
+ghost use Rattle.fd_numbers.specs.Numbers.{Differ};
+ghost use Rattle.fd_lanes.specs.Fits.{Keeps};
+ghost use Rattle.fd_lanes.specs.Jobs.{archivers_of, ends_of, IsFresh, IsReady, IsRoom, MayBegin, RanAt, Ran, TookIn, writers_of};
+
+use crate::end::{End, Ends};
+use crate::lane::{Job, LaneJob, LaneRoom, Room};
+use crate::places::places_at;
+use crate::steps::run_lane;
+use fd_archiver::Archiver;
+use fd_bytes::{Bytes, Items, NoMemory};
+use fd_dataset::{Dataset, DatasetPass};
+use fd_disk::{Disk, Sealed, Shelf};
+use fd_io::Gate;
+use fd_retriever::Lenses;
+use fd_schema::{Place, Schema};
+use fd_script::{Lane, Script};
+use std::alloc::Global;
+use std::sync::Wait;
+use std::thread;
+use std::thread::Threads;
+
+/// The writers of a dataset, one for each lane, and a pass that has every part.
+pub struct Crew<F: Send, T: Disk<F>, H: Shelf<F>>
+where
+    H::File: Drop,
+    H::Sealed: Drop,
+{
+    /// The writers.
+    pub archivers: Vec<Archiver<F, H>>,
+    /// The pass.
+    pub pass: DatasetPass<F, T, H::Sealed>,
+}
+
+/// How all steps ended.
+pub struct Transcript<F> {
+    /// The number of entries before.
+    pub before: u32,
+    /// For each lane the end of each of its steps.
+    pub lanes: Ends<F>,
+}
+
+/// What a run of lanes gives.
+pub struct Outcome<F: Send, T: Disk<F>, H: Shelf<F>>
+where
+    H::File: Drop,
+    H::Sealed: Drop,
+{
+    /// How all steps ended.
+    pub transcript: Transcript<F>,
+    /// The writers and the pass.
+    pub crew: Crew<F, T, H>,
+}
+
+// Room for each lane.
+fn rooms<F: Send + Drop, H: Shelf<F>>(
+    alloc: Global,
+    n: usize,
+) -> Result<Vec<LaneRoom<F, H>>, NoMemory>
+where
+    <H::Sealed as Sealed<F>>::Reader: Drop,
+    ensures { IfOk result (λ v. (length v.items ≡ n) × All IsRoom v.items) }
+{
+    let Ok(mut all) = Vec::with_capacity(alloc, n) else {
+        return Err(NoMemory);
+    };
+    for _i in 0..n {
+        let lenses = Lenses::new(alloc)?;
+        let Ok(ends) = Vec::with_capacity(alloc, 4096) else {
+            return Err(NoMemory);
+        };
+        all.push_reserved(Room { lenses, ends });
+    }
+    Ok(all)
+}
+
+// All that is listed, as a number.
+fn settled<F: Send, T: Disk<F>, Z: Sealed<F> + Drop, R: Wait>(
+    rt: &R,
+    alloc: Global,
+    dataset: &Dataset<F, T, Z>,
+    pass: &mut DatasetPass<F, T, Z>,
+) -> Result<u32, NoMemory>
+    requires own { IsOf dataset.now pass.old }
+    requires free { (view pass.old).lock ≡ Free }
+    requires all { (view pass.old).parts ≡ all_parts }
+    ensures own { IsSame pass.old pass.new }
+    ensures keeps { Keeps (view pass.old) (view pass.new) }
+    ensures amount { (view pass.new).amount ≡ (view pass.old).amount }
+    ensures doubts { (view pass.new).doubts ≡ (view pass.old).doubts }
+    ensures number { IfOk result (λ n. (n ≡ length (view pass.new).history) × (n ≡ (view pass.old).opening + (view pass.old).amount)) }
+{
+    let snapshot = dataset.snapshot(rt, alloc, pass)?;
+    Ok(snapshot.len())
+}
+
+// A job for each archiver, with a pass that is split off.
+fn sent_out<F: Send + Drop, T: Disk<F>, H: Shelf<F> + Drop>(
+    dataset: &Dataset<F, T, H::Sealed>,
+    pass: &mut DatasetPass<F, T, H::Sealed>,
+    archivers: Vec<Archiver<F, H>>,
+    mut rooms: Vec<LaneRoom<F, H>>,
+    mut jobs: Vec<LaneJob<F, T, H>>,
+) -> Vec<LaneJob<F, T, H>>
+where
+    H::File: Drop,
+    H::Sealed: Drop,
+    <H::Sealed as Sealed<F>>::Reader: Drop,
+    requires own { IsOf dataset.now pass.old }
+    requires free { (view pass.old).lock ≡ Free }
+    requires parts { length archivers.items < (view pass.old).parts }
+    requires rooms { (length rooms.items ≡ length archivers.items) × All IsRoom rooms.items }
+    requires jobs { (jobs.items ≡ []) × (vec_capacity jobs ≡ length archivers.items) }
+    ensures own { IsSame pass.old pass.new }
+    ensures pass { view pass.new ≡ record (view pass.old) { parts = (view pass.new).parts } }
+    ensures parts { (view pass.new).parts + length archivers.items ≡ (view pass.old).parts }
+    ensures archivers { archivers_of result.items ≡ archivers.items }
+    ensures each { All (IsReady dataset.now (recipient (view pass.old))) result.items }
+{
+    for archiver in archivers {
+        let Some(room) = rooms.pop() else {
+            unreachable!()
+        };
+        let Room { lenses, ends } = room;
+        let given = dataset.split(pass);
+        jobs.push_reserved(Job {
+            archiver,
+            pass: given,
+            lenses,
+            ends,
+        });
+    }
+    jobs
+}
+
+// The steps of one lane.
+fn run_at<F: Send + Drop, T: Disk<F>, H: Shelf<F>, G: Gate, R: Wait>(
+    rt: &R,
+    alloc: Global,
+    gate: &G,
+    lanes: &[Lane],
+    schema: &Schema,
+    messages: &[Bytes],
+    places: &[Place],
+    dataset: &Dataset<F, T, H::Sealed>,
+    i: usize,
+    job: &mut LaneJob<F, T, H>,
+)
+where
+    H::File: Drop,
+    H::Sealed: Drop,
+    <H::Sealed as Sealed<F>>::Reader: Drop,
+    requires lane { (i < length lanes.now) × (length lanes.now ≤ 8) }
+    requires short { All (λ l. length l.steps ≤ 4096) lanes.now }
+    requires steps { LanesFit schema.now messages.now (view job.old.pass).subject (map seen_place places.now) lanes.now }
+    requires fresh { IsFresh dataset.now job.old }
+    ensures ran { RanAt dataset.now schema.now messages.now (map seen_place places.now) lanes.now i job.old job.new }
+{
+    let own = places_at(lanes, i, places);
+    let number = i as u32 + 1;
+    let steps = lanes[i].steps.as_slice();
+    run_lane(
+        rt, alloc, gate, number, steps, schema, messages, own, dataset, job,
+    )
+}
+
+// Each job in a thread of its own.
+fn run_all<F: Send + Drop, T: Disk<F>, H: Shelf<F>, G: Gate, R: Threads + Wait + Sync>(
+    rt: &R,
+    alloc: Global,
+    gate: &G,
+    lanes: &[Lane],
+    schema: &Schema,
+    messages: &[Bytes],
+    places: &[Place],
+    dataset: &Dataset<F, T, H::Sealed>,
+    jobs: &mut [LaneJob<F, T, H>],
+)
+where
+    H::File: Drop,
+    H::Sealed: Drop,
+    <H::Sealed as Sealed<F>>::Reader: Drop,
+    requires lanes { (length jobs.old ≡ length lanes.now) × (length lanes.now ≤ 8) }
+    requires short { All (λ l. length l.steps ≤ 4096) lanes.now }
+    requires fresh { All (IsFresh dataset.now) jobs.old }
+    requires steps { All (λ j. LanesFit schema.now messages.now (view j.pass).subject (map seen_place places.now) lanes.now) jobs.old }
+    ensures long { length jobs.new ≡ length jobs.old }
+    ensures ran { (i : ℕ) (e : _) → i < length jobs.old → RanAt dataset.now schema.now messages.now (map seen_place places.now) lanes.now i (slice_index_or jobs.old i e) (slice_index_or jobs.new i e) }
+{
+    thread::for_each_mut(
+        rt,
+        jobs,
+        8,
+        &|i: usize, job: &mut LaneJob<F, T, H>|
+            requires { (i < length lanes.now) × (length lanes.now ≤ 8) × All (λ l. length l.steps ≤ 4096) lanes.now × LanesFit schema.now messages.now (view job.old.pass).subject (map seen_place places.now) lanes.now × IsFresh dataset.now job.old }
+            ensures { RanAt dataset.entry.now schema.entry.now messages.entry.now (map seen_place places.entry.now) lanes.entry.now i job.old job.new }
+        {
+            run_at(
+                rt, alloc, gate, lanes, schema, messages, places, dataset, i, job,
+            )
+        },
+    );
+}
+
+type Gathered<F, H> = (Vec<Archiver<F, H>>, Vec<Items<End<F>>>);
+
+// Takes the pass of each job in, and gives the archivers and the ends.
+fn taken_in<F: Send + Drop, T: Disk<F>, H: Shelf<F> + Drop>(
+    dataset: &Dataset<F, T, H::Sealed>,
+    pass: &mut DatasetPass<F, T, H::Sealed>,
+    jobs: Vec<LaneJob<F, T, H>>,
+    mut archivers: Vec<Archiver<F, H>>,
+    mut ends: Vec<Items<End<F>>>,
+) -> Gathered<F, H>
+where
+    H::File: Drop,
+    H::Sealed: Drop,
+    <H::Sealed as Sealed<F>>::Reader: Drop,
+    requires own { IsOf dataset.now pass.old }
+    requires free { (view pass.old).lock ≡ Free }
+    requires jobs { All (λ j. IsOf dataset.now j.pass × ((view j.pass).lock ≡ Free)) jobs.items }
+    requires rooms { (archivers.items ≡ []) × (vec_capacity archivers ≡ length jobs.items) × (ends.items ≡ []) × (vec_capacity ends ≡ length jobs.items) }
+    ensures own { IsSame pass.old pass.new }
+    ensures took { TookIn (view pass.old) (view pass.new) jobs.items }
+    ensures archivers { result.0.items ≡ archivers_of jobs.items }
+    ensures ends { result.1.items ≡ ends_of jobs.items }
+{
+    for job in jobs {
+        let Job {
+            archiver,
+            pass: other,
+            lenses: _,
+            ends: its,
+        } = job;
+        dataset.join(pass, other);
+        archivers.push_reserved(archiver);
+        ends.push_reserved(Items::from_vec(its));
+    }
+    (archivers, ends)
+}
+
+// Sends the lanes out, and takes them in. The pass has then seen all that is listed.
+fn run_crew<F: Send + Drop, T: Disk<F>, H: Shelf<F> + Drop, G: Gate, R: Threads + Wait + Sync>(
+    rt: &R,
+    alloc: Global,
+    gate: &G,
+    lanes: &[Lane],
+    schema: &Schema,
+    messages: &[Bytes],
+    places: &[Place],
+    dataset: &Dataset<F, T, H::Sealed>,
+    pass: &mut DatasetPass<F, T, H::Sealed>,
+    archivers: Vec<Archiver<F, H>>,
+    rooms: Vec<LaneRoom<F, H>>,
+    jobs: Vec<LaneJob<F, T, H>>,
+    back: Vec<Archiver<F, H>>,
+    ends: Vec<Items<End<F>>>,
+) -> Gathered<F, H>
+where
+    H::File: Drop,
+    H::Sealed: Drop,
+    <H::Sealed as Sealed<F>>::Reader: Drop,
+    requires own { IsOf dataset.now pass.old }
+    requires free { (view pass.old).lock ≡ Free }
+    requires all { (view pass.old).parts ≡ all_parts }
+    requires sure { (view pass.old).doubts ≡ [] }
+    requires number { (view pass.old).opening + (view pass.old).amount ≡ length (view pass.old).history }
+    requires lanes { (length archivers.items ≡ length lanes.now) × (length lanes.now ≤ 8) }
+    requires short { All (λ l. length l.steps ≤ 4096) lanes.now }
+    requires writers { Differ (writers_of archivers.items) }
+    requires archivers { All (MayBegin (view pass.old).subject (length (view pass.old).history)) archivers.items }
+    requires steps { LanesFit schema.now messages.now (view pass.old).subject (map seen_place places.now) lanes.now }
+    requires rooms { (length rooms.items ≡ length archivers.items) × All IsRoom rooms.items }
+    requires jobs { (jobs.items ≡ []) × (vec_capacity jobs ≡ length archivers.items) }
+    requires back { (back.items ≡ []) × (vec_capacity back ≡ length archivers.items) × (ends.items ≡ []) × (vec_capacity ends ≡ length archivers.items) }
+    ensures own { IsSame pass.old pass.new }
+    ensures ran { Ran (view pass.old) (view pass.new) (length (view pass.old).history) (all_acts schema.now messages.now (map seen_place places.now) lanes.now) result.1.items }
+    ensures writers { writers_of result.0.items ≡ writers_of archivers.items }
+{
+    let mut jobs = sent_out(dataset, pass, archivers, rooms, jobs);
+    run_all(
+        rt,
+        alloc,
+        gate,
+        lanes,
+        schema,
+        messages,
+        places,
+        dataset,
+        jobs.as_mut_slice(),
+    );
+    let gathered = taken_in(dataset, pass, jobs, back, ends);
+    dataset.catch_up(rt, pass);
+    gathered
+}
+
+/// Runs all lanes of a script side by side, each in a thread of its own, over one dataset: each lane's steps in their
+/// order, with the gate passed before each step and once at the end. The archivers belong to the lanes in their order. The
+/// pass has then seen all that is listed.
+///
+/// After `NoMemory` no step was taken, and the crew comes back; the pass may have seen more.
+pub fn lanes<F: Send + Drop, T: Disk<F>, H: Shelf<F> + Drop, G: Gate, R: Threads + Wait + Sync>(
+    rt: &R,
+    alloc: Global,
+    script: &Script,
+    schema: &Schema,
+    messages: &[Bytes],
+    places: &[Place],
+    dataset: &Dataset<F, T, H::Sealed>,
+    crew: Crew<F, T, H>,
+    gate: &G,
+) -> Result<Outcome<F, T, H>, (Crew<F, T, H>, NoMemory)>
+where
+    H::File: Drop,
+    H::Sealed: Drop,
+    <H::Sealed as Sealed<F>>::Reader: Drop,
+    requires own { IsOf dataset.now crew.pass }
+    requires free { (view crew.pass).lock ≡ Free }
+    requires all { (view crew.pass).parts ≡ all_parts }
+    requires sure { (view crew.pass).doubts ≡ [] }
+    requires lanes { length crew.archivers.items ≡ length script.now.lanes }
+    requires writers { Differ (writers_of crew.archivers.items) }
+    requires archivers { All (MayBegin (view crew.pass).subject (length (view crew.pass).history)) crew.archivers.items }
+    requires steps { LanesFit schema.now messages.now (view crew.pass).subject (map seen_place places.now) script.now.lanes }
+    requires places { ArePlaces schema.now messages.now script.now.lanes (map seen_place places.now) }
+    ensures own { IfOk result (λ o. IsSame crew.pass o.crew.pass) }
+    ensures ran { IfOk result (λ o. Ran (view crew.pass) (view o.crew.pass) o.transcript.before (all_acts schema.now messages.now (map seen_place places.now) script.now.lanes) o.transcript.lanes) }
+    ensures legal { IfOk result (λ o. (t : List (List Pair)) → Tells (view o.crew.pass).history t → IsRunOf schema.now messages.now script.now.lanes o.transcript.before t o.transcript.lanes) }
+    ensures writers { IfOk result (λ o. writers_of o.crew.archivers.items ≡ writers_of crew.archivers.items) }
+    ensures own_err { IfErr result (λ e. IsSame crew.pass e.0.pass × Keeps (view crew.pass) (view e.0.pass)) }
+    ensures archivers_err { IfErr result (λ e. e.0.archivers ≡ crew.archivers) }
+{
+    let Crew {
+        archivers,
+        mut pass,
+    } = crew;
+    let n = archivers.len();
+    let Ok(rooms) = rooms::<F, H>(alloc, n) else {
+        return Err((Crew { archivers, pass }, NoMemory));
+    };
+    let Ok(jobs) = Vec::with_capacity(alloc, n) else {
+        return Err((Crew { archivers, pass }, NoMemory));
+    };
+    let Ok(back) = Vec::with_capacity(alloc, n) else {
+        return Err((Crew { archivers, pass }, NoMemory));
+    };
+    let Ok(ends) = Vec::with_capacity(alloc, n) else {
+        return Err((Crew { archivers, pass }, NoMemory));
+    };
+    let Ok(before) = settled(rt, alloc, dataset, &mut pass) else {
+        return Err((Crew { archivers, pass }, NoMemory));
+    };
+    let its = script.lanes();
+    let (archivers, ends) = run_crew(
+        rt, alloc, gate, its, schema, messages, places, dataset, &mut pass, archivers, rooms, jobs,
+        back, ends,
+    );
+    let lanes = Items::from_vec(ends);
+    Ok(Outcome {
+        transcript: Transcript { before, lanes },
+        crew: Crew { archivers, pass },
+    })
+}

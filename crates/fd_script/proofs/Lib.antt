@@ -1,0 +1,4 @@
+pub mod Groups
+pub mod Lanes
+pub mod Turns
+pub mod Bytes

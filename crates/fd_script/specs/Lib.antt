@@ -1,0 +1,5 @@
+pub mod Lines
+pub mod Grammar
+pub mod Scripts
+pub mod Growing
+pub mod Reading

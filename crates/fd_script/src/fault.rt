@@ -1,0 +1,79 @@
+ghost use Rattle.std.specs.Prelude.{◌≡◌};
+ghost use Rattle.fd_script.specs.declared.fault.Refusal.TheVariants as refusals;
+
+use fd_key::{GivenFault, KeyFault};
+use fd_request::RequestFault;
+use std::alloc::{AllocError, AllocFailed};
+
+/// What is wrong with a script.
+#[derive(Debug, Drop)]
+pub enum ScriptKind {
+    /// The input has more than 1,048,576 bytes, and no line `messages` ends within these.
+    TooLong,
+    /// This byte isn't ASCII.
+    Byte(u8),
+    /// The first line is no `dataset` with at most 255 bytes of pairs in their one spelling.
+    Dataset,
+    /// A line is none that may stand there.
+    Word,
+    /// A lane's name isn't one, or comes again.
+    Name,
+    /// A lane's pairs are refused.
+    Given(GivenFault),
+    /// A request is refused.
+    Request(RequestFault),
+    /// The number of a message isn't 1 to 9 digits, or is 0.
+    Number,
+    /// So many lanes, or steps of a lane, are more than there may be.
+    TooMany { count: u32 },
+    /// The input ends before `messages`.
+    End,
+    /// There is no message with the number.
+    Message,
+    /// The message has no key.
+    Key(KeyFault),
+    /// The key has no place.
+    NoRule,
+    /// The place is in another dataset.
+    OtherDataset,
+}
+
+/// Why a script could not be read.
+#[derive(Debug, Drop)]
+pub enum ScriptFault {
+    /// The first line that is wrong, from 1, and what is wrong with it.
+    At { line: u32, kind: ScriptKind },
+    /// An allocation was refused.
+    NoMemory,
+}
+
+/// What is wrong with a line.
+#[derive(Debug, Drop)]
+pub(crate) enum Refusal {
+    Wrong(ScriptKind),
+    NoMemory,
+}
+
+impl From<fd_bytes::NoMemory> for Refusal {
+    ghost from_gives = { λ _ e. e ≡ refusals.NoMemory };
+
+    fn from(_: fd_bytes::NoMemory) -> Refusal {
+        Refusal::NoMemory
+    }
+}
+
+impl From<AllocError> for Refusal {
+    ghost from_gives = { λ _ e. e ≡ refusals.NoMemory };
+
+    fn from(_: AllocError) -> Refusal {
+        Refusal::NoMemory
+    }
+}
+
+impl<T: Drop> From<AllocFailed<T>> for Refusal {
+    ghost from_gives = { λ _ e. e ≡ refusals.NoMemory };
+
+    fn from(_: AllocFailed<T>) -> Refusal {
+        Refusal::NoMemory
+    }
+}
