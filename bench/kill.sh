@@ -1,6 +1,6 @@
 #!/usr/bin/env bash
-# Kills an archive over real files at random moments and opens what it left. One dataset holds 20,000 fields of an archive
-# that ended well; a second archive of 80,000 fields is killed (kill -9); then all 100,000 are retrieved. What is found has to
+# Kills an archive over real files at random moments and opens what it left. One dataset holds 10,000 fields of an archive
+# that ended well; a second archive of 50,000 fields is killed (kill -9); then all 60,000 are retrieved. What is found has to
 # be the first fields that were sent, byte for byte: all of the first archive, and of the second whole batches, which end where
 # those of an archive that wasn't killed end.
 # KILLS says how often (50). FDB names the program, where it isn't to be built here. No part of the gate.
@@ -17,7 +17,7 @@ fdb, work, kills, bench = sys.argv[1], sys.argv[2], int(sys.argv[3]), sys.argv[4
 sys.path.insert(0, bench)
 from messages import message, request
 
-FIRST, ALL = 20_000, 100_000
+FIRST, ALL = 10_000, 60_000
 sent = [message(i) for i in range(ALL)]
 open(f"{work}/first", "wb").write(b"".join(sent[:FIRST]))
 open(f"{work}/second", "wb").write(b"".join(sent[FIRST:]))
