@@ -1,7 +1,8 @@
 #!/usr/bin/env bash
-# Kills an archive over real files at random moments and opens what it left. One dataset holds 20,000 fields of an archive
-# that ended well; a second archive of 80,000 fields is killed (kill -9); then all 100,000 are retrieved. What is found has to
-# be the first fields that were sent, byte for byte: all of the first archive, and whole batches of 2,048 of the second.
+# Kills an archive over real files at random moments and opens what it left. One dataset holds 10,000 fields of an archive
+# that ended well; a second archive of 50,000 fields is killed (kill -9); then all 60,000 are retrieved. What is found has to
+# be the first fields that were sent, byte for byte: all of the first archive, and of the second whole batches, which end where
+# those of an archive that wasn't killed end.
 # KILLS says how often (50). FDB names the program, where it isn't to be built here. No part of the gate.
 set -eu
 top=$(cd "$(dirname "$0")/.." && pwd)
@@ -10,13 +11,13 @@ fdb=${FDB:-$top/fdb}
 work=$(mktemp -d)
 trap 'rm -rf "$work"' EXIT
 python3 - "$fdb" "$work" "${KILLS:-50}" "$top/bench" <<'PY'
-import random, shutil, subprocess, sys, time
+import pathlib, random, shutil, subprocess, sys, time
 
 fdb, work, kills, bench = sys.argv[1], sys.argv[2], int(sys.argv[3]), sys.argv[4]
 sys.path.insert(0, bench)
 from messages import message, request
 
-FIRST, ALL = 20_000, 100_000
+FIRST, ALL = 10_000, 60_000
 sent = [message(i) for i in range(ALL)]
 open(f"{work}/first", "wb").write(b"".join(sent[:FIRST]))
 open(f"{work}/second", "wb").write(b"".join(sent[FIRST:]))
@@ -48,6 +49,13 @@ shutil.copytree(store, f"{work}/start")
 clock = time.time()
 assert archive(store, f"{work}/second").wait() == 0
 span = time.time() - clock
+# where a batch ends: the field files of the archive that wasn't killed, by writer and number
+files = sorted((*map(int, path.stem.split("-")), path.stat().st_size) for path in pathlib.Path(store).glob("*/*.fields"))
+ends, octets = set(), 0
+for _, _, size in files:
+    octets += size
+    ends.add(fronts[octets])
+assert {FIRST, ALL} <= ends, ends
 lost, torn, found_counts = 0, 0, []
 random.seed()
 for kill in range(kills):
@@ -63,7 +71,7 @@ for kill in range(kills):
     found = fronts.get(len(octets), -1)
     lost += found < FIRST
     right = answer.returncode in (0, 1) and whole[:len(octets)] == octets
-    torn += not (right and ((found - FIRST) % 2048 == 0 or found == ALL))
+    torn += not (right and found in ends)
     found_counts.append(found)
 print(f"{kills} kills: {lost} lost an acknowledged field, {torn} left something torn; "
       f"fields found: from {min(found_counts)} to {max(found_counts)}, {len(set(found_counts))} different numbers")
