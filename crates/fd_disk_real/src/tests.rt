@@ -113,8 +113,8 @@ fn gathers_writes_and_reads_ahead(rt: HostRuntime) -> Result<(), Fail> {
         } else {
             1 + turn % 97
         };
-        assert!(rt; at <= all.len());
-        assert!(rt; n <= all.len() - at);
+        assert!(rt; at <= 190_000 && at <= all.len());
+        assert!(rt; n <= 10_000 && n <= all.len() - at);
         assert!(rt; fields.write_at(at as u64, b"wrong").is_ok());
         assert!(rt; fields.write_at(at as u64, &all[at..at + n]).is_ok());
         at += n;
@@ -122,6 +122,7 @@ fn gathers_writes_and_reads_ahead(rt: HostRuntime) -> Result<(), Fail> {
     let mut front = [0u8; 8];
     assert!(rt; matches!(fields.read_at(1, &mut front), Ok(8)));
     assert_eq!(rt; front, [1, 2, 3, 4, 5, 6, 7, 8]);
+    assert!(rt; at <= 200_000);
     assert!(rt; fields.write_at(at as u64, b"end").is_ok());
     assert!(rt; fields.sync().is_ok());
     let bytes = fs::read(&rt, "class=rd/7-1.fields")?;
@@ -139,7 +140,9 @@ fn gathers_writes_and_reads_ahead(rt: HostRuntime) -> Result<(), Fail> {
             let Ok(n) = reader.read_at(place as u64, &mut piece) else {
                 panic!(rt; "a read failed")
             };
-            assert!(rt; n <= 4096 && place + n <= bytes.len());
+            assert!(rt; n <= 4096);
+            assert!(rt; place <= 200_000);
+            assert!(rt; place + n <= bytes.len());
             assert_eq!(rt; &piece[..n], &bytes[place..place + n]);
             assert_eq!(rt; n, 4096.min(bytes.len() - place));
         }
