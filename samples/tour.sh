@@ -1,6 +1,6 @@
 #!/usr/bin/env bash
-# A first walk through the store: makes one in a new folder, archives the sample stream, retrieves all of it, and compares the
-# bytes. FDB names the program, where it isn't to be built here; a folder may be given.
+# A first walk through the store: makes one in a new folder, archives the sample stream, retrieves all of it, compares the
+# bytes, and shows what the store holds. FDB names the program, where it isn't to be built here; a folder may be given.
 set -eu
 here=$(cd "$(dirname "$0")" && pwd)
 fdb=${FDB:-$here/../fdb}
@@ -20,5 +20,11 @@ step "fdb retrieve STORE < samples/request > out.grib2"
 "$fdb" retrieve "$store" < "$here/request" > "$work/out.grib2"
 cmp "$here/forecast.grib2" "$work/out.grib2"
 echo "out.grib2 has the $(wc -c < "$work/out.grib2") bytes of forecast.grib2"
+step "echo list,levelist=85000 | fdb list STORE"
+echo list,levelist=85000 | "$fdb" list "$store"
+step "echo list | fdb axes STORE"
+echo list | "$fdb" axes "$store"
+step "fdb stats STORE"
+"$fdb" stats "$store"
 echo
 echo "The store stands in $store: $(find "$store" -type f | wc -l) files, $(du -sb "$store" | cut -f1) bytes."
