@@ -4,10 +4,12 @@
 
 mod file;
 mod folders;
+mod law;
 mod shelves;
 mod traits;
 
 pub use file::{File, Range, Ranges};
 pub use folders::{FileKind, FileName};
+pub use law::every_image;
 pub use shelves::{Folder, Shelf, Store};
 pub use traits::{Disk, Down, Reader, Sealed};

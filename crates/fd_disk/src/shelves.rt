@@ -16,7 +16,7 @@ use fd_bytes::NoMemory;
 use std::alloc::Global;
 
 /// One writer's files in one dataset.
-pub trait Shelf<F: Send>: Send {
+pub trait Shelf<F: Send>: Send + Drop {
     /// A file of this shelf once it changes no more.
     type Sealed: Sealed<F>;
 
@@ -39,7 +39,8 @@ pub trait Shelf<F: Send>: Send {
     ghost faults: { Self → ℕ };
 
     /// Makes an empty file, in place of an unlisted one of that name. A file that was asked for once isn't asked for
-    /// again, unless memory was refused.
+    /// again, unless memory was refused. From then on, in the middle of the call too, a crash may leave any bytes under
+    /// that name, or none, until the shelf keeps the file (`IsKeptOr`).
     fn create(&mut self, alloc: Global, seq: u32, kind: FileKind) -> Result<Self::File, Down<F>>
         requires { created self.old (name_of (writer self.old) seq kind) ≡ false }
         ensures file { IfOk result (λ d. Self.File.file d ≡ option_map (λ _. firm_file []) (kept self.old)) }
@@ -53,7 +54,7 @@ pub trait Shelf<F: Send>: Send {
         ensures cause { HasDownCause (faults self.old) (faults self.new) result };
 
     /// Holds both files of a batch, which were created on this shelf under this number, under their names. Keeping what
-    /// it holds already changes nothing.
+    /// it holds already changes nothing. From then on both stand in each image of the dataset (`KeepsBoth`).
     fn keep(
         &mut self,
         alloc: Global,
@@ -74,7 +75,7 @@ pub trait Shelf<F: Send>: Send {
 }
 
 /// One dataset: its table of contents and its files.
-pub trait Folder<F: Send>: Send {
+pub trait Folder<F: Send>: Send + Drop {
     /// A file of the dataset.
     type Sealed: Sealed<F>;
 
@@ -100,7 +101,7 @@ pub trait Folder<F: Send>: Send {
     ghost faults: { Self → ℕ };
 
     /// Makes a table of these bytes, which is firm, where there is none. After an `Err`, and after any crash, there is
-    /// this table or none.
+    /// this table or none: a crash in its middle leaves what one before or after it leaves (`IsLeftByFound`).
     fn found(&mut self, alloc: Global, first: &[u8]) -> Result<(), Down<F>>
         requires none { IfSome (has self.old) (λ v. v.table ≡ None) }
         requires back { table_out self.old ≡ false }
@@ -137,8 +138,9 @@ pub trait Folder<F: Send>: Send {
         ensures name { name self.new ≡ name self.old }
         ensures faults { faults self.old ≤ faults self.new };
 
-    /// Makes a shelf for a writer that no listed entry has, and whose number is greater than each that was asked for
-    /// since the store handed the folder out.
+    /// Makes a shelf for a writer whose number is greater than each that was asked for since the store handed the folder
+    /// out. That no listed entry has this writer, so that no file of the shelf stands in the place of a listed one, is
+    /// owed by whoever knows the list: the folder doesn't.
     fn shelf(&mut self, alloc: Global, writer: u32) -> Result<Self::Shelf, Down<F>>
         requires { last_writer self.old < writer }
         ensures shelf { IfOk result (λ s. (Self.Shelf.writer s ≡ writer) × (Self.Shelf.name s ≡ name self.old)) }
@@ -171,7 +173,7 @@ pub trait Folder<F: Send>: Send {
 }
 
 /// A store of datasets. One that tells has one root, which any name enters.
-pub trait Store<F: Send>: Send {
+pub trait Store<F: Send>: Send + Drop {
     /// One dataset.
     type Folder: Folder<F>;
 
@@ -197,7 +199,8 @@ pub trait Store<F: Send>: Send {
         ensures out { out self.new ≡ out self.old }
         ensures cause { HasDownCause (faults self.old) (faults self.new) result };
 
-    /// Stores the schema, where there is none. After an `Err` there is this one or none.
+    /// Stores the schema, where there is none. After an `Err`, and after any crash, there is this one or none: a crash in
+    /// its middle leaves what one before or after it leaves (`IsLeftByPlant`).
     fn plant(&mut self, alloc: Global, text: &[u8]) -> Result<(), Down<F>>
         requires { IfSome (has self.old) (λ s. s.schema ≡ None) }
         ensures ok { OnOk result (has self.new ≡ option_map (planted text.now) (has self.old)) }

@@ -20,7 +20,7 @@ pub enum Down<F> {
 }
 
 /// A sealed file that is being read. An object that tells nothing of its file has `None` for its bytes.
-pub trait Reader<F: Send>: Send {
+pub trait Reader<F: Send>: Send + Drop {
     /// The sealed file's bytes, where told.
     ghost bytes: { Self → Option (List ℕ) };
 
@@ -52,7 +52,7 @@ pub trait Reader<F: Send>: Send {
 }
 
 /// A file that changes no more, which threads may share. A fault here is shown by the `F` itself.
-pub trait Sealed<F: Send>: Send + Sync {
+pub trait Sealed<F: Send>: Send + Sync + Drop {
     /// What reads the file.
     type Reader: Reader<F>;
 
@@ -84,7 +84,7 @@ pub trait Sealed<F: Send>: Send + Sync {
 
 /// One file that is written and read. Between two syncs that succeed, a crash may leave any bytes in each range that was
 /// written and past the firm end; `File` and its images say which.
-pub trait Disk<F: Send>: Send {
+pub trait Disk<F: Send>: Send + Drop {
     /// The file once it changes no more.
     type Sealed: Sealed<F>;
 
@@ -124,7 +124,8 @@ pub trait Disk<F: Send>: Send {
         ensures cause { HasCause (faults self.old) (faults self.new) result };
 
     /// Writes the bytes at the place `at`, with zeros between the old end and that place. The range is loose until the
-    /// next sync that succeeds, also where the write failed.
+    /// next sync that succeeds, also where the write failed; a write that failed may have done nothing at all, too. Places
+    /// of a file end below 2^63, since offsets of files are signed.
     fn write_at(&mut self, at: u64, bytes: &[u8]) -> Result<(), F>
         requires { at + length bytes.now < 2 ^ 63 }
         ensures ok { OnOk result (file self.new ≡ option_map (λ f. written f at bytes.now) (file self.old)) }
@@ -138,7 +139,8 @@ pub trait Disk<F: Send>: Send {
         ensures time { Elapses (moment self.old) (moment self.new) (left_since self.old) (left_since self.new) (file self.new) }
         ensures cause { HasCause (faults self.old) (faults self.new) result };
 
-    /// Makes the file firm as it reads, and with it its name. After an `Err` the file is as before.
+    /// Makes the file firm as it reads, and with it its name. After an `Err` the file is as before. So a disk whose device
+    /// may drop what a failed sync was to make firm refuses each later sync until those bytes were written again.
     fn sync(&mut self) -> Result<(), F>
         ensures ok { OnOk result (file self.new ≡ option_map synced (file self.old)) }
         ensures err { OnErr result (file self.new ≡ file self.old) }

@@ -1,12 +1,15 @@
 // A file in memory that is written.
-ghost use Rattle.std.specs.Prelude.{◌≡◌, ◌≤◌, ◌<◌, ◌+◌, ◌-◌, ◌^◌, ◌*◌, [], Bool, true, false, ℕ, Some, length, min, max, OnOk, OnErr, IfOk, option_map};
+ghost use Rattle.std.specs.Prelude.{◌≡◌, ◌≤◌, ◌<◌, ◌+◌, ◌^◌, true, false, Some, length, max, not, is_ok, is_err, OnOk, OnErr, IfOk, option_map};
 ghost use Rattle.fd_bytes.specs.Causes.{Rose, HasCause};
 ghost use Rattle.fd_disk.specs.Images.{IsAfterFailedWrite, loosened, written};
 ghost use Rattle.fd_disk.specs.Moments.{Elapses};
 ghost use Rattle.fd_disk.specs.Folders.{WhereTold};
-ghost use Rattle.fd_disk_mem.specs.Calls.{Memory, begun, file_of, fits, synced_by, extent_by};
+ghost use Rattle.fd_disk.specs.Images.{synced};
+ghost use Rattle.fd_disk.specs.Reading.{ReadsBytes};
+ghost use Rattle.fd_disk_mem.specs.Calls.{begun, file_of, fits, has_room, new_file, synced_by, extent_by};
 ghost use Rattle.fd_disk_mem.specs.Past.{LeftSince};
 ghost use Rattle.fd_disk_mem.specs.Left.{IsLeft};
+ghost use Rattle.fd_disk_mem.specs.Plans.{FailsByPlan, after_call, is_due};
 
 use crate::plan::{Op, Plan};
 use crate::recorded::{Recorded, Room};
@@ -42,7 +45,8 @@ impl MemDisk {
     ) -> Result<MemDisk, AllocError>
         ensures name { IfOk result (λ d. d.name.items ≡ name.items) }
         ensures made { IfOk result (λ d. d.made ≡ made) }
-        ensures file { IfOk result (λ d. d.file ≡ record { start = []; calls = []; size = room.size; most_calls = room.calls; most_bytes = min (2 * room.size) (2 ^ 64 - 1) }) }
+        ensures file { IfOk result (λ d. d.file ≡ new_file room) }
+        ensures plan { IfOk result (λ d. d.plan ≡ plan) }
     {
         Ok(MemDisk {
             name,
@@ -65,6 +69,7 @@ impl MemDisk {
         requires { length bytes.now ≤ self.old.file.size }
         ensures file { self.new.file ≡ begun self.old.file bytes.now }
         ensures name { self.new.name ≡ self.old.name }
+        ensures plan { self.new.plan ≡ self.old.plan }
     {
         self.file.begin(bytes);
     }
@@ -72,6 +77,8 @@ impl MemDisk {
     /// Counts the creation of the file, and says whether it is to fail.
     pub(crate) fn fails_to_begin(&mut self) -> bool
         ensures same { (self.new.file ≡ self.old.file) × ((self.new.name ≡ self.old.name) × (self.new.made ≡ self.old.made)) }
+        ensures fails { FailsByPlan (is_due Op.Create self.old.plan) self.old.plan.fuse.allowed true (not result) result }
+        ensures asked { self.new.plan ≡ after_call Op.Create self.old.plan }
     {
         self.plan.meets(Op::Create)
     }
@@ -80,6 +87,7 @@ impl MemDisk {
     pub(crate) fn opened(self, name: Vec<u8>, plan: Plan) -> MemDisk
         ensures file { result.file ≡ self.file }
         ensures name { result.name ≡ name }
+        ensures plan { result.plan ≡ plan }
     {
         let MemDisk {
             name: _,
@@ -137,7 +145,18 @@ impl Disk<MemFault> for MemDisk {
 
     ghost synced_firm = { λ d f is synced. firm_told d.file f is synced };
 
-    fn read_at(&mut self, at: u64, into: &mut [u8]) -> Result<usize, MemFault> {
+    fn read_at(&mut self, at: u64, into: &mut [u8]) -> Result<usize, MemFault>
+        ensures bytes { ReadsBytes (Some (file_of self.old.file).reads) at into.old into.new result }
+        ensures file { Some (file_of self.new.file) ≡ Some (file_of self.old.file) }
+        ensures synced { synced_by false self.new.file.calls ≡ synced_by false self.old.file.calls }
+        ensures extent { extent_by 0 self.new.file.calls ≡ extent_by 0 self.old.file.calls }
+        ensures name { self.new.name.items ≡ self.old.name.items }
+        ensures made { self.new.made ≡ self.old.made }
+        ensures time { Elapses (length self.old.file.calls) (length self.new.file.calls) (LeftSince self.old.file) (LeftSince self.new.file) (Some (file_of self.new.file)) }
+        ensures cause { HasCause self.old.faults self.new.faults result }
+        ensures fails { FailsByPlan (is_due Op.Read self.old.plan) self.old.plan.fuse.allowed true (is_ok result) (is_err result) }
+        ensures asked { self.new.plan ≡ after_call Op.Read self.old.plan }
+    {
         if self.plan.meets(Op::Read) {
             return Err(counted(&mut self.faults));
         }
@@ -159,6 +178,8 @@ impl Disk<MemFault> for MemDisk {
         ensures made { self.new.made ≡ self.old.made }
         ensures time { Elapses (length self.old.file.calls) (length self.new.file.calls) (LeftSince self.old.file) (LeftSince self.new.file) (Some (file_of self.new.file)) }
         ensures cause { HasCause self.old.faults self.new.faults result }
+        ensures fails { FailsByPlan (is_due Op.Write self.old.plan) self.old.plan.fuse.allowed (fits self.old.file at (length bytes.now)) (is_ok result) (is_err result) }
+        ensures asked { self.new.plan ≡ after_call Op.Write self.old.plan }
     {
         let is_to_fail = self.plan.meets(Op::Write);
         if !self.file.fits(at, bytes.len()) {
@@ -172,7 +193,19 @@ impl Disk<MemFault> for MemDisk {
         Ok(())
     }
 
-    fn sync(&mut self) -> Result<(), MemFault> {
+    fn sync(&mut self) -> Result<(), MemFault>
+        ensures ok { OnOk result (Some (file_of self.new.file) ≡ option_map synced (Some (file_of self.old.file))) }
+        ensures err { OnErr result (Some (file_of self.new.file) ≡ Some (file_of self.old.file)) }
+        ensures synced { OnOk result (synced_by false self.new.file.calls ≡ true) }
+        ensures synced_err { OnErr result (synced_by false self.new.file.calls ≡ synced_by false self.old.file.calls) }
+        ensures extent { extent_by 0 self.new.file.calls ≡ extent_by 0 self.old.file.calls }
+        ensures name { self.new.name.items ≡ self.old.name.items }
+        ensures made { self.new.made ≡ self.old.made }
+        ensures time { Elapses (length self.old.file.calls) (length self.new.file.calls) (LeftSince self.old.file) (LeftSince self.new.file) (Some (file_of self.new.file)) }
+        ensures cause { HasCause self.old.faults self.new.faults result }
+        ensures fails { FailsByPlan (is_due Op.Sync self.old.plan) self.old.plan.fuse.allowed (has_room self.old.file) (is_ok result) (is_err result) }
+        ensures asked { self.new.plan ≡ after_call Op.Sync self.old.plan }
+    {
         if self.plan.meets(Op::Sync) || !self.file.has_room() {
             return Err(counted(&mut self.faults));
         }

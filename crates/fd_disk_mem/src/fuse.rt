@@ -1,50 +1,71 @@
 // A number of calls that all objects of a store share.
+ghost use Rattle.std.specs.Prelude.{◌≡◌, true, Option, Some, None, IfOk};
+ghost use Rattle.fd_disk_mem.specs.Plans.{is_set, is_spent};
+
 use std::alloc::{AllocError, Global};
 use std::sync::Arc;
 use std::sync::atomic::{AtomicU64, Ordering};
 
-#[derive(Drop)]
-struct Counts {
-    /// How many calls there were since the fuse was set.
-    passed: AtomicU64,
-    /// How many may pass.
-    allowed: AtomicU64,
-}
-
-/// Lets so many calls pass, and stops all later ones.
+/// Lets so many calls pass, where it is set, and stops all later ones.
 #[derive(Drop)]
 pub(crate) struct Fuse {
-    counts: Arc<Counts, Global>,
+    /// How many calls there were since it was set, of all objects that were handed out since then.
+    passed: Arc<AtomicU64, Global>,
+    /// How many may pass.
+    pub(crate) allowed: Option<u64>,
 }
 
 impl Fuse {
-    /// One that lets all calls pass.
-    pub(crate) fn new(alloc: Global) -> Result<Fuse, AllocError> {
-        let counts = Counts {
-            passed: AtomicU64::new(0),
-            allowed: AtomicU64::new(u64::MAX),
-        };
-        match Arc::new(alloc, counts) {
-            Ok(counts) => Ok(Fuse { counts }),
+    /// One that isn't set.
+    pub(crate) fn new(alloc: Global) -> Result<Fuse, AllocError>
+        ensures { IfOk result (λ f. f.allowed ≡ None) }
+    {
+        match Arc::new(alloc, AtomicU64::new(0)) {
+            Ok(passed) => Ok(Fuse {
+                passed,
+                allowed: None,
+            }),
             Err(_) => Err(AllocError),
         }
     }
 
     /// The same fuse for one object more.
-    pub(crate) fn shared(&self) -> Result<Fuse, AllocError> {
-        let counts = Arc::try_clone(&self.counts)?;
-        Ok(Fuse { counts })
+    pub(crate) fn shared(&self) -> Result<Fuse, AllocError>
+        ensures { IfOk result (λ f. f.allowed ≡ self.now.allowed) }
+    {
+        let passed = Arc::try_clone(&self.passed)?;
+        Ok(Fuse {
+            passed,
+            allowed: self.allowed,
+        })
     }
 
-    /// Lets so many calls pass from now on; with 2^64 - 1 all of them.
-    pub(crate) fn set(&self, calls: u64) {
-        self.counts.passed.store(0, Ordering::SeqCst);
-        self.counts.allowed.store(calls, Ordering::SeqCst);
+    /// Lets so many calls pass from now on.
+    pub(crate) fn set(&mut self, calls: u64)
+        ensures { self.new.allowed ≡ Some calls }
+    {
+        self.passed.store(0, Ordering::SeqCst);
+        self.allowed = Some(calls);
+    }
+
+    /// Is set no more.
+    pub(crate) fn take_out(&mut self)
+        ensures { self.new.allowed ≡ None }
+    {
+        self.allowed = None;
     }
 
     /// Counts a call, and says whether it is stopped.
-    pub(crate) fn stops(&self) -> bool {
-        let before = self.counts.passed.fetch_add(1, Ordering::SeqCst);
-        before >= self.counts.allowed.load(Ordering::SeqCst)
+    pub(crate) fn stops(&self) -> bool
+        ensures spent { is_spent self.now.allowed ≡ true → result ≡ true }
+        ensures set { result ≡ true → is_set self.now.allowed ≡ true }
+    {
+        match self.allowed {
+            None => false,
+            Some(allowed) => {
+                let before = self.passed.fetch_add(1, Ordering::SeqCst);
+                before >= allowed
+            }
+        }
     }
 }

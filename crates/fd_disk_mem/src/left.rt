@@ -1,7 +1,7 @@
 // What a crash leaves of loose bytes.
 ghost use Rattle.std.specs.Prelude.{◌≡◌, ◌||◌, Bool, nat_le};
 ghost use Rattle.fd_disk.specs.Images.{is_in};
-ghost use Rattle.fd_disk_mem.specs.Left.{IsByteLeft, AreBytesLeft};
+ghost use Rattle.fd_disk_mem.specs.Left.{IsByteLeft, AreBytesLeft, mixed};
 
 use fd_disk::Range;
 
@@ -32,7 +32,7 @@ fn is_in(place: u64, ranges: &[Range]) -> bool
 
 // The byte at a place after a crash.
 fn byte_left(choice: u64, place: u64, is_loose: bool, byte: u8) -> u8
-    ensures { IsByteLeft choice is_loose byte result }
+    ensures { IsByteLeft choice place is_loose byte result }
 {
     match choice {
         _ if !is_loose => byte,
@@ -43,7 +43,9 @@ fn byte_left(choice: u64, place: u64, is_loose: bool, byte: u8) -> u8
 }
 
 // A byte that looks like chance, from two numbers.
-fn computed(choice: u64, place: u64) -> u8 {
+fn computed(choice: u64, place: u64) -> u8
+    ensures { result ≡ mixed choice place }
+{
     let mixed = (choice ^ place.wrapping_mul(0x9E37_79B9_7F4A_7C15)).wrapping_mul(
         0xBF58_476D_1CE4_E5B9,
     );

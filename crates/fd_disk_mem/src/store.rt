@@ -1,7 +1,12 @@
 // A store in memory.
-ghost use Rattle.std.specs.Prelude.{◌≡◌, IfOk, None, Some};
-ghost use Rattle.fd_disk.specs.Folders.{Holdings, IsStoreImage, WhereTold};
+ghost use Rattle.std.specs.Prelude.{◌≡◌, ◌≢◌, ◌≤◌, ◌⊎◌, ◌++◌, [], List, ℕ, true, false, nat_le, length, is_ok, option_map, string_bytes, unwrap_or, IfOk, IfErr, IfSome, OnOk, OnErr, None, Some};
+ghost use Rattle.fd_disk.specs.Causes.{HasDownCause, OnNoMemory};
+ghost use Rattle.fd_disk.specs.Folders.{IsStoreImage, SameBut, WhereTold, folder_at, no_contents, planted};
+ghost use Rattle.fd_disk.specs.Outstanding.{IsLeftByPlant};
 ghost use Rattle.fd_disk_mem.specs.Crashes.{IsCrashed, folders_left};
+ghost use Rattle.fd_disk_mem.specs.Plans.{FailsByPlan, IsAnew, after_call, fails_if, fails_of, is_due, is_fault, table_text};
+ghost use Rattle.fd_disk_mem.specs.Planning.{PlansNothing, fails_for, holdings, none_told};
+ghost use Rattle.fd_disk_mem.specs.Slots.{contents_of, folder_in};
 
 use crate::disk::counted;
 use crate::fuse::Fuse;
@@ -24,7 +29,6 @@ pub struct MemStore {
     /// The calls of the schema that are to fail.
     plan: Plan,
     plans: Plans,
-    fuse: Fuse,
     room: Room,
 }
 
@@ -33,6 +37,8 @@ impl MemStore {
     /// most twice as many; memory for all of them is taken when the file is made, and none later. A call beyond is a fault
     /// that changes nothing.
     pub fn new(alloc: Global, file_size: u64, calls: u32) -> Result<MemStore, NoMemory>
+        ensures room { IfOk result (λ s. s.room ≡ record { size = file_size; calls = calls }) }
+        ensures plans { IfOk result PlansNothing }
         ensures empty { IfOk result (λ s. ⟦<MemStore as Store<MemFault>>⟧.has s ≡ Some (record { schema = None; folders = λ name. None })) }
     {
         let fuse = Fuse::new(alloc)?;
@@ -41,8 +47,7 @@ impl MemStore {
             slots: Slots::Empty,
             faults: 0,
             plan: Plan::new(alloc, fuse.shared()?),
-            plans: Plans::new(alloc, fuse.shared()?),
-            fuse,
+            plans: Plans::new(alloc, fuse),
             room: Room {
                 size: file_size,
                 calls,
@@ -54,6 +59,11 @@ impl MemStore {
     /// A file's name is `schema`, `DATASET/toc`, `DATASET/W-Q.fields` or `DATASET/W-Q.index`, with the numbers of the
     /// writer and of its batch. It is asked for before the folder is handed out.
     pub fn fail(&mut self, alloc: Global, file: &str, op: Op, nth: u32) -> Result<(), NoMemory>
+        ensures ok { OnOk result ((other : List ℕ) → fails_for other self.new ≡ fails_for other self.old ++ fails_if other file.now op nth) }
+        ensures err { OnErr result ((other : List ℕ) → fails_for other self.new ≡ fails_for other self.old) }
+        ensures asked { self.new.plan.asked ≡ self.old.plan.asked }
+        ensures fuse { (self.new.plan.fuse.allowed ≡ self.old.plan.fuse.allowed) × (self.new.plans.fuse.allowed ≡ self.old.plans.fuse.allowed) }
+        ensures room { self.new.room ≡ self.old.room }
         ensures has { ⟦<MemStore as Store<MemFault>>⟧.has self.new ≡ ⟦<MemStore as Store<MemFault>>⟧.has self.old }
         ensures faults { ⟦<MemStore as Store<MemFault>>⟧.faults self.new ≡ ⟦<MemStore as Store<MemFault>>⟧.faults self.old }
     {
@@ -65,28 +75,35 @@ impl MemStore {
         Ok(())
     }
 
-    /// Lets so many calls pass from now on, and fails all later ones. All objects that the store has handed out and hands
-    /// out count together: their reads, writes and syncs, and the making of files. With 2^64 - 1 every call passes.
+    /// Lets so many calls pass from now on, and fails all later ones. The store and all objects that it hands out from now
+    /// on count together: their reads, writes and syncs, and the making of files. What was handed out before doesn't count.
     pub fn fuse(&mut self, calls: u64)
+        ensures set { (self.new.plan.fuse.allowed ≡ Some calls) × (self.new.plans.fuse.allowed ≡ Some calls) }
+        ensures planned { (file : List ℕ) → fails_for file self.new ≡ fails_for file self.old }
+        ensures asked { self.new.plan.asked ≡ self.old.plan.asked }
+        ensures room { self.new.room ≡ self.old.room }
         ensures has { ⟦<MemStore as Store<MemFault>>⟧.has self.new ≡ ⟦<MemStore as Store<MemFault>>⟧.has self.old }
         ensures faults { ⟦<MemStore as Store<MemFault>>⟧.faults self.new ≡ ⟦<MemStore as Store<MemFault>>⟧.faults self.old }
     {
-        self.fuse.set(calls);
+        self.plan.fuse.set(calls);
+        self.plans.fuse.set(calls);
     }
 
     /// A crash, and what it leaves: each table is firm with one of its images, and all else is as it was. Loose bytes are
-    /// what they were (0), what a read gives (1), all 0x4F (2), all 0 (3), or computed from the number. Folders that are
-    /// out are no part of it. No call is planned to fail any more, and no fuse is set.
+    /// what they were (0), what a read gives (1), all 0x4F (2), all 0 (3), or computed from the number. No call is planned
+    /// to fail any more, no fuse is set, and calls are counted anew. It takes no memory. Folders that are out are no part
+    /// of it; `crash_out` takes one that is out.
     pub fn crash(self, alloc: Global, choice: u64) -> Result<MemStore, (MemStore, NoMemory)>
         ensures image { IfOk result (λ s. WhereTold (⟦<MemStore as Store<MemFault>>⟧.has self) (⟦<MemStore as Store<MemFault>>⟧.has s) (λ before after. IsStoreImage before after.schema (folders_left after))) }
         ensures left { IfOk result (λ s. WhereTold (⟦<MemStore as Store<MemFault>>⟧.has self) (⟦<MemStore as Store<MemFault>>⟧.has s) (IsCrashed choice)) }
+        ensures plans { IfOk result PlansNothing }
+        ensures room { IfOk result (λ s. s.room ≡ self.room) }
     {
         let _ = alloc;
         let mut store = self;
         crash_all(&mut store.slots, choice);
         store.plan.clear();
         store.plans.clear();
-        store.fuse.set(u64::MAX);
         Ok(store)
     }
 }
@@ -109,7 +126,14 @@ impl Store<MemFault> for MemStore {
         Ok(())
     }
 
-    fn schema(&mut self, alloc: Global) -> Result<Option<Vec<u8>>, Down<MemFault>> {
+    fn schema(&mut self, alloc: Global) -> Result<Option<Vec<u8>>, Down<MemFault>>
+        ensures given { IfOk result (λ o. IfSome (Some (holdings self.old)) (λ s. option_map (λ v. v.items) o ≡ s.schema)) }
+        ensures has { Some (holdings self.new) ≡ Some (holdings self.old) }
+        ensures out { none_told ≡ none_told }
+        ensures cause { HasDownCause self.old.faults self.new.faults result }
+        ensures fails { FailsByPlan (is_due Op.Read self.old.plan) self.old.plan.fuse.allowed true (is_ok result) (is_fault result) }
+        ensures asked { self.new.plan ≡ after_call Op.Read self.old.plan }
+    {
         if self.plan.meets(Op::Read) {
             return Err(Down::Fault(counted(&mut self.faults)));
         }
@@ -122,7 +146,17 @@ impl Store<MemFault> for MemStore {
         }
     }
 
-    fn plant(&mut self, alloc: Global, text: &[u8]) -> Result<(), Down<MemFault>> {
+    /// A fault comes by the plan, behind the fuse, or where the bytes are more than a file may have, and has done nothing.
+    fn plant(&mut self, alloc: Global, text: &[u8]) -> Result<(), Down<MemFault>>
+        requires { IfSome (Some (holdings self.old)) (λ s. s.schema ≡ None) }
+        ensures ok { OnOk result ((Some (holdings self.new)) ≡ option_map (planted text.now) (Some (holdings self.old))) }
+        ensures err { OnErr result (((Some (holdings self.new)) ≡ (Some (holdings self.old))) ⊎ ((Some (holdings self.new)) ≡ option_map (planted text.now) (Some (holdings self.old)))) }
+        ensures nothing { OnErr result ((Some (holdings self.new)) ≡ (Some (holdings self.old))) }
+        ensures refused { IfErr result (λ e. OnNoMemory e ((Some (holdings self.new)) ≡ (Some (holdings self.old)))) }
+        ensures out { none_told ≡ none_told }
+        ensures cause { HasDownCause self.old.faults self.new.faults result }
+        ensures fails { FailsByPlan (is_due Op.Create self.old.plan) self.old.plan.fuse.allowed (nat_le (length text.now) self.old.room.size) (is_ok result) (is_fault result) }
+    {
         let Ok(text) = text.to_vec(alloc) else {
             return Err(Down::NoMemory);
         };
@@ -141,31 +175,20 @@ impl Store<MemFault> for MemStore {
     }
 
     fn folder(&mut self, alloc: Global, name: &str) -> Result<MemFolder, Down<MemFault>> {
-        let (Ok(text), Ok(place), Ok(plan), Ok(plans)) = (
-            String::from_str(alloc, name),
-            Box::new(alloc, Slots::Empty),
-            self.plans.of_table(alloc, name),
-            self.plans.again(alloc),
-        ) else {
-            return Err(Down::NoMemory);
-        };
-        let stored = take_slot(&mut self.slots, name);
-        let (table, files) = opened(stored, name);
-        Ok(MemFolder {
-            name: text,
-            table,
-            table_out: false,
-            files,
-            last_writer: 0,
-            faults: 0,
-            place,
-            plan,
-            plans,
-            room: self.room,
-        })
+        match self.handed_out(alloc, name) {
+            Ok(folder) => Ok(folder),
+            Err(_) => Err(Down::NoMemory),
+        }
     }
 
-    fn give_folder(&mut self, folder: MemFolder) {
+    fn give_folder(&mut self, folder: MemFolder)
+        requires { folder.table_out ≡ false }
+        ensures contents { WhereTold (Some (holdings self.old)) (Some (holdings self.new)) (SameBut (string_bytes folder.name)) }
+        ensures given { IfSome (Some (holdings self.new)) (λ s. Some (contents_of folder.table folder.files) ≡ Some (folder_at s (string_bytes folder.name))) }
+        ensures out { (other : List ℕ) → none_told other ≡ true → (none_told other ≡ true) × (other ≢ string_bytes folder.name) }
+        ensures faults { self.old.faults ≤ self.new.faults }
+        ensures same { (self.new.room ≡ self.old.room) × ((self.new.plan ≡ self.old.plan) × (self.new.plans ≡ self.old.plans)) }
+    {
         let MemFolder {
             name,
             table,
@@ -189,5 +212,39 @@ impl Store<MemFault> for MemStore {
     fn note(&mut self, fault: MemFault) {
         let _ = fault;
         let _ = counted(&mut self.faults);
+    }
+}
+
+impl MemStore {
+    // Takes a folder out, with the calls of its files that are planned to fail.
+    fn handed_out(&mut self, alloc: Global, name: &str) -> Result<MemFolder, AllocError>
+        ensures folder { IfOk result (λ d. (string_bytes d.name ≡ name.now) × ((d.table_out ≡ false) × (d.last_writer ≡ 0))) }
+        ensures contents { IfOk result (λ d. contents_of d.table d.files ≡ unwrap_or (folder_in self.old.slots name.now) no_contents) }
+        ensures others { OnOk result ((other : List ℕ) → other ≢ name.now → folder_in self.new.slots other ≡ folder_in self.old.slots other) }
+        ensures err { OnErr result (self.new.slots ≡ self.old.slots) }
+        ensures plan { IfOk result (λ d. IsAnew (fails_of (table_text name.now) self.old.plans.items.items) self.old.plans.fuse.allowed d.plan) }
+        ensures plans { IfOk result (λ d. (file : List ℕ) → fails_of file d.plans.items.items ≡ fails_of file self.old.plans.items.items) }
+        ensures fuse { IfOk result (λ d. d.plans.fuse.allowed ≡ self.old.plans.fuse.allowed) }
+        ensures room { IfOk result (λ d. d.room ≡ self.old.room) }
+        ensures same { (self.new.schema ≡ self.old.schema) × ((self.new.faults ≡ self.old.faults) × (self.new.plans ≡ self.old.plans)) }
+    {
+        let text = String::from_str(alloc, name)?;
+        let place = Box::new(alloc, Slots::Empty)?;
+        let plan = self.plans.of_table(alloc, name)?;
+        let plans = self.plans.again(alloc)?;
+        let stored = take_slot(&mut self.slots, name);
+        let (table, files) = opened(stored, name);
+        Ok(MemFolder {
+            name: text,
+            table,
+            table_out: false,
+            files,
+            last_writer: 0,
+            faults: 0,
+            place,
+            plan,
+            plans,
+            room: self.room,
+        })
     }
 }

@@ -1,11 +1,13 @@
 // One dataset.
-ghost use Rattle.std.specs.Prelude.{◌≡◌, ◌≤◌, IfOk, length, string_bytes};
+ghost use Rattle.std.specs.Prelude.{◌≡◌, ◌≤◌, IfOk, None, true, false, length, string_bytes};
+ghost use Rattle.fd_disk.specs.Folders.{with_table};
 
 use crate::fault::{counted, told};
 use crate::files::{Host, length_of, make_folder, plant, sync_folder};
 use crate::names::Names;
 use crate::output::Output;
 use crate::shelf::path_of;
+use crate::unsynced::Unsynced;
 use crate::{RealDisk, RealFault, RealSealed, RealShelf};
 use fd_disk::{Down, FileName, Folder};
 use std::alloc::{AllocError, Global};
@@ -14,7 +16,7 @@ use std::sync::Arc;
 
 /// One dataset: a folder that is made when its table is founded or a shelf is asked for.
 #[derive(Drop)]
-pub struct RealFolder<R: Host> {
+pub struct RealFolder<R> {
     pub(crate) host: R,
     pub(crate) root: String,
     pub(crate) name: String,
@@ -25,6 +27,8 @@ pub struct RealFolder<R: Host> {
     pub(crate) table_out: bool,
     pub(crate) last_writer: u32,
     pub(crate) faults: u64,
+    /// What of the table may not be firm.
+    pub(crate) unsynced: Unsynced,
 }
 
 impl<R: Host + Send + Sync> Folder<RealFault> for RealFolder<R> {
@@ -71,8 +75,18 @@ impl<R: Host + Send + Sync> Folder<RealFault> for RealFolder<R> {
         }
     }
 
-    fn give_table(&mut self, table: RealDisk<R>) {
-        let _ = table;
+    /// What a failed sync may have lost of the table is lost for whoever it is handed out to again.
+    fn give_table(&mut self, table: RealDisk<R>)
+        requires out { self.old.table_out ≡ true }
+        requires table_name { string_bytes table.name ≡ string_bytes self.old.name }
+        ensures has { None ≡ with_table None None }
+        ensures back { self.new.table_out ≡ false }
+        ensures last_writer { self.new.last_writer ≡ self.old.last_writer }
+        ensures name { string_bytes self.new.name ≡ string_bytes self.old.name }
+        ensures faults { self.old.faults ≤ self.new.faults }
+        ensures unsynced { self.new.unsynced ≡ table.output.unsynced }
+    {
+        self.unsynced = table.output.unsynced;
         self.table_out = false;
     }
 
@@ -144,6 +158,7 @@ impl<R: Host> RealFolder<R> {
     // The table, whether or not it is there.
     fn open_table(&self, alloc: Global) -> Result<RealDisk<R>, AllocError>
         ensures name { IfOk result (λ d. string_bytes d.name ≡ string_bytes self.now.name) }
+        ensures unsynced { IfOk result (λ d. d.output.unsynced ≡ self.now.unsynced) }
     {
         Ok(RealDisk {
             name: String::from_str(alloc, self.name.as_str())?,
@@ -154,6 +169,7 @@ impl<R: Host> RealFolder<R> {
                 self.path.as_str(),
                 self.table.as_str(),
                 &self.names,
+                self.unsynced,
                 0,
             )?,
             extent: 0,

@@ -14,7 +14,7 @@ const PIECE: usize = 4096;
 
 /// A sealed file that is read. It holds its path, and opens it for each call that what was read ahead doesn't answer.
 #[derive(Drop)]
-pub(crate) struct Input<R: Host> {
+pub(crate) struct Input<R> {
     host: R,
     path: String,
     pub(crate) len: u64,

@@ -13,8 +13,6 @@ mod output;
 mod sealed;
 mod shelf;
 mod store;
-#[cfg(test)]
-mod tests;
 mod unsynced;
 
 pub use disk::RealDisk;

@@ -10,7 +10,7 @@ use std::alloc::Global;
 
 /// A file that changes no more. It holds a path, and is opened for each read.
 #[derive(Drop)]
-pub struct RealSealed<R: Host> {
+pub struct RealSealed<R> {
     pub(crate) host: R,
     pub(crate) name: String,
     pub(crate) made: Option<FileName>,
@@ -62,7 +62,7 @@ impl<R: Host + Send + Sync> Sealed<RealFault> for RealSealed<R> {
 
 /// A sealed file that is being read. It holds no descriptor between calls.
 #[derive(Drop)]
-pub struct RealReader<R: Host> {
+pub struct RealReader<R> {
     input: Input<R>,
     faults: u64,
     reads: u64,

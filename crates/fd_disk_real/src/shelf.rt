@@ -5,6 +5,7 @@ use crate::fault::counted;
 use crate::files::Host;
 use crate::names::Names;
 use crate::output::{GATHERED, Output};
+use crate::unsynced::Unsynced;
 use crate::{RealDisk, RealFault, RealSealed};
 use fd_bytes::NoMemory;
 use fd_disk::{Down, FileKind, FileName, Shelf};
@@ -13,7 +14,7 @@ use std::sync::Arc;
 
 /// One writer's files in one dataset. They stand in the folder from the time when they are made.
 #[derive(Drop)]
-pub struct RealShelf<R: Host> {
+pub struct RealShelf<R> {
     pub(crate) host: R,
     pub(crate) name: String,
     pub(crate) folder: String,
@@ -94,6 +95,7 @@ impl<R: Host> RealShelf<R> {
                 self.folder.as_str(),
                 path.as_str(),
                 &self.names,
+                Unsynced::made(),
                 room,
             )?,
             extent: 0,
