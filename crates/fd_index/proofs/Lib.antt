@@ -1,5 +1,6 @@
 pub mod Searching
 pub mod Putting
+pub mod Placing
 pub mod Paging
 pub mod ReadTurns
 pub mod PageLaws
@@ -8,3 +9,4 @@ pub mod Spelled
 pub mod Same
 pub mod FirstFault
 pub mod FaultRead
+pub mod Alone

@@ -33,7 +33,7 @@ key_len_is end n bytes is small fits =
     let room : ltb (length bytes) (18 + number_2 bytes) ≡ false = le-ltb (length bytes) (18 + number_2 bytes) (omega (arith, fits, is)) in
     ap (λ (b : Bool). if b then Err (end - length bytes) else Ok (number_2 bytes)) (none_of_three _ _ _ two most room) ∙ ap Ok is
 
-record_is : (end n : ℕ) (before : List Record) (bytes : List ℕ) → key_len_at end bytes ≡ Ok n → is_above before (take n (drop 2 bytes)) ≡ true → record_at end before bytes ≡ Ok (before ++ record_of n bytes ∷ [], drop (18 + n) bytes)
+pub record_is : (end n : ℕ) (before : List Record) (bytes : List ℕ) → key_len_at end bytes ≡ Ok n → is_above before (take n (drop 2 bytes)) ≡ true → record_at end before bytes ≡ Ok (before ++ record_of n bytes ∷ [], drop (18 + n) bytes)
 unfolding record_at
 record_is end n before bytes len above =
     let made : ℕ → Result (List Record × List ℕ) ℕ = λ m. Ok (before ++ record_of m bytes ∷ [], drop (18 + m) bytes) in
@@ -141,11 +141,11 @@ pub read_zeros : (n end : ℕ) → zeros_at end (replicate n 0) ≡ Ok tt
 read_zeros zero end = refl
 read_zeros (suc n) end = read_zeros n end
 
-few_records : (rs : List Record) → 18 * length rs ≤ length (records_bytes rs)
+pub few_records : (rs : List Record) → 18 * length rs ≤ length (records_bytes rs)
 few_records [] = omega arith
 few_records (r ∷ rs) = omega (arith, length_one_more r rs, few_records rs)
 
-page_is : (end room n : ℕ) (before all : List Record) (page left : List ℕ) → 0 < number_2 page → key_len_at end (drop 2 page) ≡ Ok n → room < 18 + n → records_at (number_2 page) end before (drop 2 page) ≡ Ok (all, left) → zeros_at end left ≡ Ok tt
+pub page_is : (end room n : ℕ) (before all : List Record) (page left : List ℕ) → 0 < number_2 page → key_len_at end (drop 2 page) ≡ Ok n → room < 18 + n → records_at (number_2 page) end before (drop 2 page) ≡ Ok (all, left) → zeros_at end left ≡ Ok tt
     → page_at end room before page ≡ Ok (all, length left)
 unfolding page_at
 page_is end room n before all page left some len past records zeros =
@@ -242,7 +242,7 @@ read_counts (p ∷ ps) room pages =
     ∙ (λ i. number_2 (take_at (page_bytes p) rest 4096 len i) + counts_of (length ps) (drop_at (page_bytes p) rest 4096 len i))
     ∙ (λ i. count_is p le i + read_counts ps (room_after p) pages.1 i) ∙ sym (length-append p (joined ps))
 
-few_on_page : (room : ℕ) (p : List Record) → IsPage room p → 0 < length p
+pub few_on_page : (room : ℕ) (p : List Record) → IsPage room p → 0 < length p
 few_on_page room [] page = absurd page
 few_on_page room (r ∷ rs) page = omega arith
 

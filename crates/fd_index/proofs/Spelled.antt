@@ -220,17 +220,18 @@ pub record OnePage (room left : ℕ) (before all : List Record) (page : List ℕ
   pub follow : Follow before p
 
 -- what the steps of reading a page say
-record Steps (end room left : ℕ) (before all : List Record) (page : List ℕ) : Type 0 where
-  n : ℕ
-  rest : List ℕ
-  some : 0 < number_2 page
-  len : key_len_at end (drop 2 page) ≡ Ok n
-  past : room < 18 + n
-  records : records_at (number_2 page) end before (drop 2 page) ≡ Ok (all, rest)
-  zeros : rest ≡ replicate (length rest) 0
-  left_is : left ≡ length rest
+pub record Steps (end room left : ℕ) (before all : List Record) (page : List ℕ) : Type 0 where
+  pub n : ℕ
+  pub rest : List ℕ
+  pub some : 0 < number_2 page
+  pub len : key_len_at end (drop 2 page) ≡ Ok n
+  pub past : room < 18 + n
+  pub records : records_at (number_2 page) end before (drop 2 page) ≡ Ok (all, rest)
+  pub blank : (done : Unit {0}) × (zeros_at end rest ≡ Ok done)
+  pub zeros : rest ≡ replicate (length rest) 0
+  pub left_is : left ≡ length rest
 
-steps_of : (end room left : ℕ) (before all : List Record) (page : List ℕ) → page_at end room before page ≡ Ok (all, left) → Steps end room left before all page
+pub steps_of : (end room left : ℕ) (before all : List Record) (page : List ℕ) → page_at end room before page ≡ Ok (all, left) → Steps end room left before all page
 unfolding page_at
 steps_of end room left before all page h =
     let done : List Record × List ℕ → Unit {0} → Result (List Record × ℕ) ℕ = λ rs _. Ok (rs.0, length rs.1) in
@@ -250,6 +251,7 @@ steps_of end room left before all page h =
       len = len.1;
       past = ltb-true room (18 + len.0) past.0;
       records = records.1 ∙ ap (λ (x : List Record × ℕ). Ok (x.0, records.0.1)) is;
+      blank = (zeros.0, zeros.1);
       zeros = zeros_say end records.0.1 zeros.0 zeros.1;
       left_is = sym (ap (λ (x : List Record × ℕ). x.1) is);
     }
@@ -374,17 +376,17 @@ both true false h = absurd (true≢false (sym h))
 both false b h = absurd (true≢false (sym h))
 
 -- what the steps of reading a file say
-record FileSteps (bytes : List ℕ) (rs : List Record) : Type 0 where
-  long : 24 ≤ length bytes
-  whole : (length bytes - 24) % 4096 ≡ 0
-  head : take 8 bytes ≡ codes "FDIDX001"
-  mark : drop (length bytes - 4) bytes ≡ codes "FEND"
-  pages : number_4 (drop (length bytes - 8) bytes) ≡ pages_in bytes
-  number : number_8 (drop (length bytes - 16) bytes) ≡ counts_of (pages_in bytes) (body_of bytes)
-  few : counts_of (pages_in bytes) (body_of bytes) < 2 ^ 32
-  read : pages_at (pages_in bytes) (length bytes - 16) 0 [] (body_of bytes) ≡ Ok rs
+pub record FileSteps (bytes : List ℕ) (rs : List Record) : Type 0 where
+  pub long : 24 ≤ length bytes
+  pub whole : (length bytes - 24) % 4096 ≡ 0
+  pub head : take 8 bytes ≡ codes "FDIDX001"
+  pub mark : drop (length bytes - 4) bytes ≡ codes "FEND"
+  pub pages : number_4 (drop (length bytes - 8) bytes) ≡ pages_in bytes
+  pub number : number_8 (drop (length bytes - 16) bytes) ≡ counts_of (pages_in bytes) (body_of bytes)
+  pub few : counts_of (pages_in bytes) (body_of bytes) < 2 ^ 32
+  pub read : pages_at (pages_in bytes) (length bytes - 16) 0 [] (body_of bytes) ≡ Ok rs
 
-file_steps : (bytes : List ℕ) (rs : List Record) → index_at bytes ≡ Ok rs → FileSteps bytes rs
+pub file_steps : (bytes : List ℕ) (rs : List Record) → index_at bytes ≡ Ok rs → FileSteps bytes rs
 unfolding index_at
 file_steps bytes rs h =
     let n = length bytes in

@@ -1,8 +1,6 @@
 -- What a builder answers.
 use Rattle.std.specs.Prelude.{◌≡◌, ℕ, Bool, ◌||◌, ◌&&◌, nat_lt, nat_le, if◌then◌else◌, List, [], ◌∷◌, ◌++◌, length, is_some, Result, Ok, Err}
 use Rattle.fd_index.specs.declared.fault.Full.{Full}
-use Rattle.fd_index.specs.declared.fault.IndexPut.{IndexPut}
-use Rattle.fd_index.specs.declared.fault.IndexPut.TheVariants as answers
 use Rattle.fd_index.specs.Records.{Record, StandsFor, place_of}
 use Rattle.fd_index.specs.Held.{Held, left_of}
 
@@ -13,12 +11,6 @@ has_room held key = is_some (place_of key held.records) || (nat_lt (length held.
 -- the key has room, or how many are held and how many bytes are left
 abbrev pub room_for : Held → List ℕ → Result (Unit {0}) Full
 room_for held key = if has_room held key then Ok tt else Err (record { keys = length held.records; left = left_of held })
-
--- `Full` is answered exactly where the key has no room, with these numbers
-abbrev pub FullAs : Result (Unit {0}) Full → Result (Unit {0}) IndexPut → Type 0
-FullAs room (Ok done) = room ≡ Ok tt
-FullAs room (Err (answers.Full keys left)) = room ≡ Err (record { keys = keys; left = left })
-FullAs room (Err answers.NoMemory) = room ≡ Ok tt
 
 -- The reserved numbers stay, and the records are those of one put more, whatever the puts were.
 pub record HoldsPut (old : Held) (put : Record) (new : Held) : Type 0 where

@@ -1,7 +1,9 @@
 pub mod Records
 pub mod Held
 pub mod Builder
+pub mod Slots
 pub mod Seen
+pub mod Position
 pub mod Pages
 pub mod Reading
 pub mod StoredRecords

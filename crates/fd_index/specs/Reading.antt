@@ -74,6 +74,10 @@ page_at end room before page = do
   _ ← zeros_at end records.1
   Ok (records.0, length records.1)
 
+-- the records of a page that ends at this place, by itself: whatever stands on the other pages
+abbrev pub page_by_itself : ℕ → List ℕ → Result (List Record) ℕ
+page_by_itself end page = page_at end 0 [] page >>= λ read. Ok read.0
+
 -- so many pages, of which the last ends at this place
 unfoldable pub pages_at : ℕ → ℕ → ℕ → List Record → List ℕ → Result (List Record) ℕ
 pages_at zero end room before bytes = Ok before

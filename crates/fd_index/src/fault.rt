@@ -1,6 +1,5 @@
 ghost use Rattle.std.specs.Prelude.{◌≡◌};
 ghost use Rattle.fd_index.specs.declared.fault.IndexFault.TheVariants as faults;
-ghost use Rattle.fd_index.specs.declared.fault.IndexPut.TheVariants as answers;
 
 use fd_bytes::NoMemory;
 use std::alloc::{AllocError, AllocFailed};
@@ -14,20 +13,6 @@ pub struct Full {
     pub left: u32,
 }
 
-/// Why a builder didn't take a record.
-#[derive(Clone, Copy, Debug, PartialEq, Eq)]
-pub enum IndexPut {
-    /// The key isn't held, and as many keys are held as were reserved, or it is longer than the bytes left.
-    Full {
-        /// The number of keys held.
-        keys: u32,
-        /// The number of reserved bytes that no key takes.
-        left: u32,
-    },
-    /// An allocation was refused.
-    NoMemory,
-}
-
 /// Why bytes weren't read as an index.
 #[derive(Clone, Copy, Debug, PartialEq, Eq)]
 pub enum IndexFault {
@@ -36,25 +21,6 @@ pub enum IndexFault {
     BadIndex { at: u64 },
     /// An allocation was refused.
     NoMemory,
-}
-
-impl From<NoMemory> for IndexPut {
-    ghost from_gives = { λ _ e. e ≡ answers.NoMemory };
-
-    fn from(_: NoMemory) -> IndexPut {
-        IndexPut::NoMemory
-    }
-}
-
-impl From<Full> for IndexPut {
-    ghost from_gives = { λ f e. e ≡ answers.Full f.keys f.left };
-
-    fn from(full: Full) -> IndexPut {
-        IndexPut::Full {
-            keys: full.keys,
-            left: full.left,
-        }
-    }
 }
 
 impl From<NoMemory> for IndexFault {

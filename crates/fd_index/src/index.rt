@@ -1,12 +1,12 @@
-ghost use Rattle.std.specs.Prelude.{◌≡◌, ◌<◌, List, length, slice_get, Some, IfOk};
+ghost use Rattle.std.specs.Prelude.{◌≡◌, ◌<◌, ◌≤◌, List, length, slice_get, Some, IfOk};
 ghost use Rattle.fd_index.specs.Records.{Record, Rising, place_of};
 ghost use Rattle.fd_index.specs.Pages.{IsIndex};
-ghost use Rattle.fd_index.specs.Reading.{index_at};
+ghost use Rattle.fd_index.specs.Reading.{index_at, page_by_itself};
 ghost use Rattle.fd_index.specs.First.{RefusesAtFirstPlace};
 ghost use Rattle.fd_index.specs.Index.{ReadsAs, RefusesNoIndex};
 
 use crate::fault::IndexFault;
-use crate::reader::read_records;
+use crate::reader::{push_page, read_records};
 use crate::stored::{Stored, place_in};
 use std::alloc::Global;
 use std::marker::Model;
@@ -42,6 +42,21 @@ impl Index {
     {
         match read_records(alloc, bytes) {
             Ok(records) => Ok(Index { records }),
+            Err(fault) => Err(fault),
+        }
+    }
+
+    /// The records of one page of an index file, which ends at this place of the file. `BadIndex` comes exactly where the
+    /// page isn't in the format, whatever stands on the other pages, with its first place that isn't.
+    pub fn read_page(alloc: Global, end: u64, page: &[u8]) -> Result<Index, IndexFault>
+        requires whole { length page.now ≡ 4096 }
+        requires place { 4096 ≤ end }
+        ensures first { ReadsAs (page_by_itself end page.now) result }
+        ensures some { IfOk result (λ index. 0 < length index) }
+    {
+        let mut records = Vec::new(alloc);
+        match push_page(alloc, &mut records, end, 0, page) {
+            Ok(_) => Ok(Index { records }),
             Err(fault) => Err(fault),
         }
     }

@@ -8,12 +8,10 @@ mod index;
 mod law;
 mod pages;
 mod reader;
+mod slots;
 mod stored;
 
 pub use builder::IndexBuilder;
-pub use fault::{Full, IndexFault, IndexPut};
+pub use fault::{Full, IndexFault};
 pub use index::Index;
 pub use law::every_index;
-
-#[cfg(test)]
-mod tests;

@@ -1,11 +1,12 @@
 ghost use Rattle.std.specs.Prelude.{◌≡◌, ◌+◌, ◌<◌, ◌≤◌, ◌^◌, ◌++◌, length, replicate, IfOk, OnOk};
 ghost use Rattle.fd_index.specs.Records.{AllFit, Rising};
 ghost use Rattle.fd_index.specs.Pages.{IsIndex, closed, index_of, pages_bytes, pages_of, record_bytes, size};
-ghost use Rattle.fd_index.specs.Seen.{records_of};
+ghost use Rattle.fd_index.specs.Slots.{AreWithin, records_of};
 
+use crate::slots::Slot;
 use fd_bytes::NoMemory;
+use fd_region::Region;
 use std::alloc::Global;
-use std::collections::BTreeMap;
 
 /// The bytes of a page behind its count.
 const ROOM: usize = 4094;
@@ -53,25 +54,28 @@ fn put_page(out: &mut Vec<u8>, count: u16, text: &[u8]) -> Result<(), NoMemory>
 fn put_pages(
     alloc: Global,
     out: &mut Vec<u8>,
-    places: &BTreeMap<Vec<u8>, (u64, u64)>,
+    texts: &Region,
+    slots: &[Slot],
 ) -> Result<u32, NoMemory>
-    requires some { 0 < length places.now.entries }
-    requires small { length places.now.entries < 2 ^ 32 }
-    requires fit { AllFit (records_of places.now.entries) }
-    ensures bytes { OnOk result (out.new.items ≡ out.old.items ++ pages_bytes (pages_of (records_of places.now.entries))) }
-    ensures count { IfOk result (λ n. n ≡ length (pages_of (records_of places.now.entries))) }
+    requires some { 0 < length slots.now }
+    requires small { length slots.now < 2 ^ 32 }
+    requires within { AreWithin texts.now.texts slots.now }
+    requires fit { AllFit (records_of texts.now.texts slots.now) }
+    ensures bytes { OnOk result (out.new.items ≡ out.old.items ++ pages_bytes (pages_of (records_of texts.now.texts slots.now))) }
+    ensures count { IfOk result (λ n. n ≡ length (pages_of (records_of texts.now.texts slots.now))) }
 {
     let mut text = Vec::new(alloc);
     let mut count: u16 = 0;
     let mut pages: u32 = 1;
-    for (key, place) in places {
+    for slot in slots {
+        let key = texts.text(slot.id);
         if ROOM - text.len() < size_of(key) {
             put_page(out, count, &text)?;
             text.clear();
             count = 0;
             pages += 1;
         }
-        put_record(&mut text, key, place.0, place.1)?;
+        put_record(&mut text, key, slot.at, slot.len)?;
         count += 1;
     }
     put_page(out, count, &text)?;
@@ -82,33 +86,33 @@ fn put_pages(
 fn put_all(
     alloc: Global,
     out: &mut Vec<u8>,
-    places: &BTreeMap<Vec<u8>, (u64, u64)>,
+    texts: &Region,
+    slots: &[Slot],
 ) -> Result<u32, NoMemory>
-    requires small { length places.now.entries < 2 ^ 32 }
-    requires fit { AllFit (records_of places.now.entries) }
-    ensures bytes { OnOk result (out.new.items ≡ out.old.items ++ pages_bytes (pages_of (records_of places.now.entries))) }
-    ensures count { IfOk result (λ n. n ≡ length (pages_of (records_of places.now.entries))) }
+    requires small { length slots.now < 2 ^ 32 }
+    requires within { AreWithin texts.now.texts slots.now }
+    requires fit { AllFit (records_of texts.now.texts slots.now) }
+    ensures bytes { OnOk result (out.new.items ≡ out.old.items ++ pages_bytes (pages_of (records_of texts.now.texts slots.now))) }
+    ensures count { IfOk result (λ n. n ≡ length (pages_of (records_of texts.now.texts slots.now))) }
 {
-    if places.is_empty() {
+    if slots.is_empty() {
         return Ok(0);
     }
-    put_pages(alloc, out, places)
+    put_pages(alloc, out, texts, slots)
 }
 
-/// The index file of the places of some keys.
+/// The index file of some records.
 #[tactic(auto, unfolding(crate::specs::Pages::index_of))]
-pub(crate) fn file_of(
-    alloc: Global,
-    places: &BTreeMap<Vec<u8>, (u64, u64)>,
-) -> Result<Vec<u8>, NoMemory>
-    requires small { length places.now.entries < 2 ^ 32 }
-    requires fit { AllFit (records_of places.now.entries) }
-    ensures { IfOk result (λ v. v.items ≡ index_of (records_of places.now.entries)) }
+pub(crate) fn file_of(alloc: Global, texts: &Region, slots: &[Slot]) -> Result<Vec<u8>, NoMemory>
+    requires small { length slots.now < 2 ^ 32 }
+    requires within { AreWithin texts.now.texts slots.now }
+    requires fit { AllFit (records_of texts.now.texts slots.now) }
+    ensures { IfOk result (λ v. v.items ≡ index_of (records_of texts.now.texts slots.now)) }
 {
     let mut out = Vec::new(alloc);
     out.extend_from_slice(b"FDIDX001")?;
-    let pages = put_all(alloc, &mut out, places)?;
-    out.extend_from_slice(&(places.len() as u64).to_be_bytes())?;
+    let pages = put_all(alloc, &mut out, texts, slots)?;
+    out.extend_from_slice(&(slots.len() as u64).to_be_bytes())?;
     out.extend_from_slice(&pages.to_be_bytes())?;
     out.extend_from_slice(b"FEND")?;
     Ok(out)

@@ -150,7 +150,7 @@ fn push_records<'a>(
 /// Reads a page that ends at this place, behind the records before it; the page before has this room. The room that its
 /// records leave.
 #[tactic(auto, unfolding(crate::specs::Reading::page_at))]
-fn push_page(
+pub(crate) fn push_page(
     alloc: Global,
     records: &mut Vec<Stored>,
     end: u64,

@@ -16,7 +16,6 @@ pub(crate) fn listed_file<F: Send, D: Folder<F>>(
     want: u64,
 ) -> Result<D::Sealed, FileFault<F>>
 where
-    D::Sealed: Drop,
     ensures file { IfOk result (λ z. (D.Sealed.name z ≡ D.name folder.old) × ((D.Sealed.made z ≡ Some file) × (want ≤ D.Sealed.len z))) }
     ensures told { IfOk result (λ z. IfSome (D.has folder.old) (λ v. (D.Sealed.bytes z ≡ v.files file) × (damages_of file want (v.files file) ≡ []))) }
     ensures damaged { IfErr result (λ e. OnFileDamaged e (λ d. IfSome (D.has folder.old) (λ v. damages_of file want (v.files file) ≡ d ∷ []))) }

@@ -43,7 +43,6 @@ pub fn recover<F: Send, D: Folder<F>>(
     dataset: &str,
 ) -> Result<Option<Recovered<F, D>>, OpenFault<F>>
 where
-    D::Sealed: Drop,
     requires back { D.table_out folder.old ≡ false }
     requires dataset { D.name folder.old ≡ dataset.now }
     ensures none { IfOk result (λ o. IfSome (D.has folder.old) (λ v. is_some o ≡ is_some v.table)) }

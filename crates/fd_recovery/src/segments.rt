@@ -20,7 +20,6 @@ pub(crate) fn segments_of<F: Send, D: Folder<F>>(
     entries: &[Entry],
 ) -> Result<Vec<Arc<Segment<F, D::Sealed>>>, FileFault<F>>
 where
-    D::Sealed: Drop,
     ensures segments { IfOk result (λ v. AreTakenUp (D.name folder.old) (D.has folder.old) entries.now (standings v.items)) }
     ensures sound { IfOk result (λ v. IfSome (D.has folder.old) (λ v. damages v.files entries.now ≡ [])) }
     ensures damaged { IfErr result (λ e. OnFileDamaged e (λ d. IfSome (D.has folder.old) (λ v. IsFirst d (damages v.files entries.now)))) }
@@ -54,7 +53,6 @@ fn segment_of<F: Send, D: Folder<F>>(
     entry: &Entry,
 ) -> Result<Segment<F, D::Sealed>, FileFault<F>>
 where
-    D::Sealed: Drop,
     ensures entry { IfOk result (λ s. s.files.entry ≡ entry.now) }
     ensures named { IfOk result (λ s. IsNamed (D.name folder.old) s) }
     ensures files { IfOk result (λ s. IfSome (D.has folder.old) (λ v. s.files ≡ files_of v.files entry.now)) }

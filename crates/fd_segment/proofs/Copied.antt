@@ -1,12 +1,12 @@
 -- Bytes of a file that were copied in pieces.
-use Rattle.std.proofs.Common.{◌≡◌, ◌≤◌, ◌<◌, ◌+◌, ◌-◌, ℕ, zero, List, [], ◌∷◌, ◌++◌, length, min, take, drop, Option, Some, None, Ok, refl, sym, ap, ◌∙◌, subst, arith, length-append, length-take, length-drop}
-use Rattle.std.specs.Prelude.{IfSome}
+use Rattle.std.proofs.Common.{◌≡◌, ◌≤◌, ◌<◌, ◌+◌, ◌%◌, ℕ, List, [], ◌∷◌, ◌++◌, length, take, drop, Option, Some, None, Ok, refl, sym, ap, ◌∙◌, arith, length-append}
 use Rattle.std.proofs.lemmas.List.{take_at, take-take, append-nil, drop-drop}
 use Rattle.std.proofs.Math.Seq.{take-add}
-use Rattle.fd_disk.specs.Reading.{ReadsBytes, ReadsCount}
+use Rattle.fd_disk.specs.Reading.{ReadsBytes}
 use Rattle.fd_io.specs.Streams.{Takes, TakesFront}
 use Rattle.fd_io.proofs.Bytes.{Takes-none, Takes-more}
 use Rattle.fd_segment.specs.Copying.{IsPiece, IsCopied, IsCopiedInPart}
+use Rattle.fd_segment.specs.Counts.{pieces}
 
 piece_none : (fields : Option (List ℕ)) (at : ℕ) → IsPiece fields at 0 []
 piece_none None at = record { long = refl; told = tt }
@@ -62,3 +62,13 @@ part_front fields at n bytes s t p took =
 
 pub part_more : (fields : Option (List ℕ)) (at a b n : ℕ) (s t u : Option (List ℕ)) → a + b ≤ n → IsCopied fields at a s t → IsCopiedInPart fields (at + a) b t u → IsCopiedInPart fields at n s u
 part_more fields at a b n s t u le p q = (a + q.0, omega (arith, q.1), copied_more fields at a q.0 s t u p q.2)
+
+-- ---- How many pieces
+
+-- one piece more, where those before it were whole
+pub pieces_more : (start before reads done n : ℕ) → before ≤ start + pieces done → reads ≤ before + 1 → done % 4096 ≡ 0 → 0 < n → reads ≤ start + pieces (done + n)
+pieces_more start before reads done n so more whole some = omega arith
+
+-- the piece that is tried is one of all
+pub pieces_tried : (start before reads done len : ℕ) → before ≤ start + pieces done → reads ≤ before + 1 → done % 4096 ≡ 0 → done < len → reads ≤ start + pieces len
+pieces_tried start before reads done len so more whole left = omega arith

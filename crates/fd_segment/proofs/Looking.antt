@@ -1,5 +1,5 @@
 -- What the records of an index say of the batch for which its files stand.
-use Rattle.std.proofs.Common.{◌≡◌, ◌≤◌, ◌<◌, ◌+◌, ◌-◌, ℕ, Bool, true, false, true≢false, ◌&&◌, nat_le, if◌then◌else◌, List, [], ◌∷◌, length, take, drop, bytes_eq, Option, Some, None, Result, Ok, Err, refl, sym, ap, ◌∙◌, subst, arith}
+use Rattle.std.proofs.Common.{◌≡◌, ◌≤◌, ◌<◌, ◌+◌, ◌-◌, ℕ, Bool, true, false, true≢false, ◌&&◌, nat_le, if◌then◌else◌, List, [], ◌∷◌, length, take, drop, bytes_eq, Option, Some, None, Result, Ok, Err, inl, inr, refl, sym, ap, ◌∙◌, subst, arith}
 use Rattle.std.specs.Prelude.{IfOk, IfSome}
 use Rattle.std.proofs.lemmas.Bool.Decides.{nat_tests}
 use Rattle.std.proofs.lemmas.List.{drop-take, take-take}
@@ -7,8 +7,21 @@ use Rattle.fd_core.specs.declared.batch.Pair.{Pair}
 use Rattle.fd_core.specs.declared.table.Entry.{Entry}
 use Rattle.fd_core.specs.Batches.{of_batch}
 use Rattle.fd_index.specs.Records.{Record, Rising, place_of}
+use Rattle.fd_index.specs.Reading.{index_at}
+use Rattle.fd_index.specs.First.{IsFirstPlace}
+use Rattle.fd_index.proofs.Alone.{by_pages}
+use Rattle.fd_index.proofs.FaultRead.{first_place_read}
+use Rattle.fd_pages.specs.declared.fault.PagedFault.{PagedFault}
+use Rattle.fd_pages.specs.declared.fault.PagedFault.TheVariants as faults
+use Rattle.fd_pages.specs.Causes.{OnBadIndex}
+use Rattle.fd_pages.specs.Parts as pages
+use Rattle.fd_pages.specs.Parts.{IsFrameFault, IsNoIndex}
+use Rattle.fd_segment.specs.declared.fault.Damage.{Damage}
+use Rattle.fd_segment.specs.declared.fault.Damage.TheVariants as damages
+use Rattle.fd_segment.specs.declared.fault.LensFault.{LensFault}
+use Rattle.fd_segment.specs.declared.fault.LensFault.TheVariants as lenses
 use Rattle.fd_segment.specs.Held.{Files, IsIndexOf, Opened, batch_in, batch_of, batch_told, end_by, pairs_of, pairs_within, records_in}
-use Rattle.fd_segment.specs.Causes.{IsPlace, StandsForNone}
+use Rattle.fd_segment.specs.Causes.{IsBadFrame, IsBadIndex, IsPlace, OnDamaged, StandsForNone, lens_fault}
 use Rattle.fd_segment.specs.Copying.{IsBatchIndex, IsOfBatch, bytes_at}
 use Rattle.fd_segment.proofs.Keys.{rising_differ}
 use Rattle.fd_segment.proofs.Places.{first_last, pairs_last}
@@ -64,24 +77,63 @@ bytes_within n fields (Some p) le =
     let within : p.1 ≤ n - p.0 = omega (arith, le) in
     ap Some (sym (take-take p.1 (n - p.0) (drop p.0 fields) within) ∙ ap (take p.1) (sym (drop-take p.0 (n - p.0) fields) ∙ ap (λ (k : ℕ). drop p.0 (take k fields)) more))
 
-pub place_is : (e : Entry) (index : Option (List ℕ)) (rs : List Record) (key : List ℕ) (place : Option (ℕ × ℕ)) → IsIndexOf e index rs → place ≡ place_of key rs → IsPlace e index key place
-place_is e None rs key place reads found = tt
-place_is e (Some index) rs key place reads found = λ qs also. let same : rs ≡ qs = cc (reads, also) in found ∙ ap (place_of key) same
+-- the records of the index of files that stand for a batch
+record AreRecords (f : Files) : Type 0 where
+  index : List ℕ
+  told : f.index ≡ Some index
+  records : List Record
+  read : records_in f.entry index ≡ Ok records
+
+records_of_batch : (f : Files) (b : List Pair) → batch_of f ≡ Some b → AreRecords f
+unfolding batch_of
+records_of_batch f b stands = go f.index f.fields refl stands
+  where
+    within : (e : Entry) (index fields : List ℕ) (t : Bool) (r : Result (List Record) ℕ) → records_in e index ≡ r → (if t then pairs_within e.fields_len (take e.fields_len fields) r else None) ≡ Some b → (rs : List Record) × (records_in e index ≡ Ok rs)
+    within e index fields true (Ok rs) is stands = (rs, is)
+    within e index fields true (Err at) is stands = absurd (cc stands)
+    within e index fields false r is stands = absurd (cc stands)
+
+    go : (index fields : Option (List ℕ)) → f.index ≡ index → batch_told f.entry index fields ≡ Some b → AreRecords f
+    go (Some index) (Some fields) told stands =
+        let all = within f.entry index fields (nat_le f.entry.index_len (length index) && nat_le f.entry.fields_len (length fields)) (records_in f.entry index) refl stands in
+        record { index = index; told = told; records = all.0; read = all.1 }
+    go (Some index) None told stands = absurd (cc stands)
+    go None fields told stands = absurd (cc stands)
+
+rising_read : (bytes : List ℕ) (rs : List Record) → index_at bytes ≡ Ok rs → Rising rs
+rising_read bytes rs read = let file = by_pages bytes rs read in subst Rising (sym file.all_is) file.rising
+
+index_is : (f : Files) (all : AreRecords f) → IsIndexOf f.entry f.index all.records
+index_is f all = subst (λ (o : Option (List ℕ)). IsIndexOf f.entry o all.records) (sym all.told) all.read
+
+place_of_batch : (f : Files) (key : List ℕ) (place : Option (ℕ × ℕ)) (all : AreRecords f) → IsPlace f.entry f.index key place → place ≡ place_of key all.records
+place_of_batch f key place all is = let told : IsPlace f.entry (Some all.index) key place = subst (λ (o : Option (List ℕ)). IsPlace f.entry o key place) all.told is in told all.records all.read
 
 -- the bytes that are found are those of the batch
-pub found_in_batch : (f : Files) (rs : List Record) (key : List ℕ) (place : Option (ℕ × ℕ)) → Rising rs → IsIndexOf f.entry f.index rs → place ≡ place_of key rs → IfSome place (λ p. p.0 + p.1 ≤ f.entry.fields_len) → IsOfBatch f key place
-found_in_batch f rs key place rising reads found inside = λ b stands.
-    let parts = parts_of f rs b reads stands in
+pub found_in_batch : (f : Files) (key : List ℕ) (place : Option (ℕ × ℕ)) → IsPlace f.entry f.index key place → IfSome place (λ p. p.0 + p.1 ≤ f.entry.fields_len) → IsOfBatch f key place
+found_in_batch f key place is inside = λ b stands.
+    let all = records_of_batch f b stands in
+    let rs = all.records in
+    let parts = parts_of f rs b (index_is f all) stands in
     let n = f.entry.fields_len in
     subst (λ (o : Option (List ℕ)). IfSome o (λ fields. bytes_at fields place ≡ of_batch b key)) (sym parts.1)
-    (bytes_within n parts.0 place inside ∙ ap (bytes_at (take n parts.0)) (found ∙ first_last key rs (rising_differ rs rising)) ∙ sym (pairs_last (take n parts.0) key rs) ∙ ap (λ (c : List Pair). of_batch c key) (sym parts.2.batch))
+    (bytes_within n parts.0 place inside ∙ ap (bytes_at (take n parts.0)) (place_of_batch f key place all is ∙ first_last key rs (rising_differ rs (rising_read (take f.entry.index_len all.index) rs all.read))) ∙ sym (pairs_last (take n parts.0) key rs)
+    ∙ ap (λ (c : List Pair). of_batch c key) (sym parts.2.batch))
 
 -- where a record ends beyond, there is no batch
-pub beyond_none : (f : Files) (rs : List Record) (key : List ℕ) (at len : ℕ) → IsIndexOf f.entry f.index rs → Some (at, len) ≡ place_of key rs → f.entry.fields_len + 1 ≤ at + len → StandsForNone f
-beyond_none f rs key at len reads found past = λ b stands.
-    let parts = parts_of f rs b reads stands in
-    let le = found_ends f.entry.fields_len rs key (at, len) parts.2.ends (sym found) in
+pub beyond_none : (f : Files) (key : List ℕ) (at len : ℕ) → IsPlace f.entry f.index key (Some (at, len)) → f.entry.fields_len < at + len → StandsForNone f
+beyond_none f key at len is past = λ b stands.
+    let all = records_of_batch f b stands in
+    let parts = parts_of f all.records b (index_is f all) stands in
+    let le = found_ends f.entry.fields_len all.records key (at, len) parts.2.ends (sym (place_of_batch f key (Some (at, len)) all is)) in
     absurd (omega (arith, le, past))
+
+-- and where a page isn't in the format
+pub no_index_none : (f : Files) → IsNoIndex f.index f.entry.index_len → StandsForNone f
+no_index_none f none = λ b stands.
+    let all = records_of_batch f b stands in
+    let told : IsNoIndex (Some all.index) f.entry.index_len = subst (λ (o : Option (List ℕ)). IsNoIndex o f.entry.index_len) all.told none in
+    told all.records all.read
 
 pub batch_index : (f : Files) (rs : List Record) → IsIndexOf f.entry f.index rs → IsBatchIndex f rs
 batch_index f rs reads = λ b stands.
@@ -93,8 +145,48 @@ pub batch_index_ok : (E : Type 0) (r : Result (List Record) E) (l m : Opened) �
 batch_index_ok E (Ok rs) l m is reads = batch_index m.files rs (subst (λ (x : Opened). IsIndexOf x.files.entry x.files.index rs) is reads)
 batch_index_ok E (Err e) l m is reads = tt
 
-pub found_seen : (l m : Opened) (rs : List Record) (key : List ℕ) (place : Option (ℕ × ℕ)) → l ≡ m → Rising rs → IsIndexOf l.files.entry l.files.index rs → place ≡ place_of key rs → IfSome place (λ p. p.0 + p.1 ≤ l.files.entry.fields_len) → IsOfBatch m.files key place
-found_seen l m rs key place is rising reads found inside = subst (λ (x : Opened). IsOfBatch x.files key place) is (found_in_batch l.files rs key place rising reads found inside)
+-- ---- What the paged index of a lens answers
 
-pub beyond_seen : (l m : Opened) (rs : List Record) (key : List ℕ) (at len : ℕ) → l ≡ m → IsIndexOf l.files.entry l.files.index rs → Some (at, len) ≡ place_of key rs → l.files.entry.fields_len < at + len → StandsForNone m.files
-beyond_seen l m rs key at len is reads found past = subst (λ (x : Opened). StandsForNone x.files) is (beyond_none l.files rs key at len reads found (omega (arith, past)))
+module _ (l m : Opened) (len : ℕ) (is : l ≡ m) (same : len ≡ l.files.entry.index_len) where
+  pub place_seen : (key : List ℕ) (place : Option (ℕ × ℕ)) → pages.IsPlace l.files.index len key place → IsPlace m.files.entry m.files.index key place
+  place_seen key place at = subst (λ (x : Opened). IsPlace x.files.entry x.files.index key place) is (subst (λ (n : ℕ). pages.IsPlace l.files.index n key place) same at)
+
+  pub batch_seen : (key : List ℕ) (place : Option (ℕ × ℕ)) → pages.IsPlace l.files.index len key place → IfSome place (λ p. p.0 + p.1 ≤ l.files.entry.fields_len) → IsOfBatch m.files key place
+  batch_seen key place at inside = found_in_batch m.files key place (place_seen key place at) (subst (λ (x : Opened). IfSome place (λ p. p.0 + p.1 ≤ x.files.entry.fields_len)) is inside)
+
+  pub beyond_seen : (key : List ℕ) (at size : ℕ) → pages.IsPlace l.files.index len key (Some (at, size)) → l.files.entry.fields_len < at + size → StandsForNone m.files
+  beyond_seen key at size place past = beyond_none m.files key at size (place_seen key (Some (at, size)) place) (subst (λ (x : Opened). x.files.entry.fields_len < at + size) is past)
+
+  module _ {F : Type 0} (fault : PagedFault F) where
+    pub sound_seen : OnBadIndex fault (λ _. IsNoIndex l.files.index len) → OnDamaged (lens_fault l.files.entry fault) (λ _. StandsForNone m.files)
+    sound_seen none = go fault (subst (λ (x : Opened). OnBadIndex fault (λ _. IsNoIndex x.files.index x.files.entry.index_len)) is (subst (λ (n : ℕ). OnBadIndex fault (λ _. IsNoIndex l.files.index n)) same none))
+      where
+        go : (f : PagedFault F) → OnBadIndex f (λ _. IsNoIndex m.files.index m.files.entry.index_len) → OnDamaged (lens_fault l.files.entry f) (λ _. StandsForNone m.files)
+        go (faults.Fault f) none = tt
+        go (faults.BadIndex at) none = no_index_none m.files none
+        go faults.NoMemory none = tt
+
+-- ---- The frame
+
+-- a fault of the frame is the first place against the format
+first_place : (bytes : List ℕ) (at : ℕ) → IsFrameFault bytes at → IsFirstPlace bytes at
+first_place bytes at (inl shape) = inl shape
+first_place bytes at (inr (shape, inl head)) = inr (shape, inl head)
+first_place bytes at (inr (shape, inr (head, inl mark))) = inr (shape, inr (head, inl mark))
+first_place bytes at (inr (shape, inr (head, inr (mark, pages, is)))) = inr (shape, inr (head, inr (mark, inl (pages, is))))
+
+frame_read : (e : Entry) (index : Option (List ℕ)) (at : ℕ) → IfSome index (λ b. IsFrameFault (take e.index_len b) at) → IfSome index (λ b. records_in e b ≡ Err at)
+frame_read e None at bad = tt
+frame_read e (Some b) at bad = first_place_read (take e.index_len b) at (first_place (take e.index_len b) at bad)
+
+bad_frame : (e : Entry) (index : Option (List ℕ)) (d : Damage) → IsBadFrame e index d → IsBadIndex e index d
+bad_frame e index (damages.Absent file) bad = absurd bad
+bad_frame e index (damages.Length file want got) bad = absurd bad
+bad_frame e index (damages.Index file at) bad = (bad.0, frame_read e index at bad.1)
+bad_frame e index (damages.Beyond file end len) bad = absurd bad
+
+-- what is against the format in the frame is so in the whole index
+pub frame_index : {F : Type 0} (f : Files) (fault : LensFault F) → OnDamaged fault (IsBadFrame f.entry f.index) → OnDamaged fault (IsBadIndex f.entry f.index)
+frame_index f (lenses.Fault x) bad = tt
+frame_index f (lenses.Damaged d) bad = bad_frame f.entry f.index d bad
+frame_index f lenses.NoMemory bad = tt

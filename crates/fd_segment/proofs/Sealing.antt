@@ -1,5 +1,5 @@
 -- What the files of a sealed draft stand for.
-use Rattle.std.proofs.Common.{◌≡◌, ◌≤◌, ◌+◌, ℕ, Bool, true, false, true≢false, ◌&&◌, nat_le, if◌then◌else◌, List, [], ◌∷◌, ◌++◌, length, take, drop, Option, Some, None, is_some, Result, Ok, Err, refl, sym, ap, ◌∙◌, subst, arith, length-take}
+use Rattle.std.proofs.Common.{◌≡◌, ◌≤◌, ℕ, Bool, true, false, true≢false, ◌&&◌, nat_le, if◌then◌else◌, List, ◌++◌, length, take, drop, Option, Some, None, is_some, Result, Ok, refl, sym, ap, ◌∙◌, subst, arith, length-take}
 use Rattle.std.specs.Prelude.{IfSome, IsSome, option_map}
 use Rattle.std.proofs.lemmas.Bool.Decides.{nat_tests}
 use Rattle.std.proofs.lemmas.List.{take_at}
@@ -12,7 +12,7 @@ use Rattle.fd_core.specs.Batches.{joined, total}
 use Rattle.fd_index.specs.Pages.{IsIndex, index_of}
 use Rattle.fd_index.specs.Reading.{index_at}
 use Rattle.fd_index.specs.Records.{Record, StandsFor}
-use Rattle.fd_segment.specs.Held.{Alike, Files, Standing, batch_of, batch_told, end_by, pairs_of, pairs_within, records_in}
+use Rattle.fd_segment.specs.Held.{Alike, Standing, batch_of, batch_told, end_by, pairs_of, pairs_within, records_in}
 use Rattle.fd_segment.specs.Filling.{Filling, IsSealed, Puts, places_from}
 use Rattle.fd_segment.proofs.Counting.{records_count}
 use Rattle.fd_segment.proofs.Places.{records_alike, records_end}

@@ -1,5 +1,5 @@
 -- Why a call was refused.
-use Rattle.std.specs.Prelude.{◌≡◌, ◌+◌, ◌<◌, ℕ, List, Option, Some, IfSome, IsOk, Result, Ok, Err}
+use Rattle.std.specs.Prelude.{◌≡◌, ◌+◌, ◌<◌, ℕ, List, take, Option, Some, IfSome, Result, Ok, Err}
 use Rattle.fd_disk.specs.declared.folders.FileKind.TheVariants as kinds
 use Rattle.fd_disk.specs.Names.{name_of}
 use Rattle.fd_core.specs.declared.batch.Pair.{Pair}
@@ -14,6 +14,9 @@ use Rattle.fd_segment.specs.declared.fault.LensFault.{LensFault}
 use Rattle.fd_segment.specs.declared.fault.LensFault.TheVariants as lenses
 use Rattle.fd_segment.specs.declared.fault.CopyFault.{CopyFault}
 use Rattle.fd_segment.specs.declared.fault.CopyFault.TheVariants as copies
+use Rattle.fd_pages.specs.declared.fault.PagedFault.{PagedFault}
+use Rattle.fd_pages.specs.declared.fault.PagedFault.TheVariants as pages
+use Rattle.fd_pages.specs.Parts.{IsBadPage, IsFrameFault, IsSeen}
 use Rattle.fd_segment.specs.Held.{Files, batch_of, records_in}
 
 -- `Full` is answered exactly where the key has no room in the index, with these numbers
@@ -21,17 +24,14 @@ abbrev pub FullAs : {F : Type 0} → Result (Unit {0}) Full → Result (Unit {0}
 FullAs room (Ok done) = room ≡ Ok tt
 FullAs room (Err (puts.Full keys left)) = room ≡ Err (record { keys = keys; left = left })
 FullAs room (Err (puts.Fault f)) = room ≡ Ok tt
-FullAs room (Err puts.NoMemory) = room ≡ Ok tt
 
 abbrev pub OnPutFault : {F : Type 0} → PutFault F → Type 0 → Type 0
 OnPutFault (puts.Fault f) P = P
 OnPutFault (puts.Full keys left) P = Unit {0}
-OnPutFault puts.NoMemory P = Unit {0}
 
 abbrev pub OnPutFull : {F : Type 0} → PutFault F → Type 0 → Type 0
 OnPutFull (puts.Fault f) P = Unit {0}
 OnPutFull (puts.Full keys left) P = P
-OnPutFull puts.NoMemory P = Unit {0}
 
 abbrev pub OnLensFault : {F : Type 0} → LensFault F → Type 0 → Type 0
 OnLensFault (lenses.Fault f) P = P
@@ -61,24 +61,38 @@ IsBadIndex e index (Length file want got) = ⊥
 IsBadIndex e index (Index file at) = (file ≡ name_of e.writer e.seq kinds.Index) × IfSome index (λ bytes. records_in e bytes ≡ Err at)
 IsBadIndex e index (Beyond file end len) = ⊥
 
+-- The first eight bytes or the footer of the index file aren't in the format, where told, at the place that the damage names.
+abbrev pub IsBadFrame : Entry → Option (List ℕ) → Damage → Type 0
+IsBadFrame e index (Absent file) = ⊥
+IsBadFrame e index (Length file want got) = ⊥
+IsBadFrame e index (Index file at) = (file ≡ name_of e.writer e.seq kinds.Index) × IfSome index (λ bytes. IsFrameFault (take e.index_len bytes) at)
+IsBadFrame e index (Beyond file end len) = ⊥
+
 -- the index says that the key's bytes are at this place, where told
 abbrev pub IsPlace : Entry → Option (List ℕ) → List ℕ → Option (ℕ × ℕ) → Type 0
 IsPlace e index key place = IfSome index (λ bytes. (rs : List Record) → records_in e bytes ≡ Ok rs → place ≡ place_of key rs)
 
--- the index is in its format, where told, and a record of it has the key, and ends there
+-- a page of the index has a record of the key, which ends there, and so has the index, where it is in its format
 pub record EndsAt (e : Entry) (index : Option (List ℕ)) (key : List ℕ) (end : ℕ) : Type 0 where
   pub at : ℕ
   pub len : ℕ
   pub ends : end ≡ at + len
-  pub reads : IfSome index (λ bytes. IsOk (records_in e bytes))
+  pub seen : IsSeen index e.index_len key (Some (at, len))
   pub place : IsPlace e index key (Some (at, len))
 
--- The key's record ends beyond the fields.
-abbrev pub IsBeyond : Entry → Option (List ℕ) → List ℕ → Damage → Type 0
-IsBeyond e index key (Absent file) = ⊥
-IsBeyond e index key (Length file want got) = ⊥
-IsBeyond e index key (Index file at) = ⊥
-IsBeyond e index key (Beyond file end len) = (file ≡ name_of e.writer e.seq kinds.Fields) × (len ≡ e.fields_len) × (len < end) × EndsAt e index key end
+-- The damage that a look-up of a key meets: a page of the index by itself isn't in the format at the place, or the key's
+-- record ends beyond the fields.
+abbrev pub IsFindDamage : Entry → Option (List ℕ) → List ℕ → Damage → Type 0
+IsFindDamage e index key (Absent file) = ⊥
+IsFindDamage e index key (Length file want got) = ⊥
+IsFindDamage e index key (Index file at) = (file ≡ name_of e.writer e.seq kinds.Index) × IsBadPage index e.index_len at
+IsFindDamage e index key (Beyond file end len) = (file ≡ name_of e.writer e.seq kinds.Fields) × (len ≡ e.fields_len) × (len < end) × EndsAt e index key end
+
+-- the answer of a lens for a refusal of its paged index
+abbrev pub lens_fault : {F : Type 0} → Entry → PagedFault F → LensFault F
+lens_fault e (pages.Fault f) = lenses.Fault f
+lens_fault e (pages.BadIndex at) = lenses.Damaged (Index (name_of e.writer e.seq kinds.Index) at)
+lens_fault e pages.NoMemory = lenses.NoMemory
 
 -- the files stand for no batch
 abbrev pub StandsForNone : Files → Type 0

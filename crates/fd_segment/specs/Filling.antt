@@ -1,6 +1,6 @@
 -- What a draft holds.
-use Rattle.std.specs.Prelude.{◌≡◌, ◌+◌, ◌≤◌, ℕ, Bool, true, List, [], ◌∷◌, ◌++◌, length, take, Option, Some, None, IfSome, IsSome}
-use Rattle.fd_disk.specs.declared.folders.FileName.{FileName}
+use Rattle.std.specs.Prelude.{◌≡◌, ◌+◌, ℕ, Bool, true, List, [], ◌∷◌, length, take, Option, Some, IfSome, IsSome}
+use Rattle.fd_disk.specs.declared.file.File.{File}
 use Rattle.fd_disk.specs.declared.folders.FileKind.TheVariants.{Fields, Index}
 use Rattle.fd_disk.specs.Names.{name_of}
 use Rattle.fd_core.specs.declared.batch.Pair.{Pair}
@@ -18,12 +18,14 @@ pub record Origin : Type 0 where
   pub told : Bool
 
 -- What contracts see of a draft: whose batch it is, its index so far, the end of the last put that succeeded, what a
--- read gives of the field file, where told, and how many calls of each file have failed.
+-- read gives of the field file, where told, both files as they stand, where told, and how many calls of each have failed.
 pub record Filling : Type 0 where
   pub origin : Origin
   pub held : Held
   pub end : ℕ
   pub fields : Option (List ℕ)
+  pub field_file : Option File
+  pub index_file : Option File
   pub field_faults : ℕ
   pub index_faults : ℕ
 

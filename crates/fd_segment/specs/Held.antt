@@ -65,8 +65,13 @@ pub record Standing : Type 0 where
   pub index_made : Option FileName
   pub fields_made : Option FileName
 
--- What contracts see of a lens: the files that it reads, and how many reads of each have failed.
+-- What contracts see of a lens: the files that it reads, how many calls of the reader of each have failed, how many reads
+-- of each were made, and how many bytes these asked for.
 pub record Opened : Type 0 where
   pub files : Files
   pub index_faults : ℕ
   pub field_faults : ℕ
+  pub index_reads : ℕ
+  pub index_asked : ℕ
+  pub field_reads : ℕ
+  pub field_asked : ℕ

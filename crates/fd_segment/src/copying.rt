@@ -2,6 +2,7 @@ ghost use Rattle.std.specs.Prelude.{◌≡◌, ◌≤◌, ◌<◌, ◌+◌, ◌^
 ghost use Rattle.fd_bytes.specs.Causes.{Rose};
 ghost use Rattle.fd_segment.specs.Causes.{OnCopyFault, UnlessWrite};
 ghost use Rattle.fd_segment.specs.Copying.{IsCopied, IsCopiedInPart};
+ghost use Rattle.fd_segment.specs.Counts.{pieces};
 
 use crate::fault::CopyFault;
 use fd_disk::Reader;
@@ -23,6 +24,8 @@ fn copy_piece<F: Send, X, R: Reader<F>, K: Sink<X>>(
     ensures sink { K.faults sink.old ≤ K.faults sink.new }
     ensures calm { UnlessWrite result (K.faults sink.new ≡ K.faults sink.old) }
     ensures cause { IfErr result (λ e. OnCopyFault e (Rose (R.faults file.old) (R.faults file.new)) (Rose (K.faults sink.old) (K.faults sink.new))) }
+    ensures reads { R.reads file.new ≤ R.reads file.old + 1 }
+    ensures asked { R.asked file.new ≤ R.asked file.old + length piece.old }
 {
     if let Err(fault) = file.read_at(at, piece) {
         return Err(CopyFault::Fault(fault));
@@ -50,6 +53,8 @@ pub(crate) fn copy_pieces<F: Send, X, R: Reader<F>, K: Sink<X>>(
     ensures sink { K.faults sink.old ≤ K.faults sink.new }
     ensures calm { UnlessWrite result (K.faults sink.new ≡ K.faults sink.old) }
     ensures cause { IfErr result (λ e. OnCopyFault e (Rose (R.faults file.old) (R.faults file.new)) (Rose (K.faults sink.old) (K.faults sink.new))) }
+    ensures reads { R.reads file.new ≤ R.reads file.old + pieces len }
+    ensures asked { R.asked file.new ≤ R.asked file.old + len }
 {
     let mut buffer = [0; 4096];
     let mut done = 0;

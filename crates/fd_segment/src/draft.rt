@@ -1,14 +1,18 @@
-ghost use Rattle.std.specs.Prelude.{◌≡◌, ◌≤◌, ◌<◌, ◌+◌, ◌^◌, ◌⊎◌, ◌↔◌, ◌++◌, [], ◌∷◌, List, true, false, length, is_some, IsTrue, IfOk, IfErr, OnOk, OnErr};
+ghost use Rattle.std.specs.Prelude.{◌≡◌, ◌≤◌, ◌<◌, ◌+◌, ◌^◌, ◌⊎◌, ◌↔◌, ◌++◌, [], ◌∷◌, List, true, false, length, is_some, IsTrue, IfOk, IfErr, OnOk, OnErr, option_map};
 ghost use Rattle.fd_bytes.specs.Causes.{Rose};
 ghost use Rattle.fd_disk.specs.declared.folders.FileKind.TheVariants.{Fields, Index};
 ghost use Rattle.fd_disk.specs.declared.folders.FileName.{FileName};
 ghost use Rattle.fd_disk.specs.Causes.{OnFault, OnNoMemory};
+ghost use Rattle.fd_disk.specs.Folders.{WhereTold};
+ghost use Rattle.fd_disk.specs.Images.{IsAfterFailedWrite, firm_file, synced, written};
 ghost use Rattle.fd_disk.specs.Names.{name_of};
 ghost use Rattle.fd_core.specs.declared.batch.Pair.{Pair};
 ghost use Rattle.fd_core.specs.Batches.{distinct};
 ghost use Rattle.fd_index.specs.Builder.{room_for};
+ghost use Rattle.fd_index.specs.Pages.{index_of};
 ghost use Rattle.fd_segment.specs.Causes.{FullAs, OnPutFault, OnPutFull};
 ghost use Rattle.fd_segment.specs.Filling.{HoldsSame, IsOf, IsSealed, Puts};
+ghost use Rattle.fd_segment.specs.Steps.{StopsSealing, with_front};
 
 use crate::fault::PutFault;
 use crate::firm::make_firm;
@@ -30,10 +34,7 @@ pub struct Room {
 }
 
 /// The two files of a batch while it is filled.
-pub struct Draft<F: Send, H: Shelf<F>>
-where
-    H::File: Drop,
-{
+pub struct Draft<F: Send, H: Shelf<F>> {
     writer: u32,
     seq: u32,
     records: IndexBuilder,
@@ -43,10 +44,7 @@ where
     of: PhantomData<F>,
 }
 
-impl<F: Send, H: Shelf<F>> Model for Draft<F, H>
-where
-    H::File: Drop,
-{
+impl<F: Send, H: Shelf<F>> Model for Draft<F, H> {
     ghost use Rattle.std.specs.Prelude.{◌≡◌, ◌≤◌, ◌<◌, ◌^◌, ◌&&◌, Some, is_some, option_map};
     ghost use Rattle.fd_disk.specs.declared.folders.FileKind.TheVariants.{Fields, Index};
     ghost use Rattle.fd_disk.specs.Names.{name_of};
@@ -59,6 +57,8 @@ where
       held = d.records;
       end = d.end;
       fields = option_map (λ f. f.reads) (H.File.file d.field_file);
+      field_file = H.File.file d.field_file;
+      index_file = H.File.file d.index_file;
       field_faults = H.File.faults d.field_file;
       index_faults = H.File.faults d.index_file;
     } };
@@ -69,10 +69,7 @@ where
         × (d.end ≤ H.File.extent d.field_file) };
 }
 
-impl<F: Send, H: Shelf<F>> Drop for Draft<F, H>
-where
-    H::File: Drop,
-{
+impl<F: Send, H: Shelf<F>> Drop for Draft<F, H> {
     fn drop(self) {
         let Draft {
             writer: _,
@@ -86,12 +83,9 @@ where
     }
 }
 
-impl<F: Send, H: Shelf<F>> Draft<F, H>
-where
-    H::File: Drop,
-{
-    /// Creates both files of a batch, on this writer's shelf, where nothing was created under this number. After an `Err`
-    /// the shelf may have created one or both of them.
+impl<F: Send, H: Shelf<F>> Draft<F, H> {
+    /// Creates both files of a batch, on this writer's shelf, where nothing was created under this number. All the memory
+    /// that puts need is reserved before. After an `Err` the shelf may have created one or both of the files.
     pub fn new(
         alloc: Global,
         shelf: &mut H,
@@ -105,6 +99,7 @@ where
         ensures origin { IfOk result (λ d. d.origin ≡ record { writer = writer; seq = seq; dataset = H.name shelf.old; told = is_some (H.kept shelf.old) }) }
         ensures room { IfOk result (λ d. d.held ≡ record { records = []; keys = room.keys; bytes = room.bytes }) }
         ensures empty { IfOk result (λ d. Puts d []) }
+        ensures files { IfOk result (λ d. (d.field_file ≡ option_map (λ _. firm_file []) (H.kept shelf.old)) × (d.index_file ≡ option_map (λ _. firm_file []) (H.kept shelf.old))) }
         ensures kept { H.kept shelf.new ≡ H.kept shelf.old }
         ensures created { (n : FileName) → H.created shelf.new n ≡ true → (H.created shelf.old n ≡ true) ⊎ ((n ≡ name_of writer seq Fields) ⊎ (n ≡ name_of writer seq Index)) }
         ensures writer { H.writer shelf.new ≡ H.writer shelf.old }
@@ -130,12 +125,9 @@ where
     }
 }
 
-impl<F: Send, H: Shelf<F>> Draft<F, H>
-where
-    H::File: Drop,
-{
-    /// Writes the bytes behind those that were put, and takes the key with their place. After a refusal the batch is as
-    /// before.
+impl<F: Send, H: Shelf<F>> Draft<F, H> {
+    /// Writes the bytes behind those that were put, and takes the key with their place. It takes no memory. After a refusal
+    /// the batch is as before.
     ///
     /// `Full` comes exactly where the index has no room for the key, and before anything is written. `Fault` comes only
     /// where the field file's count of faults rose.
@@ -146,6 +138,9 @@ where
         ensures end { OnOk result (self.new.end ≡ self.old.end + length bytes.now) }
         ensures err { OnErr result ((b : List Pair) → Puts self.old b → Puts self.new b) }
         ensures refused { OnErr result ((self.new.held ≡ self.old.held) × (self.new.end ≡ self.old.end)) }
+        ensures file { OnOk result (self.new.field_file ≡ option_map (λ f. written f self.old.end bytes.now) self.old.field_file) }
+        ensures file_err { IfErr result (λ e. OnPutFault e (WhereTold self.old.field_file self.new.field_file (λ f g. IsAfterFailedWrite f self.old.end (length bytes.now) g))) }
+        ensures index_file { self.new.index_file ≡ self.old.index_file }
         ensures origin { self.new.origin ≡ self.old.origin }
         ensures room { (self.new.held.keys ≡ self.old.held.keys) × (self.new.held.bytes ≡ self.old.held.bytes) }
         ensures full { FullAs (room_for self.old.held key.now) result }
@@ -162,13 +157,11 @@ where
         if let Err(fault) = self.field_file.write_at(self.end, bytes) {
             return Err(PutFault::Fault(fault));
         }
-        match self.records.put(key, self.end, bytes.len() as u64) {
-            Ok(()) => {
-                self.end += bytes.len() as u64;
-                Ok(())
-            }
-            Err(_) => Err(PutFault::NoMemory),
-        }
+        let Ok(()) = self.records.put(key, self.end, bytes.len() as u64) else {
+            unreachable!();
+        };
+        self.end += bytes.len() as u64;
+        Ok(())
     }
 
     /// The number of distinct keys that were put.
@@ -194,14 +187,18 @@ where
         self.records.len() == 0
     }
 
-    /// Makes the two files firm, where a pair was put: syncs the fields, writes the index and syncs it. The draft that
-    /// comes back with an `Err` holds the same pairs, and may be put to or sealed again.
+    /// Makes the two files firm, where a pair was put: syncs the fields, writes the index and syncs it, in this order. The
+    /// draft that comes back with an `Err` holds the same pairs, and may be put to or sealed again; the steps before the
+    /// one that failed are done.
     ///
     /// `Fault` comes only where a count of faults of one of the two files rose. After `NoMemory` nothing was written.
     pub fn seal(self, alloc: Global) -> Result<Segment<F, H::Sealed>, (Draft<F, H>, Down<F>)>
         requires { 0 < length self.held.records }
         ensures sealed { IfOk result (λ s. (b : List Pair) → Puts self b → IsSealed self b s) }
         ensures files { IfOk result (IsOf self.origin) }
+        ensures fields { IfOk result (λ s. s.files.fields ≡ option_map (λ f. f.reads) (option_map synced self.field_file)) }
+        ensures index { IfOk result (λ s. s.files.index ≡ option_map (λ f. f.reads) (option_map synced (with_front (index_of self.held.records) self.index_file))) }
+        ensures stops { IfErr result (λ e. OnFault e.1 (StopsSealing (index_of self.held.records) self.field_file self.index_file e.0.field_file e.0.index_file)) }
         ensures back { IfErr result (λ e. (b : List Pair) → Puts self b → Puts e.0 b) }
         ensures same { IfErr result (λ e. HoldsSame self e.0) }
         ensures untouched { IfErr result (λ e. OnNoMemory e.1 (e.0 ≡ self)) }

@@ -12,8 +12,6 @@ pub enum PutFault<F> {
         /// The number of reserved bytes that no key takes.
         left: u32,
     },
-    /// An allocation was refused.
-    NoMemory,
 }
 
 /// What is wrong with a listed batch.

@@ -3,6 +3,7 @@ ghost use Rattle.fd_bytes.specs.Causes.{Rose};
 ghost use Rattle.fd_disk.specs.Causes.{OnFault, OnNoMemory};
 ghost use Rattle.fd_disk.specs.Images.{synced, written};
 ghost use Rattle.fd_index.specs.Pages.{IsIndex, index_of};
+ghost use Rattle.fd_segment.specs.Steps.{StopsSealing};
 
 use fd_disk::{Disk, Down};
 use fd_index::IndexBuilder;
@@ -25,6 +26,7 @@ pub(crate) fn make_firm<F: Send, T: Disk<F>>(
     ensures extent { T.extent fields.new ≡ T.extent fields.old }
     ensures name { (T.name fields.new ≡ T.name fields.old) × (T.name index.new ≡ T.name index.old) }
     ensures made { (T.made fields.new ≡ T.made fields.old) × (T.made index.new ≡ T.made index.old) }
+    ensures stops { IfErr result (λ e. OnFault e (StopsSealing (index_of records.now.records) (T.file fields.old) (T.file index.old) (T.file fields.new) (T.file index.new))) }
     ensures same { OnErr result (option_map (λ f. f.reads) (T.file fields.new) ≡ option_map (λ f. f.reads) (T.file fields.old)) }
     ensures told { (is_some (T.file fields.new) ≡ is_some (T.file fields.old)) × (is_some (T.file index.new) ≡ is_some (T.file index.old)) }
     ensures untouched { IfErr result (λ e. OnNoMemory e ((fields.new ≡ fields.old) × (index.new ≡ index.old))) }

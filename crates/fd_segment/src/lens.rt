@@ -1,10 +1,12 @@
-ghost use Rattle.std.specs.Prelude.{◌≡◌, ◌≤◌, ◌+◌, take, IfOk, IfErr, OnOk, IfSome};
+ghost use Rattle.std.specs.Prelude.{◌≡◌, ◌≤◌, ◌+◌, ℕ, List, Option, take, IfOk, IfErr, OnOk, IfSome};
 ghost use Rattle.fd_disk.specs.Names.{name_of};
 ghost use Rattle.fd_bytes.specs.Causes.{Rose};
-ghost use Rattle.fd_segment.specs.Causes.{IsBadIndex, IsBeyond, IsPlace, OnCopyFault, OnDamaged, OnLensFault, StandsForNone, UnlessWrite};
+ghost use Rattle.fd_pages.specs.Paging.{HasRead, digits};
+ghost use Rattle.fd_pages.specs.Parts.{IsSeen, pages_by};
+ghost use Rattle.fd_segment.specs.Causes.{IsBadIndex, IsFindDamage, IsPlace, OnCopyFault, OnDamaged, OnLensFault, StandsForNone, UnlessWrite, lens_fault};
 ghost use Rattle.fd_segment.specs.Copying.{IsBatchIndex, IsCopied, IsCopiedInPart, IsOfBatch};
+ghost use Rattle.fd_segment.specs.Counts.{HasCopied, KeepsFieldCounts, KeepsIndexCounts, paging_of};
 ghost use Rattle.fd_segment.specs.Held.{IsIndexOf};
-ghost use Rattle.fd_index.specs.Records.{Rising};
 
 use crate::copying::copy_pieces;
 use crate::fault::{CopyFault, Damage, LensFault};
@@ -12,40 +14,42 @@ use fd_core::Entry;
 use fd_disk::{FileKind, FileName, Reader};
 use fd_index::{Index, IndexFault};
 use fd_io::Sink;
+use fd_pages::{Paged, PagedFault};
 use std::alloc::Global;
 use std::marker::{Model, PhantomData};
 
-/// A segment that is open for reading.
+/// A segment that is open for reading. Its index is read page by page, as look-ups need it, and 8 pages of it are kept.
 pub struct Lens<F: Send, R: Reader<F>> {
     entry: Entry,
-    index: Index,
-    index_file: R,
+    index: Paged<F, R>,
     field_file: R,
     of: PhantomData<F>,
 }
 
 impl<F: Send, R: Reader<F>> Model for Lens<F, R> {
     ghost use Rattle.std.specs.Prelude.{◌≡◌, ◌≤◌};
-    ghost use Rattle.fd_index.specs.Records.{Rising};
-    ghost use Rattle.fd_segment.specs.Held.{IsIndexOf, Opened};
+    ghost use Rattle.fd_segment.specs.Held.{Opened};
 
     ghost Value = { Opened };
 
     ghost view = { λ l. record {
-      files = record { entry = l.entry; index = R.bytes l.index_file; fields = R.bytes l.field_file };
-      index_faults = R.faults l.index_file;
+      files = record { entry = l.entry; index = l.index.bytes; fields = R.bytes l.field_file };
+      index_faults = l.index.faults;
       field_faults = R.faults l.field_file;
+      index_reads = l.index.reads;
+      index_asked = l.index.asked;
+      field_reads = R.reads l.field_file;
+      field_asked = R.asked l.field_file;
     } };
 
-    ghost invariant = { λ l. (l.entry.index_len ≤ R.len l.index_file) × (l.entry.fields_len ≤ R.len l.field_file) × Rising l.index × IsIndexOf l.entry (R.bytes l.index_file) l.index };
+    ghost invariant = { λ l. (l.index.len ≡ l.entry.index_len) × (l.entry.fields_len ≤ R.len l.field_file) };
 }
 
-impl<F: Send, R: Reader<F> + Drop> Drop for Lens<F, R> {
+impl<F: Send, R: Reader<F>> Drop for Lens<F, R> {
     fn drop(self) {
         let Lens {
             entry: _,
             index: _,
-            index_file: _,
             field_file: _,
             of: _,
         } = self;
@@ -53,37 +57,44 @@ impl<F: Send, R: Reader<F> + Drop> Drop for Lens<F, R> {
 }
 
 impl<F: Send, R: Reader<F>> Lens<F, R> {
-    /// A lens over two files of an entry, whose index was read.
-    pub(crate) fn new(entry: Entry, index: Index, index_file: R, field_file: R) -> Lens<F, R>
-        requires index_len { entry.index_len ≤ R.len index_file }
+    /// A lens over two files of an entry, whose index was opened.
+    pub(crate) fn new(entry: Entry, index: Paged<F, R>, field_file: R) -> Lens<F, R>
+        requires index_len { index.len ≡ entry.index_len }
         requires fields_len { entry.fields_len ≤ R.len field_file }
-        requires rising { Rising index }
-        requires read { IsIndexOf entry (R.bytes index_file) index }
-        ensures { result.files ≡ record { entry = entry; index = R.bytes index_file; fields = R.bytes field_file } }
+        ensures files { result.files ≡ record { entry = entry; index = index.bytes; fields = R.bytes field_file } }
+        ensures index { (result.index_reads ≡ index.reads) × (result.index_asked ≡ index.asked) }
+        ensures fields { (result.field_reads ≡ R.reads field_file) × (result.field_asked ≡ R.asked field_file) }
     {
         Lens {
             entry,
             index,
-            index_file,
             field_file,
             of: PhantomData,
         }
     }
 
     /// The place and the length of the key's newest bytes in the field file, or none where the batch doesn't have the key.
-    /// `Damaged` is here only `Beyond`, where the key's record ends beyond the fields.
-    pub fn find(&mut self, key: &[u8]) -> Result<Option<(u64, u64)>, LensFault<F>>
+    /// Reads as many pages of the index as their number has binary digits, at most, also before a refusal. `Damaged` is
+    /// here only `Index`, where a page that was read isn't in the format by itself, and `Beyond`, where the key's record
+    /// ends beyond the fields; it never comes where the files stand for a batch. `Fault` comes only where the index file's
+    /// count of faults rose.
+    pub fn find(&mut self, alloc: Global, key: &[u8]) -> Result<Option<(u64, u64)>, LensFault<F>>
         ensures place { IfOk result (IsPlace self.old.files.entry self.old.files.index key.now) }
+        ensures seen { IfOk result (IsSeen self.old.files.index self.old.files.entry.index_len key.now) }
         ensures batch { IfOk result (IsOfBatch self.old.files key.now) }
         ensures inside { IfOk result (λ o. IfSome o (λ p. p.0 + p.1 ≤ self.old.files.entry.fields_len)) }
-        ensures damaged { IfErr result (λ e. OnDamaged e (IsBeyond self.old.files.entry self.old.files.index key.now)) }
+        ensures damaged { IfErr result (λ e. OnDamaged e (IsFindDamage self.old.files.entry self.old.files.index key.now)) }
         ensures sound { IfErr result (λ e. OnDamaged e (λ _. StandsForNone self.old.files)) }
         ensures files { self.new.files ≡ self.old.files }
+        ensures few { HasRead (digits (pages_by self.old.files.entry.index_len)) (paging_of self.old) (paging_of self.new) }
+        ensures unread { KeepsFieldCounts self.old self.new }
         ensures later { (self.old.index_faults ≤ self.new.index_faults) × (self.old.field_faults ≤ self.new.field_faults) }
         ensures cause { IfErr result (λ e. OnLensFault e (Rose self.old.index_faults self.new.index_faults)) }
     {
-        let Some((at, len)) = self.index.find(key) else {
-            return Ok(None);
+        let (at, len) = match self.index.find(alloc, key) {
+            Ok(Some(place)) => place,
+            Ok(None) => return Ok(None),
+            Err(fault) => return Err(lens_fault(&self.entry, fault)),
         };
         let end = u128::from(at) + u128::from(len);
         if end <= u128::from(self.entry.fields_len) {
@@ -96,20 +107,26 @@ impl<F: Send, R: Reader<F>> Lens<F, R> {
         }))
     }
 
-    /// Reads the index file again, and answers the index that its first bytes are, as many as the entry says.
+    /// Reads the index file as a whole, and answers the index that its first bytes are, as many as the entry says.
     pub fn records(&mut self, alloc: Global) -> Result<Index, LensFault<F>>
         ensures read { IfOk result (λ rs. IsIndexOf self.old.files.entry self.old.files.index rs) }
         ensures batch { IfOk result (IsBatchIndex self.old.files) }
         ensures damaged { IfErr result (λ e. OnDamaged e (IsBadIndex self.old.files.entry self.old.files.index)) }
         ensures files { self.new.files ≡ self.old.files }
+        ensures unread { KeepsFieldCounts self.old self.new }
         ensures later { (self.old.index_faults ≤ self.new.index_faults) × (self.new.field_faults ≡ self.old.field_faults) }
         ensures cause { IfErr result (λ e. OnLensFault e (Rose self.old.index_faults self.new.index_faults)) }
     {
-        read_index(alloc, &mut self.index_file, &self.entry)
+        let bytes = match self.index.read_all(alloc) {
+            Ok(bytes) => bytes,
+            Err(fault) => return Err(lens_fault(&self.entry, fault)),
+        };
+        read_index(alloc, &bytes, &self.entry)
     }
 
     /// Copies the bytes at a place of the field file into the sink, in pieces of 4096 bytes. After an `Err` a front of
-    /// them was written, and the sink's count of faults rose where it is `Write`, and else stayed.
+    /// them was written, and the sink's count of faults rose where it is `Write`, and else stayed. Each piece is one read,
+    /// which asks for its bytes alone.
     pub fn copy_to<X, K: Sink<X>>(
         &mut self,
         at: u64,
@@ -120,6 +137,8 @@ impl<F: Send, R: Reader<F>> Lens<F, R> {
         ensures ok { OnOk result (IsCopied self.old.files.fields at len (K.taken sink.old) (K.taken sink.new)) }
         ensures err { IfErr result (λ _. IsCopiedInPart self.old.files.fields at len (K.taken sink.old) (K.taken sink.new)) }
         ensures files { self.new.files ≡ self.old.files }
+        ensures few { HasCopied len self.old self.new }
+        ensures unread { KeepsIndexCounts self.old self.new }
         ensures later { (self.new.index_faults ≡ self.old.index_faults) × (self.old.field_faults ≤ self.new.field_faults) }
         ensures sink { K.faults sink.old ≤ K.faults sink.new }
         ensures calm { UnlessWrite result (K.faults sink.new ≡ K.faults sink.old) }
@@ -140,47 +159,27 @@ fn file_name(entry: &Entry, kind: FileKind) -> FileName
     }
 }
 
-/// Reads the first bytes of an index file, as many as the entry says.
-fn read_front<F: Send, R: Reader<F>>(
-    alloc: Global,
-    file: &mut R,
-    len: u64,
-) -> Result<Vec<u8>, LensFault<F>>
-    requires { len ≤ R.len file.old }
-    ensures front { IfOk result (λ v. IfSome (R.bytes file.old) (λ bytes. v.items ≡ take len bytes)) }
-    ensures damaged { IfErr result (λ e. OnDamaged e (λ _. ⊥)) }
-    ensures bytes { R.bytes file.new ≡ R.bytes file.old }
-    ensures len { R.len file.new ≡ R.len file.old }
-    ensures later { R.faults file.old ≤ R.faults file.new }
-    ensures cause { IfErr result (λ e. OnLensFault e (Rose (R.faults file.old) (R.faults file.new))) }
+/// The answer for a refusal of the paged index.
+pub(crate) fn lens_fault<F>(entry: &Entry, fault: PagedFault<F>) -> LensFault<F>
+    ensures { result ≡ lens_fault entry.now fault }
 {
-    let mut bytes = Vec::new(alloc);
-    if bytes.resize(len as usize, 0).is_err() {
-        return Err(LensFault::NoMemory);
-    }
-    match file.read_at(0, &mut bytes) {
-        Ok(_) => Ok(bytes),
-        Err(fault) => Err(LensFault::Fault(fault)),
+    match fault {
+        PagedFault::Fault(fault) => LensFault::Fault(fault),
+        PagedFault::BadIndex { at } => LensFault::Damaged(Damage::Index {
+            file: file_name(entry, FileKind::Index),
+            at,
+        }),
+        PagedFault::NoMemory => LensFault::NoMemory,
     }
 }
 
-/// Reads the index that the first bytes of its file are, as many as the entry says.
-pub(crate) fn read_index<F: Send, R: Reader<F>>(
-    alloc: Global,
-    file: &mut R,
-    entry: &Entry,
-) -> Result<Index, LensFault<F>>
-    requires { entry.now.index_len ≤ R.len file.old }
-    ensures read { IfOk result (IsIndexOf entry.now (R.bytes file.old)) }
-    ensures rising { IfOk result Rising }
-    ensures damaged { IfErr result (λ e. OnDamaged e (IsBadIndex entry.now (R.bytes file.old))) }
-    ensures bytes { R.bytes file.new ≡ R.bytes file.old }
-    ensures len { R.len file.new ≡ R.len file.old }
-    ensures later { R.faults file.old ≤ R.faults file.new }
-    ensures cause { IfErr result (λ e. OnLensFault e (Rose (R.faults file.old) (R.faults file.new))) }
+/// Reads the index that these bytes of the entry's index file are.
+fn read_index<F>(alloc: Global, bytes: &[u8], entry: &Entry) -> Result<Index, LensFault<F>>
+    ensures read { (file : Option (List ℕ)) → IfSome file (λ b. bytes.now ≡ take entry.now.index_len b) → IfOk result (IsIndexOf entry.now file) }
+    ensures damaged { (file : Option (List ℕ)) → IfSome file (λ b. bytes.now ≡ take entry.now.index_len b) → IfErr result (λ e. OnDamaged e (IsBadIndex entry.now file)) }
+    ensures cause { IfErr result (λ e. OnLensFault e ⊥) }
 {
-    let bytes = read_front(alloc, file, entry.index_len)?;
-    match Index::read(alloc, &bytes) {
+    match Index::read(alloc, bytes) {
         Ok(index) => Ok(index),
         Err(IndexFault::BadIndex { at }) => Err(LensFault::Damaged(Damage::Index {
             file: file_name(entry, FileKind::Index),

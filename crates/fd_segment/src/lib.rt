@@ -13,6 +13,3 @@ pub use draft::{Draft, Room};
 pub use fault::{CopyFault, Damage, LensFault, PutFault};
 pub use lens::Lens;
 pub use segment::Segment;
-
-#[cfg(test)]
-mod tests;

@@ -1,16 +1,18 @@
-ghost use Rattle.std.specs.Prelude.{◌≡◌, ◌≤◌, ◌⊎◌, true, Ok, Some, IfOk, IfErr, OnOk, OnErr, IfSome, IsOk};
+ghost use Rattle.std.specs.Prelude.{◌≡◌, ◌≤◌, ◌⊎◌, true, take, Ok, Some, IfOk, IfErr, OnOk, OnErr, IfSome};
 ghost use Rattle.fd_disk.specs.declared.folders.FileKind.TheVariants.{Fields, Index};
 ghost use Rattle.fd_disk.specs.declared.folders.FileName.{FileName};
 ghost use Rattle.fd_disk.specs.Folders.{keeping};
 ghost use Rattle.fd_disk.specs.Names.{name_of};
-ghost use Rattle.fd_segment.specs.Causes.{IsBadIndex, OnDamaged};
-ghost use Rattle.fd_segment.specs.Held.{records_in};
+ghost use Rattle.fd_pages.specs.Parts.{HasFrame};
+ghost use Rattle.fd_segment.specs.Causes.{IsBadFrame, IsBadIndex, OnDamaged};
+ghost use Rattle.fd_segment.specs.Counts.{HasReadFrame};
 
 use crate::fault::LensFault;
-use crate::lens::{Lens, read_index};
+use crate::lens::{Lens, lens_fault};
 use fd_bytes::NoMemory;
 use fd_core::Entry;
 use fd_disk::{Down, Sealed, Shelf};
+use fd_pages::Paged;
 use std::alloc::Global;
 use std::marker::{Model, PhantomData};
 use std::sync::Mutex;
@@ -53,7 +55,7 @@ impl<F: Send, Z: Sealed<F>> Model for Segment<F, Z> {
     ghost invariant = { λ s. (Z.name s.index_file ≡ Z.name s.field_file) × (s.index_len ≤ Z.len s.index_file) × (s.fields_len ≤ Z.len s.field_file) };
 }
 
-impl<F: Send, Z: Sealed<F> + Drop> Drop for Segment<F, Z> {
+impl<F: Send, Z: Sealed<F>> Drop for Segment<F, Z> {
     fn drop(self) {
         let Segment {
             writer: _,
@@ -134,22 +136,24 @@ impl<F: Send, Z: Sealed<F>> Segment<F, Z> {
     }
 }
 
-impl<F: Send, Z: Sealed<F>> Segment<F, Z>
-where
-    Z::Reader: Drop,
-{
-    /// Opens both files for reading, and reads the index. `Damaged` is here only `Index`, exactly where the index isn't in
-    /// its format.
+impl<F: Send, Z: Sealed<F>> Segment<F, Z> {
+    /// Opens both files for reading, and reads the first eight bytes and the footer of the index. `Damaged` is here only
+    /// `Index`, exactly where the length, these eight bytes, the footer's mark or its number of pages isn't in the format,
+    /// with the place of the first of them that isn't.
     pub fn lens(&self, alloc: Global) -> Result<Lens<F, Z::Reader>, LensFault<F>>
         ensures files { IfOk result (λ l. l.files ≡ self.now.files) }
-        ensures read { IfOk result (λ l. IfSome self.now.files.index (λ index. IsOk (records_in self.now.files.entry index))) }
+        ensures frame { IfOk result (λ l. IfSome self.now.files.index (λ index. HasFrame (take self.now.files.entry.index_len index))) }
+        ensures part { IfErr result (λ e. OnDamaged e (IsBadFrame self.now.files.entry self.now.files.index)) }
         ensures damaged { IfErr result (λ e. OnDamaged e (IsBadIndex self.now.files.entry self.now.files.index)) }
+        ensures few { IfOk result HasReadFrame }
     {
         let field_file = opened(alloc, &self.field_file)?;
-        let mut index_file = opened(alloc, &self.index_file)?;
+        let index_file = opened(alloc, &self.index_file)?;
         let entry = self.entry();
-        let index = read_index(alloc, &mut index_file, &entry)?;
-        Ok(Lens::new(entry, index, index_file, field_file))
+        match Paged::start(alloc, index_file, entry.index_len) {
+            Ok(index) => Ok(Lens::new(entry, index, field_file)),
+            Err(fault) => Err(lens_fault(&entry, fault)),
+        }
     }
 }
 
@@ -157,6 +161,7 @@ where
 fn opened<F: Send, Z: Sealed<F>>(alloc: Global, file: &Z) -> Result<Z::Reader, LensFault<F>>
     ensures bytes { IfOk result (λ r. Z.Reader.bytes r ≡ Z.bytes file.now) }
     ensures len { IfOk result (λ r. Z.Reader.len r ≡ Z.len file.now) }
+    ensures new { IfOk result (λ r. (Z.Reader.reads r ≡ 0) × (Z.Reader.asked r ≡ 0)) }
     ensures damaged { IfErr result (λ e. OnDamaged e (λ _. ⊥)) }
 {
     match file.reader(alloc) {

@@ -1,6 +1,6 @@
-use Rattle.std.proofs.Common.{◌≡◌, ◌+◌, length, take, arith, ◌∙◌, ap, subst, length-take}
+use Rattle.std.proofs.Common.{◌≡◌, ◌+◌, length, take, arith, ◌∙◌, length-take}
 use Rattle.fd_segment.specs.Copying.{IsCopied, IsCopiedInPart}
-use Rattle.fd_segment.proofs.Copied.{copied_more, part_more}
+use Rattle.fd_segment.proofs.Copied.{copied_more, part_more, pieces_more, pieces_tried}
 use Rattle.fd_segment.proofs.copying.copy_pieces.Goals as goal
 
 pub pieces-preserved : goal.pieces-preserved
@@ -16,6 +16,9 @@ pieces-preserved g c =
       len = c.in-Ok.ensures.len ∙ c.pieces.invariant.len;
       later = omega arith;
       calm = c.in-Ok.ensures.calm ∙ c.pieces.invariant.calm;
+      reads = pieces_more (g.R.Reader.reads c.args.file.now) (g.R.Reader.reads c.pieces.file) (g.R.Reader.reads c.copy_piece.new.file) c.pieces.done n c.pieces.invariant.reads c.in-Ok.ensures.reads (c.pieces.invariant.whole c.pieces-test.true) (omega arith);
+      asked = omega (arith, c.pieces.invariant.asked, c.in-Ok.ensures.asked, long);
+      whole = λ left. let before = c.pieces.invariant.whole c.pieces-test.true in omega (arith, left, before);
       sink = omega arith;
     }
 
@@ -26,3 +29,13 @@ returns-in-Err-clause-err g c =
     let step : IsCopiedInPart (g.R.Reader.bytes c.args.file.now) (c.args.at + c.pieces.done) n (g.K.Sink.taken c.pieces.sink) (g.K.Sink.taken c.copy_piece.new.sink) =
     rw (← c.pieces.invariant.bytes, ← long) c.in-Err.ensures.err in
     part_more _ _ _ n _ _ _ _ (omega arith) c.pieces.invariant.copied step
+
+pub returns-in-Err-clause-reads : goal.returns-in-Err-clause-reads
+returns-in-Err-clause-reads g c =
+    pieces_tried (g.R.Reader.reads c.args.file.now) (g.R.Reader.reads c.pieces.file) (g.R.Reader.reads c.copy_piece.new.file) c.pieces.done c.args.len c.pieces.invariant.reads c.in-Err.ensures.reads (c.pieces.invariant.whole c.pieces-test.true) c.pieces-test.true
+
+pub returns-in-Err-clause-asked : goal.returns-in-Err-clause-asked
+returns-in-Err-clause-asked g c =
+    let n = c.min-n.result in
+    let long : length (take n c.pieces.buffer) ≡ n = omega (arith, length-take n c.pieces.buffer) in
+    omega (arith, c.pieces.invariant.asked, c.in-Err.ensures.asked, long)

@@ -1,5 +1,6 @@
-use Rattle.std.proofs.Common.{◌≡◌, ◌≤◌, ◌-◌, List, ℕ}
+use Rattle.std.proofs.Common.{◌≡◌, ◌≤◌, ◌<◌, ◌+◌, ◌-◌, ◌%◌}
 use Rattle.fd_segment.specs.Copying.{IsCopied}
+use Rattle.fd_segment.specs.Counts.{pieces}
 use Rattle.fd_segment.proofs.copying.copy_pieces.Given as goal
 
 abbrev pub invariant-pieces : goal.invariant-pieces
@@ -10,6 +11,9 @@ invariant-pieces g l = record {
   len : g.R.Reader.len l.file ≡ g.R.Reader.len l.fn.file;
   later : g.R.Reader.faults l.fn.file ≤ g.R.Reader.faults l.file;
   calm : g.K.Sink.faults l.sink ≡ g.K.Sink.faults l.fn.sink;
+  reads : g.R.Reader.reads l.file ≤ g.R.Reader.reads l.fn.file + pieces l.done;
+  asked : g.R.Reader.asked l.file ≤ g.R.Reader.asked l.fn.file + l.done;
+  whole : l.done < l.len → l.done % 4096 ≡ 0;
   sink : g.K.Sink.faults l.fn.sink ≤ g.K.Sink.faults l.sink;
 }
 

@@ -1,7 +1,6 @@
-use Rattle.std.proofs.Common.{◌∙◌, ap, is_some}
-use Rattle.fd_index.specs.Records.{place_of}
-use Rattle.fd_index.proofs.Putting.{look_up}
+use Rattle.std.proofs.Common.{◌∙◌}
+use Rattle.fd_index.proofs.Placing.{held_at}
 use Rattle.fd_index.proofs.builder.IndexBuilder.is_held.Goals as goal
 
 pub returns : goal.returns
-returns c = c.contains_key.ensures ∙ ap is_some (look_up c.args.key.now c.self.inside.places.entries) ∙ ap (λ h. is_some (place_of c.args.key.now h.records)) c.self.view_is
+returns c = c.is_ok.ensures.value ∙ held_at c.args.self.now.records c.args.key.now c.position.result c.position.ensures

@@ -1,5 +1,10 @@
+use Rattle.std.proofs.Common.{refl, rules}
+use Rattle.std.specs.Prelude.{IfOk}
+use Rattle.fd_segment.specs.Held.{IsIndexOf}
 use Rattle.fd_segment.proofs.Looking.{batch_index_ok}
 use Rattle.fd_segment.proofs.lens.Lens.records.Goals as goal
 
 pub returns-clause-batch : goal.returns-clause-batch
-returns-clause-batch g c = batch_index_ok _ c.read_index.result _ _ c.self.view_is c.read_index.ensures.read
+returns-clause-batch g c =
+    let read : IfOk c.read_index.result (IsIndexOf c.args.self.now.files.entry c.args.self.now.files.index) = search rules in
+    batch_index_ok _ c.read_index.result c.args.self.now c.args.self.now refl read

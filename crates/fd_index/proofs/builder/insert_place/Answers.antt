@@ -1,8 +1,0 @@
-use Rattle.fd_index.proofs.Putting.{put_made}
-use Rattle.fd_index.proofs.builder.insert_place.Goals as goal
-
-pub returns-clause-ok : goal.returns-clause-ok
-returns-clause-ok c =
-    let i = c.in_ok-before.ensures in
-    put_made c.args.places.now.entries c.insert.new.self.entries c.in_ok-text.text c.args.key.now c.args.place c.in_ok-before.before c.is_none.result
-    c.in_ok-text.ensures.items i.entries i.ordered i.old i.len c.is_none.ensures

@@ -1,0 +1,11 @@
+//! An index file that is read page by page: a look-up reads as many pages as the number of pages has binary digits, at
+//! most, and keeps the last 8.
+#![tactic(auto)]
+
+mod fault;
+mod frame;
+mod paged;
+mod reading;
+
+pub use fault::PagedFault;
+pub use paged::Paged;
