@@ -1,5 +1,6 @@
-//! The table of contents of a dataset, and the machine that the store is proved by: writers who list batches in the
-//! table, readers who fetch what is listed, and a disk whose calls may fail and which may crash after any of them.
+//! The table of contents of a dataset, and a machine that models the store: writers who list batches in the table, readers
+//! who fetch what is listed, and a disk whose calls may fail and which may crash after any of them. `docs/MACHINE.md` says
+//! which running calls are tied to its steps.
 #![tactic(auto)]
 
 mod batch;

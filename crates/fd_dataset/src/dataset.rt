@@ -1,4 +1,4 @@
-ghost use Rattle.std.specs.Prelude.{◌≡◌, ◌<◌, ◌≤◌, ◌+◌, ◌*◌, ◌⊎◌, ◌++◌, ℕ, List, [], ◌∷◌, length, map, Option, Some, None, Err, IfOk, IfErr, OnErr, Contains};
+ghost use Rattle.std.specs.Prelude.{◌≡◌, ◌<◌, ◌≤◌, ◌+◌, ◌*◌, ◌⊎◌, ◌++◌, ℕ, List, [], ◌∷◌, length, map, Option, Some, None, Err, is_some, IfOk, IfErr, OnErr, Contains};
 ghost use mathlib.Core.List.{IsPrefix};
 ghost use Rattle.std.specs.Arc.{arc_value};
 ghost use Rattle.fd_core.specs.declared.batch.Listing.{Listing};
@@ -28,11 +28,11 @@ pub type DatasetPass<F, T, Z> = Pass<Segments<F, Z>, Desk<F, T, Z>>;
 
 /// The table of contents of a dataset, which many callers share by `&`, also in threads. It ends by `close`.
 #[derive(Drop)]
-pub struct Dataset<F: Send, T: Disk<F>, Z: Sealed<F> + Drop> {
+pub struct Dataset<F: Send, T: Disk<F>, Z: Sealed<F>> {
     board: Board<Segments<F, Z>, Desk<F, T, Z>>,
 }
 
-impl<F: Send, T: Disk<F>, Z: Sealed<F> + Drop> Model for Dataset<F, T, Z> {
+impl<F: Send, T: Disk<F>, Z: Sealed<F>> Model for Dataset<F, T, Z> {
     ghost use Rattle.fd_turn.specs.Passes.{BoardId, identity};
 
     ghost Value = { BoardId };
@@ -40,9 +40,10 @@ impl<F: Send, T: Disk<F>, Z: Sealed<F> + Drop> Model for Dataset<F, T, Z> {
     ghost view = { λ d. identity d.board };
 }
 
-impl<F: Send, T: Disk<F>, Z: Sealed<F> + Drop> Dataset<F, T, Z> {
+impl<F: Send, T: Disk<F>, Z: Sealed<F>> Dataset<F, T, Z> {
     /// A dataset over a table in which nothing is in doubt, with one segment for each of its entries, in order; and its
-    /// one pass, which has every part and no doubts. Where there is no memory the table comes back.
+    /// one pass, which has every part and no doubts, and says whether the table tells its bytes. Where there is no memory
+    /// the table comes back.
     pub fn new(
         alloc: Global,
         toc: Toc<F, T>,
@@ -53,7 +54,7 @@ impl<F: Send, T: Disk<F>, Z: Sealed<F> + Drop> Dataset<F, T, Z> {
         requires name { T.name toc.table ≡ toc.dataset }
         requires names { AreOf (T.name toc.table) segments.items }
         ensures own { IfOk result (λ r. IsOf r.0 r.1) }
-        ensures pass { IfOk result (λ r. view r.1 ≡ first_view (T.name toc.table) (listings segments.items)) }
+        ensures pass { IfOk result (λ r. view r.1 ≡ first_view (T.name toc.table) (is_some (T.file toc.table)) (listings segments.items)) }
         ensures err { IfErr result (λ e. e.0 ≡ toc) }
     {
         let _ = toc.entries();
@@ -203,8 +204,8 @@ impl<F: Send, T: Disk<F>, Z: Sealed<F> + Drop> Dataset<F, T, Z> {
 
     /// Ends the dataset, by the pass that has every part, and hands the table back. Its entries begin with those of the
     /// pass's history, and are as many as the dataset began with and the pass's amount together; each writer is at most
-    /// 65,536 times the number of its entry. An entry in doubt is that
-    /// of one of the pass's doubts.
+    /// 65,536 times the number of its entry. An entry in doubt is that of one of the pass's doubts. The table tells its
+    /// bytes exactly where the one did that the dataset began with.
     pub fn close(self, pass: DatasetPass<F, T, Z>) -> Toc<F, T>
         requires own { IsOf self pass }
         requires free { (view pass).lock ≡ Free }
@@ -213,6 +214,7 @@ impl<F: Send, T: Disk<F>, Z: Sealed<F> + Drop> Dataset<F, T, Z> {
         ensures count { length result.entries ≡ (view pass).opening + (view pass).amount }
         ensures name { T.name result.table ≡ (view pass).subject }
         ensures dataset { result.dataset ≡ (view pass).subject }
+        ensures told { is_some (T.file result.table) ≡ (view pass).told }
         ensures fit { AllFit 0 result.entries }
         ensures doubt { (e : Entry) → result.doubt ≡ Some e → (l : Listing) × Contains (view pass).doubts l × (l.entry ≡ e) }
     {
@@ -231,7 +233,7 @@ impl<F: Send, T: Disk<F>, Z: Sealed<F> + Drop> Dataset<F, T, Z> {
 type Lists<F, Z> = (Segments<F, Z>, Vec<Arc<Segment<F, Z>>>);
 
 // The list with one segment more, twice, and room for its entry in the table.
-fn prepared<F: Send, T: Disk<F>, Z: Sealed<F> + Drop>(
+fn prepared<F: Send, T: Disk<F>, Z: Sealed<F>>(
     alloc: Global,
     mut desk: Desk<F, T, Z>,
     segment: &Arc<Segment<F, Z>>,
@@ -240,6 +242,7 @@ fn prepared<F: Send, T: Disk<F>, Z: Sealed<F> + Drop>(
     requires name { (arc_value segment.now).dataset ≡ desk.toc.dataset }
     ensures desk { (result.0.segments.items ≡ desk.segments.items) × (result.0.doubted ≡ desk.doubted) }
     ensures name { result.0.toc.dataset ≡ desk.toc.dataset }
+    ensures table { result.0.toc.table ≡ desk.toc.table }
     ensures subject { IfOk result.1 (λ l. (arc_value l.0.shown).name ≡ desk.toc.dataset) }
     ensures of { IfOk result.1 (λ l. AreOf desk.toc.dataset l.1.items) }
     ensures shown { IfOk result.1 (λ l. listings (arc_value l.0.shown).list.items ≡ listings desk.segments.items ++ listing_of segment.now ∷ []) }
@@ -265,7 +268,7 @@ fn prepared<F: Send, T: Disk<F>, Z: Sealed<F> + Drop>(
 }
 
 // The segments with one more.
-fn longer<F: Send, Z: Sealed<F> + Drop>(
+fn longer<F: Send, Z: Sealed<F>>(
     alloc: Global,
     segments: &Vec<Arc<Segment<F, Z>>>,
     segment: &Arc<Segment<F, Z>>,
@@ -280,7 +283,7 @@ fn longer<F: Send, Z: Sealed<F> + Drop>(
 }
 
 // The same segments.
-fn copied<F: Send, Z: Sealed<F> + Drop>(
+fn copied<F: Send, Z: Sealed<F>>(
     alloc: Global,
     segments: &Vec<Arc<Segment<F, Z>>>,
 ) -> Result<Vec<Arc<Segment<F, Z>>>, AllocError>
@@ -296,7 +299,7 @@ fn copied<F: Send, Z: Sealed<F> + Drop>(
 }
 
 // Lists the segment in the table. The list that is given is the new one.
-fn appended<F: Send, T: Disk<F>, Z: Sealed<F> + Drop>(
+fn appended<F: Send, T: Disk<F>, Z: Sealed<F>>(
     desk: Desk<F, T, Z>,
     own: Vec<Arc<Segment<F, Z>>>,
     segment: Arc<Segment<F, Z>>,
@@ -307,6 +310,7 @@ fn appended<F: Send, T: Disk<F>, Z: Sealed<F> + Drop>(
     requires writer { (entry_of segment).writer ≤ greatest_writer (length desk.toc.entries) }
     requires of { AreOf desk.toc.dataset own.items }
     ensures name { result.0.toc.dataset ≡ desk.toc.dataset }
+    ensures told { is_some (T.file result.0.toc.table) ≡ is_some (T.file desk.toc.table) }
     ensures ok { IfOk result.1 (λ n. (result.0.segments.items ≡ own.items) × (result.0.doubted ≡ None) × (n ≡ length own.items)) }
     ensures err { OnErr result.1 ((result.0.segments.items ≡ desk.segments.items) × ((result.0.doubted ≡ desk.doubted) ⊎ (result.0.doubted ≡ None) ⊎ (result.0.doubted ≡ Some segment))) }
 {

@@ -11,6 +11,3 @@ pub use dataset::{Dataset, DatasetPass};
 pub use fault::{ListFault, Receipt};
 pub use parts::{Desk, Segments, Shown};
 pub use snapshot::Snapshot;
-
-#[cfg(test)]
-mod tests;

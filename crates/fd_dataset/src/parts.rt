@@ -14,7 +14,7 @@ use std::sync::Arc;
 
 /// The listed segments in the order of their entries, and the text of the dataset, whose they are.
 #[derive(Drop)]
-pub struct Shown<F: Send, Z: Sealed<F> + Drop> {
+pub struct Shown<F: Send, Z: Sealed<F>> {
     pub(crate) list: Vec<Arc<Segment<F, Z>>>,
     pub(crate) name: Bytes,
     ghost own: { AreOf name list.items },
@@ -22,7 +22,7 @@ pub struct Shown<F: Send, Z: Sealed<F> + Drop> {
 
 /// What readers get of the listed segments, which they share.
 #[derive(Drop)]
-pub struct Segments<F: Send, Z: Sealed<F> + Drop> {
+pub struct Segments<F: Send, Z: Sealed<F>> {
     pub(crate) shown: Arc<Shown<F, Z>>,
     ghost few: { length (arc_value shown).list.items ≤ 65535 },
 }
@@ -30,7 +30,7 @@ pub struct Segments<F: Send, Z: Sealed<F> + Drop> {
 /// The table of contents, with a list of its own of the same segments, and the segment whose entry is in doubt. The
 /// entries of its list are those of the table, and a segment is kept as doubted exactly where its entry is in doubt.
 #[derive(Drop)]
-pub struct Desk<F: Send, T: Disk<F>, Z: Sealed<F> + Drop> {
+pub struct Desk<F: Send, T: Disk<F>, Z: Sealed<F>> {
     pub(crate) toc: Toc<F, T>,
     pub(crate) segments: Vec<Arc<Segment<F, Z>>>,
     pub(crate) doubted: Option<Arc<Segment<F, Z>>>,
@@ -40,7 +40,7 @@ pub struct Desk<F: Send, T: Disk<F>, Z: Sealed<F> + Drop> {
     ghost named: { T.name toc.table ≡ toc.dataset },
 }
 
-impl<F: Send, Z: Sealed<F> + Drop> Handed for Segments<F, Z> {
+impl<F: Send, Z: Sealed<F>> Handed for Segments<F, Z> {
     ghost use Rattle.fd_dataset.specs.Listed.{listings};
     ghost use Rattle.std.specs.Arc.{arc_value};
 
@@ -55,7 +55,8 @@ impl<F: Send, Z: Sealed<F> + Drop> Handed for Segments<F, Z> {
     }
 }
 
-impl<F: Send, T: Disk<F>, Z: Sealed<F> + Drop> Guarded for Desk<F, T, Z> {
+impl<F: Send, T: Disk<F>, Z: Sealed<F>> Guarded for Desk<F, T, Z> {
+    ghost use Rattle.std.specs.Prelude.{is_some};
     ghost use Rattle.fd_dataset.specs.Listed.{listings, doubted_listing};
 
     ghost list = { λ d. listings d.segments.items };
@@ -63,4 +64,6 @@ impl<F: Send, T: Disk<F>, Z: Sealed<F> + Drop> Guarded for Desk<F, T, Z> {
     ghost doubt = { λ d. doubted_listing d.doubted };
 
     ghost subject = { λ d. d.toc.dataset };
+
+    ghost told = { λ d. is_some (T.file d.toc.table) };
 }

@@ -7,11 +7,11 @@ use std::marker::Model;
 
 /// What is listed in a dataset, as of some moment. It stays as it is whatever is listed later.
 #[derive(Drop)]
-pub struct Snapshot<F: Send, Z: Sealed<F> + Drop> {
+pub struct Snapshot<F: Send, Z: Sealed<F>> {
     pub(crate) segments: Segments<F, Z>,
 }
 
-impl<F: Send, Z: Sealed<F> + Drop> Model for Snapshot<F, Z> {
+impl<F: Send, Z: Sealed<F>> Model for Snapshot<F, Z> {
     ghost use Rattle.std.specs.Prelude.{List};
     ghost use Rattle.std.specs.Arc.{arc_value};
     ghost use Rattle.fd_segment.specs.Held.{Standing};
@@ -22,7 +22,7 @@ impl<F: Send, Z: Sealed<F> + Drop> Model for Snapshot<F, Z> {
     ghost view = { λ s. standings (arc_value s.segments.shown).list.items };
 }
 
-impl<F: Send, Z: Sealed<F> + Drop> Snapshot<F, Z> {
+impl<F: Send, Z: Sealed<F>> Snapshot<F, Z> {
     /// The number of entries.
     pub fn len(&self) -> u32
         ensures count { result ≡ length self.now }

@@ -1,5 +1,6 @@
 mod SlotSteps
 mod Filled
 mod LoadSteps
+mod Fronts
 mod Meanwhile
 mod CallSteps

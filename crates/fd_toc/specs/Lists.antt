@@ -1,5 +1,5 @@
 -- Which entries bytes list.
-use Rattle.std.specs.Prelude.{◌≡◌, ◌⊎◌, ℕ, List, [], ◌∷◌, ◌++◌, Option, Some, None, Ok}
+use Rattle.std.specs.Prelude.{◌≡◌, ◌≤◌, ◌⊎◌, ℕ, List, [], ◌∷◌, ◌++◌, length, take, Option, Some, None, Ok}
 use Rattle.fd_core.specs.declared.table.Entry.{Entry}
 use Rattle.fd_core.specs.Table.{listed}
 
@@ -15,3 +15,7 @@ ListsOrAlso dataset es (Some e) c = Lists dataset es c ⊎ Lists dataset (es ++ 
 -- these entries, or these and the one in doubt, or these and the new one
 abbrev pub ListsOrOneMore : List ℕ → List Entry → Option Entry → Entry → List ℕ → Type 0
 ListsOrOneMore dataset es doubt e c = ListsOrAlso dataset es doubt c ⊎ Lists dataset (es ++ e ∷ []) c
+
+-- all of a table's bytes, or the first of them, up to the gate behind the last slot or beyond it
+abbrev pub IsFront : List ℕ → List ℕ → Type 0
+IsFront front bytes = (front ≡ bytes) ⊎ ((4194561 ≤ length front) × (front ≡ take (length front) bytes))

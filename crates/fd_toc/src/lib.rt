@@ -12,6 +12,3 @@ mod toc;
 pub use faults::{AppendFault, LoadFault};
 pub use fd_core::Entry;
 pub use toc::Toc;
-
-#[cfg(test)]
-mod tests;

@@ -3,18 +3,23 @@ ghost use Rattle.fd_bytes.specs.Causes.{Rose};
 ghost use Rattle.fd_disk.specs.Causes.{OnFault};
 ghost use Rattle.fd_disk.specs.Images.{synced};
 ghost use Rattle.fd_disk.specs.Moments.{LeavesOnly, MayLeave};
-ghost use Rattle.fd_core.specs.Table.{AllFit, listed};
-ghost use Rattle.fd_toc.specs.Lists.{Lists};
+ghost use Rattle.fd_core.specs.Table.{AllFit, IsTable, listed};
+ghost use Rattle.fd_toc.specs.Lists.{IsFront, Lists};
 ghost use Rattle.fd_toc.specs.Causes.{OnNotATable, OnLoadDisk, UnlessLoadDisk};
 
 use crate::parse::{ReadFault, parsed};
 use crate::{LoadFault, Toc};
 use fd_bytes::Bytes;
+use fd_core::Entry;
 use fd_disk::{Disk, Down};
 use std::alloc::Global;
 
+/// The octets up to the gate behind the last slot: a header of 320, 65,535 slots of 64, and a gate.
+const MOST: usize = 4_194_561;
+
 impl<F: Send, T: Disk<F>> Toc<F, T> {
     /// Opens the table of the dataset with this text of at most 255 bytes. It begins with a sync, and writes nothing.
+    /// Of a longer file it reads no more than a table has, and at most a piece of 4,096 octets behind that.
     /// The entries fit, whatever the disk tells: each writer is at most 65,536 times the number of its entry.
     ///
     /// `Disk` comes only where the table's count of faults rose. `NotATable` comes exactly where the bytes are no table
@@ -43,29 +48,50 @@ impl<F: Send, T: Disk<F>> Toc<F, T> {
         let Ok(text) = Bytes::from_slice(alloc, dataset.as_bytes()) else {
             return Err((table, LoadFault::NoMemory));
         };
-        let bytes = match read_all(alloc, &mut table) {
-            Ok(bytes) => bytes,
-            Err(Down::Fault(fault)) => return Err((table, LoadFault::Disk(fault))),
-            Err(Down::NoMemory) => return Err((table, LoadFault::NoMemory)),
-        };
-        match parsed(alloc, dataset.as_bytes(), &bytes) {
+        match read_entries(alloc, &mut table, dataset.as_bytes()) {
             Ok(entries) => Ok(Toc::opened(table, text, entries)),
-            Err(ReadFault::Not(not)) => Err((
-                table,
-                LoadFault::NotATable {
-                    at: not.at,
-                    want: not.want,
-                    found: not.found,
-                },
-            )),
-            Err(ReadFault::NoMemory) => Err((table, LoadFault::NoMemory)),
+            Err(fault) => Err((table, fault)),
         }
     }
 }
 
-// All that a read gives.
-fn read_all<F: Send, T: Disk<F>>(alloc: Global, table: &mut T) -> Result<Vec<u8>, Down<F>>
-    ensures bytes { IfOk result (λ v. IfSome (T.file table.old) (λ f. v.items ≡ f.reads)) }
+// The entries that the table lists.
+fn read_entries<F: Send, T: Disk<F>>(
+    alloc: Global,
+    table: &mut T,
+    dataset: &[u8],
+) -> Result<Vec<Entry>, LoadFault<F>>
+    requires { length dataset.now ≤ 255 }
+    ensures lists { IfOk result (λ v. IfSome (T.file table.old) (λ f. listed dataset.now f.reads ≡ Ok v.items)) }
+    ensures table { IfOk result (λ v. IfSome (T.file table.old) (λ f. IsTable dataset.now v.items f.reads)) }
+    ensures fit { IfOk result (λ v. AllFit 0 v.items) }
+    ensures few { IfOk result (λ v. length v.items ≤ 65535) }
+    ensures not_a_table { IfErr result (λ e. OnNotATable e (λ fault. IfSome (T.file table.old) (λ f. listed dataset.now f.reads ≡ Err fault))) }
+    ensures file { T.file table.new ≡ T.file table.old }
+    ensures any_moment { LeavesOnly T.moment T.left_since table.old table.new (MayLeave (T.file table.old)) }
+    ensures name { T.name table.new ≡ T.name table.old }
+    ensures later { T.faults table.old ≤ T.faults table.new }
+    ensures cause { IfErr result (λ e. OnLoadDisk e (Rose (T.faults table.old) (T.faults table.new))) }
+{
+    let bytes = match read_front(alloc, table) {
+        Ok(bytes) => bytes,
+        Err(Down::Fault(fault)) => return Err(LoadFault::Disk(fault)),
+        Err(Down::NoMemory) => return Err(LoadFault::NoMemory),
+    };
+    match parsed(alloc, dataset, &bytes) {
+        Ok(entries) => Ok(entries),
+        Err(ReadFault::Not(not)) => Err(LoadFault::NotATable {
+            at: not.at,
+            want: not.want,
+            found: not.found,
+        }),
+        Err(ReadFault::NoMemory) => Err(LoadFault::NoMemory),
+    }
+}
+
+// What a read gives, as far as it can matter: all of it, or so much that it has the gate behind the last slot.
+fn read_front<F: Send, T: Disk<F>>(alloc: Global, table: &mut T) -> Result<Vec<u8>, Down<F>>
+    ensures bytes { IfOk result (λ v. IfSome (T.file table.old) (λ f. IsFront v.items f.reads)) }
     ensures file { T.file table.new ≡ T.file table.old }
     ensures any_moment { LeavesOnly T.moment T.left_since table.old table.new (MayLeave (T.file table.old)) }
     ensures name { T.name table.new ≡ T.name table.old }
@@ -74,7 +100,7 @@ fn read_all<F: Send, T: Disk<F>>(alloc: Global, table: &mut T) -> Result<Vec<u8>
 {
     let mut bytes = Vec::new(alloc);
     let mut piece = [0; 4096];
-    'pieces: for _ in 0..u64::MAX {
+    'pieces: while bytes.len() < MOST {
         let n = match table.read_at(bytes.len() as u64, &mut piece) {
             Ok(n) => n,
             Err(fault) => return Err(Down::Fault(fault)),
@@ -82,14 +108,14 @@ fn read_all<F: Send, T: Disk<F>>(alloc: Global, table: &mut T) -> Result<Vec<u8>
         if n == 0 {
             return Ok(bytes);
         }
-        let Ok(()) = bytes.extend_from_slice(front(&piece, n)) else {
+        let Ok(()) = bytes.extend_from_slice(first(&piece, n)) else {
             return Err(Down::NoMemory);
         };
     }
-    Err(Down::NoMemory)
+    Ok(bytes)
 }
 
-fn front(piece: &[u8], n: usize) -> &[u8]
+fn first(piece: &[u8], n: usize) -> &[u8]
     requires { n ≤ length piece.now }
     ensures { result.now ≡ take n piece.now }
 {

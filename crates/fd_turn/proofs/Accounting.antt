@@ -7,6 +7,7 @@ use lib.ListN.{get_elem?}
 use Rattle.atomic_table.specs.Table.{State}
 use Rattle.fd_core.specs.declared.batch.Listing.{Listing}
 use Rattle.fd_turn.specs.declared.view.SeatView.{SeatView}
+use Rattle.fd_turn.specs.declared.view.Subject.{Subject}
 use Rattle.fd_turn.specs.declared.rule.Slot.{Slot}
 use Rattle.fd_turn.specs.Views.{all_parts}
 use Rattle.fd_turn.specs.Rule.{IsDoubted, IsCovered, IsKept}
@@ -17,7 +18,7 @@ use Rattle.fd_turn.proofs.Totals.{total_two, total_alone}
 none_in : (xs : List Listing) (l : Listing) → xs ≡ [] → Contains xs l → ⊥
 none_in xs l is c = let here = c.1 in let none : length xs ≡ 0 = ap length is in omega arith
 
-module _ (X Y : Type 0) (vlist : X → List Listing) (vsubject : X → List ℕ) (wlist : Y → List Listing) (wdoubt : Y → Option Listing) (wsubject : Y → List ℕ) where
+module _ (X Y : Type 0) (vlist : X → List Listing) (vsubject : X → List ℕ) (wlist : Y → List Listing) (wdoubt : Y → Option Listing) (wsubject : Y → Subject) where
   abbrev St : Type 0
   St = State (Slot X Y) SeatView
 

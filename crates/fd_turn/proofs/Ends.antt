@@ -6,6 +6,7 @@ use lib.ListN.{get_elem?}
 use Rattle.atomic_table.specs.Table.{State, opening, Final, Seen}
 use Rattle.fd_core.specs.declared.batch.Listing.{Listing}
 use Rattle.fd_turn.specs.declared.view.SeatView.{SeatView}
+use Rattle.fd_turn.specs.declared.view.Subject.{Subject}
 use Rattle.fd_turn.specs.declared.view.Turn.TheVariants.{Away}
 use Rattle.fd_turn.specs.declared.view.Lock.TheVariants.{Free}
 use Rattle.fd_turn.specs.declared.rule.Slot.{Slot}
@@ -20,7 +21,7 @@ use Rattle.fd_turn.proofs.Accounting.{all_accounts, others_spent}
 use Rattle.fd_turn.proofs.Turns.{slot_value}
 use Rattle.fd_turn.proofs.Locks.{slot_state}
 
-module _ (X Y : Type 0) (vlist : X → List Listing) (vsubject : X → List ℕ) (wlist : Y → List Listing) (wdoubt : Y → Option Listing) (wsubject : Y → List ℕ) where
+module _ (X Y : Type 0) (vlist : X → List Listing) (vsubject : X → List ℕ) (wlist : Y → List Listing) (wdoubt : Y → Option Listing) (wsubject : Y → Subject) where
   abbrev St : Type 0
   St = State (Slot X Y) SeatView
 
@@ -31,26 +32,26 @@ module _ (X Y : Type 0) (vlist : X → List Listing) (vsubject : X → List ℕ)
   only_first v zero u e = maybe.some-injective v u e
   only_first v (suc j) u e = absurd (maybe.some-ne-none u (sym e))
 
-  pub starts : (x : X) (y : Y) → vlist x ≡ wlist y → vsubject x ≡ wsubject y → wdoubt y ≡ None → Rule (opening (0 ∷ 0 ∷ 0 ∷ []) (Value x ∷ Locked y ∷ []) (first_seat (vsubject x) (vlist x)))
+  pub starts : (x : X) (y : Y) → vlist x ≡ wlist y → vsubject x ≡ (wsubject y).text → wdoubt y ≡ None → Rule (opening (0 ∷ 0 ∷ 0 ∷ []) (Value x ∷ Locked y ∷ []) (first_seat (wsubject y) (wlist y)))
   starts x y same about sure = record {
-    whole = vlist x;
-    opening = length (vlist x);
-    subject = vsubject x;
+    whole = wlist y;
+    opening = length (wlist y);
+    subject = wsubject y;
     posts = 0;
     value = maybe.some (Value x);
     state = maybe.some (Locked y);
     words = refl;
     homes = refl;
-    value_is = inl (refl, x, refl, refl);
-    state_is = inl (refl, y, refl, sym same, λ l is. absurd (cc (sure, is)));
-    value_about = λ z e. ap (λ (b : Slot X Y). vsubject (slot_value x b)) (sym (maybe.some-injective (Value x) (Value z) e));
-    state_about = λ z e. ap (λ (b : Slot X Y). wsubject (slot_state y b)) (sym (maybe.some-injective (Locked y) (Locked z) e)) ∙ sym about;
+    value_is = inl (refl, x, refl, same);
+    state_is = inl (refl, y, refl, refl, λ l is. absurd (cc (sure, is)));
+    value_about = λ z e. ap (λ (b : Slot X Y). vsubject (slot_value x b)) (sym (maybe.some-injective (Value x) (Value z) e)) ∙ about;
+    state_about = λ z e. ap (λ (b : Slot X Y). wsubject (slot_state y b)) (sym (maybe.some-injective (Locked y) (Locked z) e));
     counted = omega arith;
     amounts = refl;
     parts = refl;
-    seats = λ j u e. subst (Knows (vlist x) (length (vlist x)) (vsubject x) (first_seat (vsubject x) (vlist x) ∷ [])) (only_first (first_seat (vsubject x) (vlist x)) j u e) record {
-      seen = prefix_self (vlist x);
-      heard = (vlist x, refl);
+    seats = λ j u e. subst (Knows (wlist y) (length (wlist y)) (wsubject y) (first_seat (wsubject y) (wlist y) ∷ [])) (only_first (first_seat (wsubject y) (wlist y)) j u e) record {
+      seen = prefix_self (wlist y);
+      heard = (wlist y, refl);
       opened = λ z. refl;
       about = λ z. refl;
       turn = tt;
@@ -59,8 +60,8 @@ module _ (X Y : Type 0) (vlist : X → List Listing) (vsubject : X → List ℕ)
     };
   }
 
-  pub starts_as : (x : X) (y : Y) (slots : List (Slot X Y)) (key : X) → slots ≡ Value x ∷ Locked y ∷ [] → key ≡ x → vlist x ≡ wlist y → vsubject x ≡ wsubject y → wdoubt y ≡ None → Rule (opening (0 ∷ 0 ∷ 0 ∷ []) slots (first_seat (vsubject key) (vlist key)))
-  starts_as x y slots key is told same about sure = subst (λ (z : List (Slot X Y) × X). Rule (opening (0 ∷ 0 ∷ 0 ∷ []) z.0 (first_seat (vsubject z.1) (vlist z.1)))) (λ i. (sym is i, sym told i)) (starts x y same about sure)
+  pub starts_as : (x : X) (y : Y) (slots : List (Slot X Y)) (key : Y) → slots ≡ Value x ∷ Locked y ∷ [] → key ≡ y → vlist x ≡ wlist y → vsubject x ≡ (wsubject y).text → wdoubt y ≡ None → Rule (opening (0 ∷ 0 ∷ 0 ∷ []) slots (first_seat (wsubject key) (wlist key)))
+  starts_as x y slots key is told same about sure = subst (λ (z : List (Slot X Y) × Y). Rule (opening (0 ∷ 0 ∷ 0 ∷ []) z.0 (first_seat (wsubject z.1) (wlist z.1)))) (λ i. (sym is i, sym told i)) (starts x y same about sure)
 
   -- what the last pass gets
   pub record Ended (v : SeatView) (slots : List (Slot X Y)) : Type 0 where
@@ -69,7 +70,7 @@ module _ (X Y : Type 0) (vlist : X → List Listing) (vsubject : X → List ℕ)
     pub value_at : get_elem? slots 0 ≡ maybe.some (Value value)
     pub state_at : get_elem? slots 1 ≡ maybe.some (Locked state)
     pub same : vlist value ≡ wlist state
-    pub value_about : vsubject value ≡ v.subject
+    pub value_about : vsubject value ≡ v.subject.text
     pub state_about : wsubject state ≡ v.subject
     pub seen : IsPrefix v.history (vlist value)
     pub accounts : Accounts v (vlist value) (wdoubt state)
@@ -90,7 +91,7 @@ module _ (X Y : Type 0) (vlist : X → List Listing) (vsubject : X → List ℕ)
         value_at = home 0 (Value t.1) (ap (λ hs. get_elem? hs 0) r.homes ∙ ap maybe.some t.2);
         state_at = home 1 (Locked q.1) (ap (λ hs. get_elem? hs 1) r.homes ∙ ap maybe.some q.2);
         same = t.3 ∙ sym q.3;
-        value_about = r.value_about t.1 t.2 ∙ sym (k.about some_parts);
+        value_about = r.value_about t.1 t.2 ∙ sym (ap (λ (a : Subject). a.text) (k.about some_parts));
         state_about = r.state_about q.1 q.2 ∙ sym (k.about some_parts);
         seen = subst (IsPrefix v.history) (sym t.3) k.seen;
         accounts = subst (λ (xs : List Listing). Accounts v xs (wdoubt q.1)) (sym t.3) (all_accounts X Y vlist vsubject wlist wdoubt wsubject s r id v (wdoubt q.1) at some_parts q.4);
@@ -101,7 +102,7 @@ module _ (X Y : Type 0) (vlist : X → List Listing) (vsubject : X → List ℕ)
       r.value_is
 
   abbrev pub EndsAs : SeatView → Slot X Y → Slot X Y → Type 0
-  EndsAs v a b = (x : X) × (y : Y) × (a ≡ Value x) × (b ≡ Locked y) × (vlist x ≡ wlist y) × IsPrefix v.history (vlist x) × Accounts v (vlist x) (wdoubt y) × (vsubject x ≡ v.subject) × (wsubject y ≡ v.subject)
+  EndsAs v a b = (x : X) × (y : Y) × (a ≡ Value x) × (b ≡ Locked y) × (vlist x ≡ wlist y) × IsPrefix v.history (vlist x) × Accounts v (vlist x) (wdoubt y) × (vsubject x ≡ v.subject.text) × ((wsubject y).text ≡ v.subject.text) × ((wsubject y).told ≡ v.subject.told)
 
   pub ended_as : (v : SeatView) (slots : List (Slot X Y)) (a b : Slot X Y) → Ended v slots → get_elem? slots 0 ≡ maybe.some a → get_elem? slots 1 ≡ maybe.some b → EndsAs v a b
-  ended_as v slots a b e p q = (e.value, e.state, maybe.some-injective a (Value e.value) (sym p ∙ e.value_at), maybe.some-injective b (Locked e.state) (sym q ∙ e.state_at), e.same, e.seen, e.accounts, e.value_about, e.state_about)
+  ended_as v slots a b e p q = (e.value, e.state, maybe.some-injective a (Value e.value) (sym p ∙ e.value_at), maybe.some-injective b (Locked e.state) (sym q ∙ e.state_at), e.same, e.seen, e.accounts, e.value_about, ap (λ (a : Subject). a.text) e.state_about, ap (λ (a : Subject). a.told) e.state_about)

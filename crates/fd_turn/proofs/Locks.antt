@@ -8,6 +8,7 @@ use Rattle.atomic_table.specs.Table.{State, Me, Act, step, keeps, takes, gives, 
 use Rattle.atomic_table.proofs.Lists.{exchanged}
 use Rattle.fd_core.specs.declared.batch.Listing.{Listing}
 use Rattle.fd_turn.specs.declared.view.SeatView.{SeatView}
+use Rattle.fd_turn.specs.declared.view.Subject.{Subject}
 use Rattle.fd_turn.specs.declared.view.Turn.{Turn}
 use Rattle.fd_turn.specs.declared.view.Turn.TheVariants.{Away, Holder}
 use Rattle.fd_turn.specs.declared.view.Lock.{Lock}
@@ -46,7 +47,7 @@ turn_of whole lock lock' Away free k = tt
 turn_of whole lock lock' (Holder kept false) free k = k
 turn_of whole lock lock' (Holder kept true) free k = let none : in_lock lock ≡ 0 = ap in_lock free in let one = k.0 in absurd (omega arith)
 
-knows_free : (whole : List Listing) (opening : ℕ) (subject : List ℕ) (views views' : List SeatView) (u : SeatView) → u.lock ≡ Free → Knows whole opening subject views u → Knows whole opening subject views' u
+knows_free : (whole : List Listing) (opening : ℕ) (subject : Subject) (views views' : List SeatView) (u : SeatView) → u.lock ≡ Free → Knows whole opening subject views u → Knows whole opening subject views' u
 knows_free whole opening subject views views' u free k = record {
   seen = k.seen;
   heard = k.heard;
@@ -64,7 +65,10 @@ covers_left views id v w d left owns at here settle cover l is = by (same_doubt 
   by (yes same) = covers_set views id v w at (λ k c. subst (λ (xs : List Listing). Contains xs k) (sym (settle.found l is (owns ∙ ap Owner same))) c) l (cover l same)
   by (no not) = (id, w, here, subst (λ (xs : List Listing). Contains xs l) (sym (settle.new l is (λ e. not (found_is d (Some l) v.lock owns e)))) (contains_only l))
 
-module _ (X Y : Type 0) (vlist : X → List Listing) (vsubject : X → List ℕ) (wlist : Y → List Listing) (wdoubt : Y → Option Listing) (wsubject : Y → List ℕ) where
+same_subject : (a b : Subject) → a.text ≡ b.text → a.told ≡ b.told → a ≡ b
+same_subject a b text told = λ i. record { text = text i; told = told i }
+
+module _ (X Y : Type 0) (vlist : X → List Listing) (vsubject : X → List ℕ) (wlist : Y → List Listing) (wdoubt : Y → Option Listing) (wsubject : Y → Subject) where
   abbrev St : Type 0
   St = State (Slot X Y) SeatView
 
@@ -123,15 +127,15 @@ module _ (X Y : Type 0) (vlist : X → List Listing) (vsubject : X → List ℕ)
             spent = λ z. absurd (omega arith);
           } r.seats;
         },
-        ((λ _. (y, refl, subst (IsPrefix v.history) (sym t.3) k.seen, subst (λ (xs : List Listing). Accounts v xs (wdoubt y)) (sym t.3) (all_accounts X Y vlist vsubject wlist wdoubt wsubject s r id v (wdoubt y) at some_parts t.4), r.state_about y t.2 ∙ sym (k.about some_parts))), λ ne. absurd (ne is)),
+        ((λ _. (y, refl, subst (IsPrefix v.history) (sym t.3) k.seen, subst (λ (xs : List Listing). Accounts v xs (wdoubt y)) (sym t.3) (all_accounts X Y vlist vsubject wlist wdoubt wsubject s r id v (wdoubt y) at some_parts t.4), ap (λ (a : Subject). a.text) (r.state_about y t.2 ∙ sym (k.about some_parts)), ap (λ (a : Subject). a.told) (r.state_about y t.2 ∙ sym (k.about some_parts)))), λ ne. absurd (ne is)),
       ))
       (λ (t : (owner_count s.views ≡ 1) × (r.state ≡ maybe.none)). absurd (omega (arith, t.0)))
       r.state_is)
       (λ ne. (m.0, keeps, tt, stays X Y vlist vsubject wlist wdoubt wsubject s r 2 id m.0 at, ((λ e. absurd (ne e)), λ _. refl)))
 
-  pub leaves_lock : (slots id : ℕ) (m : Seated) (y : Y) (d : Option Listing) → m.0.lock ≡ Owner d → m.0.turn ≡ Away → 0 < m.0.parts → m.1 ≡ (1, Locked y) ∷ rest m.1 → wlist y ≡ m.0.history → wsubject y ≡ m.0.subject
+  pub leaves_lock : (slots id : ℕ) (m : Seated) (y : Y) (d : Option Listing) → m.0.lock ≡ Owner d → m.0.turn ≡ Away → 0 < m.0.parts → m.1 ≡ (1, Locked y) ∷ rest m.1 → wlist y ≡ m.0.history → (wsubject y).text ≡ m.0.subject.text → (wsubject y).told ≡ m.0.subject.told
       → Allows Rule slots id m 2 (λ _. 0) (λ _. left_lock wdoubt (step slots 2 0 0 maybe.none) m 0)
-  leaves_lock slots id m y d owns away some_parts carries list about s r wide at small =
+  leaves_lock slots id m y d owns away some_parts carries list about told s r wide at small =
       let v : SeatView = m.0 in
       let k = r.seats id v at in
       let mine = owner_sees r.whole s.views v.history d v.lock owns k.lock in
@@ -160,7 +164,7 @@ module _ (X Y : Type 0) (vlist : X → List Listing) (vsubject : X → List ℕ)
           value_is = value_stays vlist r.whole (holder_count s.views) (holder_count vs) r.value hold r.value_is;
           state_is = inl (none, y, refl, list ∙ mine.0, covers_left s.views id v w d (wdoubt y) owns at here settle.1 mine.1);
           value_about = r.value_about;
-          state_about = λ z e. ap (λ (b : Slot X Y). wsubject (slot_state y b)) (sym (maybe.some-injective (Locked y) (Locked z) e)) ∙ (about ∙ k.about some_parts);
+          state_about = λ z e. ap (λ (b : Slot X Y). wsubject (slot_state y b)) (sym (maybe.some-injective (Locked y) (Locked z) e)) ∙ (same_subject (wsubject y) v.subject about told ∙ k.about some_parts);
           counted = r.counted;
           amounts = total_same (λ (z : SeatView). z.amount) s.views id v w at refl ∙ r.amounts;
           parts = total_same (λ (z : SeatView). z.parts) s.views id v w at refl ∙ r.parts;

@@ -11,6 +11,7 @@ use Rattle.atomic_table.specs.Table.{State, Me, step, keeps, Allows, Splits, Joi
 use Rattle.atomic_table.proofs.Lists.{at_snoc, set_here, set_else}
 use Rattle.fd_core.specs.declared.batch.Listing.{Listing}
 use Rattle.fd_turn.specs.declared.view.SeatView.{SeatView}
+use Rattle.fd_turn.specs.declared.view.Subject.{Subject}
 use Rattle.fd_turn.specs.declared.view.Turn.TheVariants.{Away}
 use Rattle.fd_turn.specs.declared.view.Lock.TheVariants.{Free}
 use Rattle.fd_turn.specs.declared.rule.Slot.{Slot}
@@ -51,7 +52,7 @@ begins false xs ys p = (prefix_self xs, p)
 pub both_begin : (xs ys : List Listing) → IsPrefix (shorter xs ys) (longer xs ys) → IsPrefix xs (longer xs ys) × IsPrefix ys (longer xs ys)
 both_begin xs ys p = begins (nat_lt (length xs) (length ys)) xs ys p
 
-module _ (X Y : Type 0) (vlist : X → List Listing) (vsubject : X → List ℕ) (wlist : Y → List Listing) (wdoubt : Y → Option Listing) (wsubject : Y → List ℕ) where
+module _ (X Y : Type 0) (vlist : X → List Listing) (vsubject : X → List ℕ) (wlist : Y → List Listing) (wdoubt : Y → Option Listing) (wsubject : Y → Subject) where
   abbrev St : Type 0
   St = State (Slot X Y) SeatView
 

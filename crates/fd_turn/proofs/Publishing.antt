@@ -5,6 +5,7 @@ use mathlib.Core.List.{IsPrefix}
 use Rattle.atomic_table.specs.Table.{State, Me, step, keeps, Allows, rest}
 use Rattle.fd_core.specs.declared.batch.Listing.{Listing}
 use Rattle.fd_turn.specs.declared.view.SeatView.{SeatView}
+use Rattle.fd_turn.specs.declared.view.Subject.{Subject}
 use Rattle.fd_turn.specs.declared.view.Turn.TheVariants.{Holder}
 use Rattle.fd_turn.specs.declared.view.Lock.{Lock}
 use Rattle.fd_turn.specs.declared.view.Lock.TheVariants.{Owner}
@@ -39,7 +40,7 @@ counted_up opening posts len sum small = omega arith
 owner_more : (whole : List Listing) (views : List SeatView) (d : Option Listing) (t : Lock) → t ≡ Owner d → IsCovered views d → KnowsLock whole views whole t
 owner_more whole views d t is cover = subst (KnowsLock whole views whole) (sym is) (refl, cover)
 
-module _ (X Y : Type 0) (vlist : X → List Listing) (vsubject : X → List ℕ) (wlist : Y → List Listing) (wdoubt : Y → Option Listing) (wsubject : Y → List ℕ) where
+module _ (X Y : Type 0) (vlist : X → List Listing) (vsubject : X → List ℕ) (wlist : Y → List Listing) (wdoubt : Y → Option Listing) (wsubject : Y → Subject) where
   abbrev St : Type 0
   St = State (Slot X Y) SeatView
 

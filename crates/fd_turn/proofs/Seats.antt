@@ -5,6 +5,7 @@ use lib.ListN.{get_elem?}
 use Rattle.atomic_table.proofs.Lists.{at_set}
 use Rattle.fd_core.specs.declared.batch.Listing.{Listing}
 use Rattle.fd_turn.specs.declared.view.SeatView.{SeatView}
+use Rattle.fd_turn.specs.declared.view.Subject.{Subject}
 use Rattle.fd_turn.specs.declared.view.Turn.{Turn}
 use Rattle.fd_turn.specs.declared.view.Turn.TheVariants.{Away, Holder}
 use Rattle.fd_turn.specs.declared.view.Lock.{Lock}
@@ -28,7 +29,7 @@ pub lock_covered : (whole : List Listing) (views views' : List SeatView) (h : Li
 lock_covered whole views views' h more Free k = tt
 lock_covered whole views views' h more (Owner found) k = (k.0, covered_by views views' found more k.1)
 
-pub still_knows : (whole : List Listing) (opening : ℕ) (subject : List ℕ) (views views' : List SeatView) (u : SeatView) → Covers views views' → Knows whole opening subject views u → Knows whole opening subject views' u
+pub still_knows : (whole : List Listing) (opening : ℕ) (subject : Subject) (views views' : List SeatView) (u : SeatView) → Covers views views' → Knows whole opening subject views u → Knows whole opening subject views' u
 still_knows whole opening subject views views' u more k = record {
   seen = k.seen;
   heard = k.heard;
@@ -40,7 +41,7 @@ still_knows whole opening subject views views' u more k = record {
 }
 
 -- a pass that is neither holder nor owner, where the whole history grows
-pub knows_more : (whole more : List Listing) (opening : ℕ) (subject : List ℕ) (views views' : List SeatView) (u : SeatView) → u.turn ≡ Away → u.lock ≡ Free → Knows whole opening subject views u → Knows (whole ++ more) opening subject views' u
+pub knows_more : (whole more : List Listing) (opening : ℕ) (subject : Subject) (views views' : List SeatView) (u : SeatView) → u.turn ≡ Away → u.lock ≡ Free → Knows whole opening subject views u → Knows (whole ++ more) opening subject views' u
 knows_more whole more opening subject views views' u away free k = record {
   seen = prefix_more u.history whole more k.seen;
   heard = prefix_more u.told whole more k.heard;
@@ -56,7 +57,7 @@ pub seats_stay : (P : SeatView → Type 0) (views : List SeatView) (id : ℕ) (w
 seats_stay P views id w mine others j u e = ⊎_elim (λ (t : (j ≡ id) × (w ≡ u)). subst P t.1 mine) (λ (t : (j ≢ id) × (get_elem? views j ≡ maybe.some u)). others j u t.0 t.1) (at_set views id j w u e)
 
 -- one pass gets a new view, and the whole history stays
-pub seats_set : (whole : List Listing) (opening : ℕ) (subject : List ℕ) (views : List SeatView) (id : ℕ) (w : SeatView) → Covers views (set views id w) → Knows whole opening subject (set views id w) w
+pub seats_set : (whole : List Listing) (opening : ℕ) (subject : Subject) (views : List SeatView) (id : ℕ) (w : SeatView) → Covers views (set views id w) → Knows whole opening subject (set views id w) w
     → ((j : ℕ) (u : SeatView) → get_elem? views j ≡ maybe.some u → Knows whole opening subject views u)
     → (j : ℕ) (u : SeatView) → get_elem? (set views id w) j ≡ maybe.some u → Knows whole opening subject (set views id w) u
 seats_set whole opening subject views id w more mine all = seats_stay (Knows whole opening subject (set views id w)) views id w mine (λ j u n e. still_knows whole opening subject views (set views id w) u more (all j u e))

@@ -9,6 +9,7 @@ use Rattle.atomic_table.specs.Table.{State, Me, Act, step, keeps, takes, gives, 
 use Rattle.atomic_table.proofs.Lists.{set_again, exchanged}
 use Rattle.fd_core.specs.declared.batch.Listing.{Listing}
 use Rattle.fd_turn.specs.declared.view.SeatView.{SeatView}
+use Rattle.fd_turn.specs.declared.view.Subject.{Subject}
 use Rattle.fd_turn.specs.declared.view.Turn.{Turn}
 use Rattle.fd_turn.specs.declared.view.Turn.TheVariants.{Away, Holder}
 use Rattle.fd_turn.specs.declared.view.Lock.{Lock}
@@ -41,14 +42,14 @@ owner_sees whole views h d t is k = subst (KnowsLock whole views h) is k
 
 module _ (X : Type 0) (vlist : X → List Listing) where
   -- what a holder that has not published puts back
-  pub reader_right : (v : SeatView) (x : X) (kept : List Listing) → v.turn ≡ Holder kept false → vlist x ≡ kept → (whole : List Listing) (opening : ℕ) (subject : List ℕ) (views : List SeatView) → Knows whole opening subject views v → vlist x ≡ whole
+  pub reader_right : (v : SeatView) (x : X) (kept : List Listing) → v.turn ≡ Holder kept false → vlist x ≡ kept → (whole : List Listing) (opening : ℕ) (subject : Subject) (views : List SeatView) → Knows whole opening subject views v → vlist x ≡ whole
   reader_right v x kept holds is whole opening subject views k = is ∙ subst (KnowsTurn whole v.lock) holds k.turn
 
   -- what an owner puts back
-  pub owner_right : (v : SeatView) (x : X) (d : Option Listing) → v.lock ≡ Owner d → vlist x ≡ v.history → (whole : List Listing) (opening : ℕ) (subject : List ℕ) (views : List SeatView) → Knows whole opening subject views v → vlist x ≡ whole
+  pub owner_right : (v : SeatView) (x : X) (d : Option Listing) → v.lock ≡ Owner d → vlist x ≡ v.history → (whole : List Listing) (opening : ℕ) (subject : Subject) (views : List SeatView) → Knows whole opening subject views v → vlist x ≡ whole
   owner_right v x d owns is whole opening subject views k = is ∙ (owner_sees whole views v.history d v.lock owns k.lock).0
 
-module _ (X Y : Type 0) (vlist : X → List Listing) (vsubject : X → List ℕ) (wlist : Y → List Listing) (wdoubt : Y → Option Listing) (wsubject : Y → List ℕ) where
+module _ (X Y : Type 0) (vlist : X → List Listing) (vsubject : X → List ℕ) (wlist : Y → List Listing) (wdoubt : Y → Option Listing) (wsubject : Y → Subject) where
   abbrev St : Type 0
   St = State (Slot X Y) SeatView
 
@@ -81,7 +82,7 @@ module _ (X Y : Type 0) (vlist : X → List Listing) (vsubject : X → List ℕ)
       }
 
   turned_rule : (s : St) (r : Rule s) (id n : ℕ) (v : SeatView) (t : Turn) (hs : List (maybe.Option (Slot X Y))) (value : maybe.Option (Slot X Y)) → get_elem? s.views id ≡ maybe.some v → KnowsTurn r.whole v.lock t → (v.parts ≡ 0 → t ≡ Away)
-      → holder_count (set s.views id (with_turn v t)) ≡ n → hs ≡ value ∷ r.state ∷ [] → ValueIs vlist r.whole n value → ((x : X) → value ≡ maybe.some (Value x) → vsubject x ≡ r.subject) → Rule record { words = set s.words 0 n; homes = hs; views = set s.views id (with_turn v t) }
+      → holder_count (set s.views id (with_turn v t)) ≡ n → hs ≡ value ∷ r.state ∷ [] → ValueIs vlist r.whole n value → ((x : X) → value ≡ maybe.some (Value x) → vsubject x ≡ r.subject.text) → Rule record { words = set s.words 0 n; homes = hs; views = set s.views id (with_turn v t) }
   turned_rule s r id n v t hs value at now none count homes is about =
       let w : SeatView = with_turn v t in let vs : List SeatView = set s.views id w in
       let more : Covers s.views vs = covers_set s.views id v w at (λ l c. c) in
@@ -125,14 +126,14 @@ module _ (X Y : Type 0) (vlist : X → List Listing) (vsubject : X → List ℕ)
         takes 0 (Value t.1),
         ap (λ hs. get_elem? hs 0) r.homes ∙ ap maybe.some t.2,
         turned_rule s r id 1 m.0 now (set s.homes 0 maybe.none) maybe.none at t.3 (no_parts s r id m.0 at some_parts now) one (ap (λ hs. set hs 0 maybe.none) r.homes) (inr (refl, refl)) (λ z e. absurd (maybe.some-ne-none (Value z) (sym e))),
-        ((λ _. (t.1, refl, λ d owns. t.3 ∙ sym (owner_sees r.whole s.views m.0.history d m.0.lock owns (r.seats id m.0 at).lock).0, r.value_about t.1 t.2 ∙ sym ((r.seats id m.0 at).about some_parts))), λ ne. absurd (ne is)),
+        ((λ _. (t.1, refl, λ d owns. t.3 ∙ sym (owner_sees r.whole s.views m.0.history d m.0.lock owns (r.seats id m.0 at).lock).0, r.value_about t.1 t.2 ∙ sym (ap (λ (a : Subject). a.text) ((r.seats id m.0 at).about some_parts)))), λ ne. absurd (ne is)),
       ))
       (λ (t : (holder_count s.views ≡ 1) × (r.value ≡ maybe.none)). absurd (omega (arith, t.0)))
       r.value_is)
       (λ ne. (m.0, keeps, tt, stays s r 0 id m.0 at, ((λ e. absurd (ne e)), λ _. refl)))
 
   pub leaves_turn : (slots id : ℕ) (m : Seated) (x : X) (kept : List Listing) (posted : Bool) → m.0.turn ≡ Holder kept posted → 0 < m.0.parts → m.1 ≡ (0, Value x) ∷ rest m.1
-      → ((whole : List Listing) (opening : ℕ) (subject : List ℕ) (views : List SeatView) → Knows whole opening subject views m.0 → vlist x ≡ whole) → vsubject x ≡ m.0.subject → Allows Rule slots id m 0 (λ _. 0) (λ _. left_turn (step slots 0 0 0 maybe.none) m 0)
+      → ((whole : List Listing) (opening : ℕ) (subject : Subject) (views : List SeatView) → Knows whole opening subject views m.0 → vlist x ≡ whole) → vsubject x ≡ m.0.subject.text → Allows Rule slots id m 0 (λ _. 0) (λ _. left_turn (step slots 0 0 0 maybe.none) m 0)
   leaves_turn slots id m x kept posted holds some_parts carries right about s r wide at small =
       let w : SeatView = with_turn m.0 Away in
       let sum : holder_count (set s.views id w) + in_turn m.0.turn ≡ holder_count s.views + 0 = total_set (λ (z : SeatView). in_turn z.turn) s.views id m.0 w at in
@@ -145,7 +146,7 @@ module _ (X Y : Type 0) (vlist : X → List Listing) (vsubject : X → List ℕ)
         tt,
         turned_rule s r id 0 m.0 Away (put_back s.homes m.1) (maybe.some (Value x)) at tt (λ _. refl) none
             (ap (put_back s.homes) carries ∙ ap (λ hs. set hs 0 (maybe.some (Value x))) r.homes) (inl (refl, x, refl, right r.whole r.opening r.subject s.views (r.seats id m.0 at)))
-            (λ z e. ap (λ (b : Slot X Y). vsubject (slot_value x b)) (sym (maybe.some-injective (Value x) (Value z) e)) ∙ (about ∙ (r.seats id m.0 at).about some_parts)),
+            (λ z e. ap (λ (b : Slot X Y). vsubject (slot_value x b)) (sym (maybe.some-injective (Value x) (Value z) e)) ∙ (about ∙ ap (λ (a : Subject). a.text) ((r.seats id m.0 at).about some_parts))),
         refl,
       )
 

@@ -3,5 +3,3 @@ pub mod Seats
 pub mod Rule
 pub mod Steps
 pub mod Passes
-pub mod TestRows
-pub mod TestLanes

@@ -8,6 +8,7 @@ use lib.ListN.{get_elem?}
 use Rattle.atomic_table.specs.Table.{State}
 use Rattle.fd_core.specs.declared.batch.Listing.{Listing}
 use Rattle.fd_turn.specs.declared.view.SeatView.{SeatView}
+use Rattle.fd_turn.specs.declared.view.Subject.{Subject}
 use Rattle.fd_turn.specs.declared.view.Turn.{Turn}
 use Rattle.fd_turn.specs.declared.view.Turn.TheVariants.{Away, Holder}
 use Rattle.fd_turn.specs.declared.view.Lock.{Lock}
@@ -68,7 +69,7 @@ pub record IsSpent (v : SeatView) : Type 0 where
   pub free : v.lock ≡ Free
 
 -- what is true of each seat: its histories begin the whole one, its opening and its subject are the board's where it has parts, and it knows its turn, its lock, and nothing where it has no parts
-pub record Knows (whole : List Listing) (opening : ℕ) (subject : List ℕ) (views : List SeatView) (v : SeatView) : Type 0 where
+pub record Knows (whole : List Listing) (opening : ℕ) (subject : Subject) (views : List SeatView) (v : SeatView) : Type 0 where
   pub seen : IsPrefix v.history whole
   pub heard : IsPrefix v.told whole
   pub opened : 0 < v.parts → v.opening ≡ opening
@@ -87,10 +88,10 @@ module _ {X Y : Type 0} where
   StateIs list doubt whole views owners slot = ((owners ≡ 0) × (y : Y) × (slot ≡ maybe.some (Locked y)) × (list y ≡ whole) × IsCovered views (doubt y)) ⊎ ((owners ≡ 1) × (slot ≡ maybe.none))
 
   -- the rule: there are a whole history, an opening length, a subject and a number of posts, and what the two slots have at home, for which all of this holds
-  pub record IsKept (value_list : X → List Listing) (value_subject : X → List ℕ) (state_list : Y → List Listing) (doubt : Y → Option Listing) (state_subject : Y → List ℕ) (s : State (Slot X Y) SeatView) : Type 0 where
+  pub record IsKept (value_list : X → List Listing) (value_subject : X → List ℕ) (state_list : Y → List Listing) (doubt : Y → Option Listing) (state_subject : Y → Subject) (s : State (Slot X Y) SeatView) : Type 0 where
     pub whole : List Listing
     pub opening : ℕ
-    pub subject : List ℕ
+    pub subject : Subject
     pub posts : ℕ
     pub value : maybe.Option (Slot X Y)
     pub state : maybe.Option (Slot X Y)
@@ -100,8 +101,8 @@ module _ {X Y : Type 0} where
     -- there is one holder and one owner at most, and each slot is at home exactly where there is none
     pub value_is : ValueIs value_list whole (holder_count s.views) value
     pub state_is : StateIs state_list doubt whole s.views (owner_count s.views) state
-    -- a value at home and a state at home are about the subject
-    pub value_about : (x : X) → value ≡ maybe.some (Value x) → value_subject x ≡ subject
+    -- a value at home is about the subject's text, and a state at home about the subject
+    pub value_about : (x : X) → value ≡ maybe.some (Value x) → value_subject x ≡ subject.text
     pub state_about : (y : Y) → state ≡ maybe.some (Locked y) → state_subject y ≡ subject
     -- the posts are what the whole history has beyond the opening, and the amounts of all seats
     pub counted : opening + posts ≡ length whole

@@ -1,7 +1,8 @@
 -- What a seat of the table knows: what contracts see of its pass, the turn for the value, and a second history while a join compares two. And what each step makes of it.
-use Rattle.std.specs.Prelude.{ℕ, ◌+◌, ◌-◌, List, [], ◌++◌, length, Option, cond, nat_lt}
+use Rattle.std.specs.Prelude.{ℕ, Bool, false, ◌+◌, ◌-◌, List, [], ◌++◌, length, Option, cond, nat_lt}
 use Rattle.fd_core.specs.declared.batch.Listing.{Listing}
 use Rattle.fd_turn.specs.declared.view.SeatView.{SeatView}
+use Rattle.fd_turn.specs.declared.view.Subject.{Subject}
 use Rattle.fd_turn.specs.declared.view.Turn.{Turn}
 use Rattle.fd_turn.specs.declared.view.Turn.TheVariants.{Away}
 use Rattle.fd_turn.specs.declared.view.Lock.TheVariants.{Free, Owner}
@@ -9,10 +10,14 @@ use Rattle.fd_turn.specs.Views.{View, all_parts, longer}
 
 -- what contracts see of it
 abbrev pub view_of : SeatView → View
-view_of v = record { history = v.history; parts = v.parts; amount = v.amount; doubts = v.doubts; opening = v.opening; subject = v.subject; lock = v.lock }
+view_of v = record { history = v.history; parts = v.parts; amount = v.amount; doubts = v.doubts; opening = v.opening; subject = v.subject.text; told = v.subject.told; lock = v.lock }
+
+-- what the states are about, and whether they tell their contents
+abbrev pub subject_by : {Y : Type 0} → (Y → List ℕ) → (Y → Bool) → Y → Subject
+subject_by text told y = record { text = text y; told = told y }
 
 -- the first seat of a board about this subject, over this list
-abbrev pub first_seat : List ℕ → List Listing → SeatView
+abbrev pub first_seat : Subject → List Listing → SeatView
 first_seat subject xs = record { history = xs; told = []; parts = all_parts; amount = 0; doubts = []; opening = length xs; subject = subject; turn = Away; lock = Free }
 
 -- a split: the seat that has one part fewer, and the seat that gets it
@@ -31,7 +36,7 @@ abbrev pub merged_seat : SeatView → SeatView → SeatView
 merged_seat v w = record { history = longer v.history w.history; told = shorter v.history w.history; parts = v.parts + w.parts; amount = v.amount + w.amount; doubts = v.doubts ++ w.doubts; opening = v.opening; subject = v.subject; turn = v.turn; lock = v.lock }
 
 abbrev pub spent_seat : SeatView
-spent_seat = record { history = []; told = []; parts = 0; amount = 0; doubts = []; opening = 0; subject = []; turn = Away; lock = Free }
+spent_seat = record { history = []; told = []; parts = 0; amount = 0; doubts = []; opening = 0; subject = record { text = []; told = false }; turn = Away; lock = Free }
 
 -- the two histories are compared
 abbrev pub compared_seat : SeatView → SeatView

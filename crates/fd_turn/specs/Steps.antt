@@ -4,6 +4,7 @@ use mathlib.Core.List.{IsPrefix}
 use Rattle.atomic_table.specs.Table.{Me, Step, rest}
 use Rattle.fd_core.specs.declared.batch.Listing.{Listing}
 use Rattle.fd_turn.specs.declared.view.SeatView.{SeatView}
+use Rattle.fd_turn.specs.declared.view.Subject.{Subject}
 use Rattle.fd_turn.specs.declared.view.Turn.TheVariants.{Away, Holder}
 use Rattle.fd_turn.specs.declared.view.Lock.{Lock}
 use Rattle.fd_turn.specs.declared.view.Lock.TheVariants.{Free, Owner}
@@ -25,7 +26,7 @@ module _ {X Y : Type 0} where
   -- a compare-exchange of word 0 from 0 to 1 takes the value, where it found 0
   abbrev pub took_turn : (X → List Listing) → (X → List ℕ) → Step (Slot X Y) → Me (Slot X Y) SeatView → ℕ → Me (Slot X Y) SeatView → Type 0
   took_turn list subject st m found m' =
-      (found ≡ 0 → (x : X) × (m' ≡ (with_turn m.0 (Holder (list x) false), (0, Value x) ∷ m.1)) × ((d : Option Listing) → m.0.lock ≡ Owner d → list x ≡ m.0.history) × (subject x ≡ m.0.subject))
+      (found ≡ 0 → (x : X) × (m' ≡ (with_turn m.0 (Holder (list x) false), (0, Value x) ∷ m.1)) × ((d : Option Listing) → m.0.lock ≡ Owner d → list x ≡ m.0.history) × (subject x ≡ m.0.subject.text))
       × (found ≢ 0 → m' ≡ m)
 
   -- a load of word 1 makes the list of the value the history
@@ -41,9 +42,9 @@ module _ {X Y : Type 0} where
   left_turn st m found m' = m' ≡ (with_turn m.0 Away, rest m.1)
 
   -- a compare-exchange of word 2 from 0 to 1 takes the state, where it found 0
-  abbrev pub took_lock : (Y → List Listing) → (Y → Option Listing) → (Y → List ℕ) → Step (Slot X Y) → Me (Slot X Y) SeatView → ℕ → Me (Slot X Y) SeatView → Type 0
+  abbrev pub took_lock : (Y → List Listing) → (Y → Option Listing) → (Y → Subject) → Step (Slot X Y) → Me (Slot X Y) SeatView → ℕ → Me (Slot X Y) SeatView → Type 0
   took_lock list doubt subject st m found m' =
-      (found ≡ 0 → (y : Y) × (m' ≡ (owner_seat m.0 (list y) (doubt y), (1, Locked y) ∷ m.1)) × IsPrefix m.0.history (list y) × Accounts m.0 (list y) (doubt y) × (subject y ≡ m.0.subject))
+      (found ≡ 0 → (y : Y) × (m' ≡ (owner_seat m.0 (list y) (doubt y), (1, Locked y) ∷ m.1)) × IsPrefix m.0.history (list y) × Accounts m.0 (list y) (doubt y) × ((subject y).text ≡ m.0.subject.text) × ((subject y).told ≡ m.0.subject.told))
       × (found ≢ 0 → m' ≡ m)
 
   -- a store of 0 in word 2 gives the state back

@@ -1,5 +1,5 @@
 //! What a board asks of its value and of its state.
-ghost use Rattle.std.specs.Prelude.{◌≡◌, ℕ, List, Option, IfOk};
+ghost use Rattle.std.specs.Prelude.{◌≡◌, ℕ, Bool, List, Option, IfOk};
 ghost use Rattle.fd_core.specs.declared.batch.Listing.{Listing};
 
 use fd_bytes::NoMemory;
@@ -32,4 +32,7 @@ pub trait Guarded {
 
     /// What the state is about, in octets, as the text of a dataset. It is the subject of the board's values too.
     ghost subject: { Self → List ℕ };
+
+    /// Whether the state tells its contents, as a table on a disk whose bytes are known. All states of a board do, or none.
+    ghost told: { Self → Bool };
 }

@@ -6,8 +6,6 @@ mod board;
 mod handed;
 mod rule;
 mod steps;
-#[cfg(test)]
-mod tests;
 mod view;
 
 pub use board::{Board, Pass};

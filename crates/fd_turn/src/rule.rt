@@ -16,14 +16,14 @@ pub enum Slot<V, W> {
 }
 
 /// The rule over the words, the slots and what all seats know. The first seat knows the list and the subject of the first
-/// value.
+/// state, and whether that tells its contents.
 pub struct BoardRule;
 
-impl<V: Handed, W: Guarded> TableRule<Slot<V, W>, SeatView, Snapshot<V>> for BoardRule {
+impl<V: Handed, W: Guarded> TableRule<Slot<V, W>, SeatView, Snapshot<W>> for BoardRule {
     ghost use Rattle.fd_turn.specs.Rule.{IsKept};
-    ghost use Rattle.fd_turn.specs.Seats.{first_seat};
+    ghost use Rattle.fd_turn.specs.Seats.{first_seat, subject_by};
 
-    ghost holds = { λ _. IsKept V.list V.subject W.list W.doubt W.subject };
+    ghost holds = { λ _. IsKept V.list V.subject W.list W.doubt (subject_by W.subject W.told) };
 
-    ghost first = { λ key. first_seat (V.subject key.value) (V.list key.value) };
+    ghost first = { λ key. first_seat (subject_by W.subject W.told key.value) (W.list key.value) };
 }

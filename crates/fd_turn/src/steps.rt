@@ -44,9 +44,10 @@ impl<V, W> Play<Slot<V, W>, SeatView> for LeaveTurn {
 pub(crate) struct TakeLock;
 
 impl<V, W: Guarded> Play<Slot<V, W>, SeatView> for TakeLock {
+    ghost use Rattle.fd_turn.specs.Seats.{subject_by};
     ghost use Rattle.fd_turn.specs.Steps.{took_lock};
 
-    ghost then = { took_lock W.list W.doubt W.subject };
+    ghost then = { took_lock W.list W.doubt (subject_by W.subject W.told) };
 }
 
 /// The owner's store of 0 in word 2, which gives the state back.

@@ -18,6 +18,14 @@ pub enum Lock {
     Owner(Option<Listing>),
 }
 
+/// What a board is about.
+pub struct Subject {
+    /// What its values and its state are about, in octets.
+    pub text: LinkedList<u8>,
+    /// Whether its state tells its contents.
+    pub told: bool,
+}
+
 /// What a seat knows.
 pub struct SeatView {
     /// All listings that it has seen, in order.
@@ -32,8 +40,8 @@ pub struct SeatView {
     pub doubts: LinkedList<Listing>,
     /// The length of the list that the board began with.
     pub opening: u64,
-    /// What the board's values and its state are about, in octets.
-    pub subject: LinkedList<u8>,
+    /// What the board is about.
+    pub subject: Subject,
     /// Whether it has the turn.
     pub turn: Turn,
     /// Whether it has the lock.

@@ -8,7 +8,7 @@ ghost use Rattle.fd_turn.specs.Views.{all_parts, IsOwner};
 ghost use Rattle.fd_turn.specs.Seats.{with_turn};
 ghost use Rattle.fd_turn.specs.Passes.{view, identity, IsOf, IsSame};
 
-use super::{Board, Pass};
+use super::{Board, Pass, SPINS};
 use crate::handed::{Guarded, Handed};
 use crate::rule::Slot;
 use crate::steps::{LeaveTurn, Publish, Read, TakeTurn};
@@ -17,15 +17,17 @@ use atomic_table::Seat;
 use fd_bytes::NoMemory;
 use std::alloc::Global;
 use std::sync::Wait;
+use std::{hint, thread};
 
 impl<V: Handed, W: Guarded> Board<V, W> {
-    // Tries until the turn was free.
+    // Tries until the turn was free: some times at once, and from then on each time after giving the processor away.
     fn take_turn<R: Wait>(&self, rt: &R, seat: &mut Seat<Slot<V, W>, SeatView>)
         requires own { seat.old.table_id ≡ self.now.table.shared.table_id }
         requires away { (seat.old.me.0.turn ≡ Away) × (0 < seat.old.me.0.parts) }
         ensures own { seat.new.table_id ≡ seat.old.table_id }
-        ensures taken { (x : _) × (seat.new.me ≡ (with_turn seat.old.me.0 (Holder (V.list x) false), (0, Slot.Value x) ∷ seat.old.me.1)) × ((d : Option Listing) → seat.old.me.0.lock ≡ Owner d → V.list x ≡ seat.old.me.0.history) × (V.subject x ≡ seat.old.me.0.subject) }
+        ensures taken { (x : _) × (seat.new.me ≡ (with_turn seat.old.me.0 (Holder (V.list x) false), (0, Slot.Value x) ∷ seat.old.me.1)) × ((d : Option Listing) → seat.old.me.0.lock ≡ Owner d → V.list x ≡ seat.old.me.0.history) × (V.subject x ≡ seat.old.me.0.subject.text) }
     {
+        let mut spins = 0;
         for _ in rt.forever() {
             if self
                 .table
@@ -34,6 +36,12 @@ impl<V: Handed, W: Guarded> Board<V, W> {
                 == 0
             {
                 return;
+            }
+            if spins < SPINS {
+                spins += 1;
+                hint::spin_loop();
+            } else {
+                thread::yield_now();
             }
         }
         unreachable!()

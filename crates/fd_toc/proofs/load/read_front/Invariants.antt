@@ -1,6 +1,6 @@
-use Rattle.std.proofs.Common.{◌≡◌, ◌≤◌, IfSome, length, take}
+use Rattle.std.proofs.Common.{◌≡◌, ◌≤◌, ◌-◌, IfSome, length, take}
 use Rattle.fd_disk.specs.Moments.{LeavesOnly, MayLeave}
-use Rattle.fd_toc.proofs.load.read_all.Given as goal
+use Rattle.fd_toc.proofs.load.read_front.Given as goal
 
 abbrev pub invariant-pieces : goal.invariant-pieces
 invariant-pieces g l = record {
@@ -10,3 +10,6 @@ invariant-pieces g l = record {
   later : g.T.Disk.faults l.fn.table ≤ g.T.Disk.faults l.table;
   bytes : IfSome (g.T.Disk.file l.fn.table) (λ f. l.bytes.items ≡ take (length l.bytes.items) f.reads);
 }
+
+abbrev pub decreases-pieces : goal.decreases-pieces
+decreases-pieces g l = 4194561 - length l.bytes.items
