@@ -2,6 +2,7 @@ pub mod Digits
 pub mod NameLaws
 pub mod Zeros
 pub mod KeyLaws
+mod ByOctets
 pub mod GivenLaws
 mod Rows
 pub mod ValueLaws
@@ -11,3 +12,4 @@ pub mod AgainTimes
 pub mod AgainLevels
 pub mod AgainSteps
 pub mod Spelled
+pub mod Short

@@ -1,9 +1,9 @@
 -- Levels: the types and values of the two fixed surfaces of a field (code table 4.5 of FM 92 GRIB).
-use Rattle.std.specs.Prelude.{◌≡◌, ◌<◌, ◌≤◌, ℕ, ℤ, ◌+◌, Bool, true, false, List, [], ◌∷◌, ◌++◌, length, take, drop, codes, replicate, unsigned_abs, Option, Some, None, not, ◌&&◌, ◌||◌, ◌==◌, if◌then◌else◌}
+use Rattle.std.specs.Prelude.{◌≡◌, ◌<◌, ◌≤◌, ℕ, ℤ, ◌+◌, Bool, true, false, List, [], ◌∷◌, ◌++◌, length, take, drop, codes, replicate, unsigned_abs, Option, Some, None, not, ◌&&◌, ◌==◌, if◌then◌else◌}
 use Rattle.std.specs.List.{list_all}
 use Rattle.std.specs.Int.{is_negative}
 use Rattle.std.specs.Fmt.{decimal}
-use Rattle.fd_bytes.specs.Numbers.{octets, signed, is_missing}
+use Rattle.fd_templates.specs.declared.product.Product.{Product}
 use Rattle.fd_key.specs.Names.{is_value_byte}
 use Rattle.fd_key.specs.Numerals.{number_up_to, cut, is_numeral, ◌>>=◌}
 
@@ -110,14 +110,18 @@ scaled_text factor value =
     let digits = point_moved (decimal (unsigned_abs value)) factor in
     level_text (is_negative value) digits.0 digits.1
 
--- the value of a surface, whose type, scale factor and scaled value stand in section 4 from this octet on: there is none
--- where the type, the factor or the value is missing
-unfoldable pub surface_text : ℕ → List ℕ → Option (List ℕ)
-surface_text at product =
-    if (octets at at product == 255) || is_missing 8 (octets (at + 1) (at + 1) product) || is_missing 32 (octets (at + 2) (at + 5) product)
-    then None
-    else Some (scaled_text (signed 8 (octets (at + 1) (at + 1) product)) (signed 32 (octets (at + 2) (at + 5) product)))
+-- the value of a surface of this type, by its scale factor and its scaled value: there is none where the type, the factor or
+-- the value is missing
+abbrev pub scaled_if : Option ℤ → Option ℤ → Option (List ℕ)
+scaled_if None value = None
+scaled_if (Some factor) None = None
+scaled_if (Some factor) (Some value) = Some (scaled_text factor value)
 
--- the values of the surfaces, which begin at octets 23 and 29
-abbrev pub levels_of : List ℕ → Option (List ℕ)
-levels_of product = levels_text (surface_text 23 product) (surface_text 29 product)
+unfoldable pub surface_text : ℕ → Option ℤ → Option ℤ → Option (List ℕ)
+surface_text type factor value = if type == 255 then None else scaled_if factor value
+
+-- the values of the surfaces of a product
+abbrev pub levels_of : Product → Option (List ℕ)
+levels_of p =
+    levels_text (surface_text p.first_surface_type p.first_surface_factor p.first_surface_value)
+    (surface_text p.second_surface_type p.second_surface_factor p.second_surface_value)

@@ -9,3 +9,4 @@ pub mod Seen
 pub mod Given
 pub mod Reading
 pub mod Keys
+pub mod FaultTexts

@@ -3,6 +3,9 @@ ghost use Rattle.fd_key.specs.declared.fault.KeyFault.TheVariants as key_faults;
 ghost use Rattle.fd_key.specs.declared.fault.ValueFault.TheVariants as value_faults;
 ghost use Rattle.fd_key.specs.declared.fault.GivenFault.TheVariants as given_faults;
 
+use std::error::Error;
+use std::fmt;
+
 /// Why a message has no key.
 #[derive(Clone, Copy, Debug, PartialEq, Eq)]
 pub enum KeyFault {
@@ -63,3 +66,56 @@ impl From<fd_bytes::NoMemory> for GivenFault {
         GivenFault::NoMemory
     }
 }
+
+impl fmt::Display for KeyFault {
+    ghost use Rattle.std.specs.Prelude.{Some};
+    ghost use Rattle.fd_key.specs.FaultTexts.{key_fault_text};
+
+    ghost output = { λ fault. Some (key_fault_text fault) };
+
+    fn fmt<W: fmt::Write>(&self, f: &mut fmt::Formatter<W>) -> fmt::Result {
+        match self {
+            KeyFault::Product(template) => write!(f, "Product {template}"),
+            KeyFault::ProductLength { said } => write!(f, "ProductLength {said}"),
+            KeyFault::BadDate => f.write_str("BadDate"),
+            KeyFault::KeyTooLong { len } => write!(f, "KeyTooLong {len}"),
+            KeyFault::NoMemory => f.write_str("NoMemory"),
+        }
+    }
+}
+
+impl Error for KeyFault {}
+
+impl fmt::Display for ValueFault {
+    ghost use Rattle.std.specs.Prelude.{Some};
+    ghost use Rattle.fd_key.specs.FaultTexts.{value_fault_text};
+
+    ghost output = { λ fault. Some (value_fault_text fault) };
+
+    fn fmt<W: fmt::Write>(&self, f: &mut fmt::Formatter<W>) -> fmt::Result {
+        match self {
+            ValueFault::BadValue => f.write_str("BadValue"),
+            ValueFault::NoMemory => f.write_str("NoMemory"),
+        }
+    }
+}
+
+impl Error for ValueFault {}
+
+impl fmt::Display for GivenFault {
+    ghost use Rattle.std.specs.Prelude.{Some};
+    ghost use Rattle.fd_key.specs.FaultTexts.{given_fault_text};
+
+    ghost output = { λ fault. Some (given_fault_text fault) };
+
+    fn fmt<W: fmt::Write>(&self, f: &mut fmt::Formatter<W>) -> fmt::Result {
+        match self {
+            GivenFault::Pair { at } => write!(f, "Pair {at}"),
+            GivenFault::Clash(name) => write!(f, "Clash {name}"),
+            GivenFault::Twice(name) => write!(f, "Twice {name}"),
+            GivenFault::NoMemory => f.write_str("NoMemory"),
+        }
+    }
+}
+
+impl Error for GivenFault {}

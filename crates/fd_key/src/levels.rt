@@ -8,12 +8,14 @@ ghost use Rattle.fd_key.specs.Levels.{levtype_text, types_in, levtype_spelling, 
 ghost use Rattle.std.specs.Prelude.{take, drop, unsigned_abs, option_map, IfSome};
 ghost use Rattle.std.specs.Fmt.{decimal};
 ghost use Rattle.fd_key.specs.Canonical.{GivesText};
+ghost use Rattle.fd_templates.specs.Octets.{FitsOrMissing};
+ghost use Rattle.fd_templates.specs.Product.{Fits};
 
 use crate::fault::ValueFault;
 use crate::names::push_bytes;
 use crate::numerals::{cut, is_numeral, number_up_to};
-use crate::octets::{four_octets, octet};
-use fd_bytes::{NoMemory, is_missing, signed};
+use fd_bytes::NoMemory;
+use fd_templates::Product;
 use std::alloc::Global;
 
 /// The type of the first surface, and that of the second unless it is missing.
@@ -271,32 +273,49 @@ fn scaled_text(alloc: Global, factor: &i64, value: &i64) -> Result<String, NoMem
     }
 }
 
-/// The value of a surface, whose type, scale factor and scaled value stand in section 4 from this octet on, if it has one.
+/// The value of a surface of this type, by its scale factor and its scaled value, if it has one.
 #[tactic(auto, unfolding(crate::specs::Levels::surface_text))]
-fn surface_text(alloc: Global, product: &[u8], at: usize) -> Result<Option<String>, NoMemory>
-    requires first { 1 ≤ at }
-    requires there { at + 5 ≤ length product.now }
-    ensures text { IfOk result (λ o. option_map string_bytes o ≡ surface_text at product.now) }
+fn surface_text(
+    alloc: Global,
+    surface: u8,
+    factor: &Option<i32>,
+    value: &Option<i32>,
+) -> Result<Option<String>, NoMemory>
+    requires { IfSome factor.now (FitsOrMissing 1) }
+    ensures text { IfOk result (λ o. option_map string_bytes o ≡ surface_text surface factor.now value.now) }
     ensures short { IfOk result (λ o. IfSome o (λ s. length (string_bytes s) ≤ 300)) }
 {
-    let surface = octet(product, at);
-    let factor = u64::from(octet(product, at + 1));
-    let value = four_octets(product, at + 2);
-    if surface == 255 || is_missing(factor, 8) || is_missing(value, 32) {
+    if surface == 255 {
         return Ok(None);
     }
-    let text = scaled_text(alloc, &signed(factor, 8), &signed(value, 32))?;
+    let Some(factor) = factor else {
+        return Ok(None);
+    };
+    let Some(value) = value else {
+        return Ok(None);
+    };
+    let text = scaled_text(alloc, &i64::from(*factor), &i64::from(*value))?;
     Ok(Some(text))
 }
 
-/// The values of the surfaces of section 4, if one of them has a value.
-pub(crate) fn levels_of(alloc: Global, product: &[u8]) -> Result<Option<String>, NoMemory>
-    requires { 34 ≤ length product.now }
+/// The values of the surfaces of a product, if one of them has a value.
+pub(crate) fn levels_of(alloc: Global, product: &Product) -> Result<Option<String>, NoMemory>
+    requires { Fits product.now }
     ensures text { IfOk result (λ o. option_map string_bytes o ≡ levels_of product.now) }
     ensures short { IfOk result (λ o. IfSome o (λ s. length (string_bytes s) ≤ 700)) }
 {
-    let first = surface_text(alloc, product, 23)?;
-    let second = surface_text(alloc, product, 29)?;
+    let first = surface_text(
+        alloc,
+        product.first_surface_type,
+        &product.first_surface_factor,
+        &product.first_surface_value,
+    )?;
+    let second = surface_text(
+        alloc,
+        product.second_surface_type,
+        &product.second_surface_factor,
+        &product.second_surface_value,
+    )?;
     match (first, second) {
         (None, None) => Ok(None),
         (Some(v), None) => Ok(Some(v)),

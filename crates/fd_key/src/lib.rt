@@ -10,7 +10,6 @@ mod levels;
 mod meaning;
 mod names;
 mod numerals;
-mod octets;
 mod of_message;
 mod steps;
 mod values;
@@ -20,10 +19,7 @@ pub use fault::{GivenFault, KeyFault, ValueFault};
 pub use given::Given;
 pub use key::Key;
 pub use meaning::{Meaning, meaning_of};
-pub use names::is_name;
+pub use names::{is_name, is_name_byte, is_value_byte};
 pub use numerals::{is_numeral, number_of, number_up_to};
 pub use of_message::key_of;
 pub use values::{canonical, read_pair};
-
-#[cfg(test)]
-mod tests;

@@ -41,13 +41,15 @@ fn is_letter(b: u8) -> bool
     b'a' <= b && b <= b'z'
 }
 
-fn is_name_byte(b: u8) -> bool
+/// Tells that a byte is one of names in lower case: a letter, a digit or `_`.
+pub fn is_name_byte(b: u8) -> bool
     ensures { result ≡ is_name_byte b }
 {
     is_letter(b) || (b'0' <= b && b <= b'9') || b == b'_'
 }
 
-fn is_value_byte(b: u8) -> bool
+/// Tells that a byte is one of values in lower case: a letter, a digit, `.`, `_`, `-` or `+`.
+pub fn is_value_byte(b: u8) -> bool
     ensures { result ≡ is_value_byte b }
 {
     is_letter(b) || (b'0' <= b && b <= b'9') || b == b'.' || b == b'_' || b == b'-' || b == b'+'

@@ -1,22 +1,23 @@
 // The key of a message: what its sections say, and then the given pairs.
 ghost use Rattle.std.specs.Prelude.{◌≡◌, ◌≤◌, ◌<◌, ◌+◌, ◌-◌, ◌^◌, length, true, codes, IfOk, OnOk, string_bytes};
+ghost use Rattle.fd_templates.specs.Product.{Fits};
 ghost use Rattle.std.specs.Fmt.{decimal};
 ghost use Rattle.fd_sections.specs.Parts.{sections_of};
 ghost use Rattle.fd_key.specs.Pairs.{with_pair, with_pair_if, key_text};
 ghost use Rattle.fd_key.specs.Given.{are_reserved};
 ghost use Rattle.fd_key.specs.Levels.{levels_of};
-ghost use Rattle.fd_key.specs.Keys.{key_of, GivesKey, message_pairs, has_date, date_of, time_of, param_in, levtype_of, step_of, origin_pairs, pairs_in};
+ghost use Rattle.fd_key.specs.Keys.{key_of, GivesKey, message_pairs, discipline_of, dated_pairs, has_date, date_of, time_of, param_in, levtype_of, step_of, origin_pairs, pairs_in};
 
 use crate::civil::{date_text, is_date, is_time, time_text};
 use crate::fault::KeyFault;
 use crate::given::Given;
 use crate::key::Key;
 use crate::levels::{levels_of, levtype_text};
-use crate::octets::{four_octets, octet, two_octets};
 use crate::steps::step_text;
 use crate::values::{number_text, param_text};
-use fd_bytes::{NoMemory, signed};
+use fd_bytes::NoMemory;
 use fd_sections::Message;
+use fd_templates::{Ident, Product, TemplateFault};
 use std::alloc::Global;
 
 /// The key of a message: `centre`, `date`, `time`, `type`, `param`, `levtype`, `levelist` and `step` of its sections, and
@@ -45,75 +46,88 @@ fn message_key(alloc: Global, message: &Message<'_>) -> Result<Key, KeyFault>
     ensures short { IfOk result (λ k. length (key_text k) ≤ 1100) }
     ensures own { IfOk result (λ k. are_reserved k ≡ true) }
 {
-    let product = message.product();
-    let template = two_octets(product, 8);
-    if template != 0 {
-        return Err(KeyFault::Product(template as u16));
+    match Product::read(message) {
+        Ok(product) => dated_key(alloc, discipline(message), &Ident::read(message), &product),
+        Err(TemplateFault::Other(template)) => Err(KeyFault::Product(template)),
+        Err(TemplateFault::BadLength { said }) => Err(KeyFault::ProductLength { said }),
     }
-    if product.len() < 34 {
-        return Err(KeyFault::ProductLength {
-            said: product.len() as u64,
-        });
-    }
-    let identification = message.identification();
-    if !has_date(identification) {
+}
+
+/// The discipline of a message.
+#[tactic(auto, unfolding(fd_templates::specs::Octets::number))]
+fn discipline(message: &Message<'_>) -> u8
+    ensures { result ≡ discipline_of (sections_of message.now).indicator }
+{
+    message.indicator()[6]
+}
+
+/// The pairs of sections 0, 1 and 4, where the reference time is a day and a time of day.
+fn dated_key(
+    alloc: Global,
+    discipline: u8,
+    ident: &Ident,
+    product: &Product,
+) -> Result<Key, KeyFault>
+    requires { Fits product.now }
+    ensures key { GivesKey result (dated_pairs discipline ident.now product.now) }
+    ensures short { IfOk result (λ k. length (key_text k) ≤ 1100) }
+    ensures own { IfOk result (λ k. are_reserved k ≡ true) }
+{
+    if !has_date(ident) {
         return Err(KeyFault::BadDate);
     }
-    Ok(own_pairs(alloc, message.indicator(), identification, product)?)
+    Ok(own_pairs(alloc, discipline, ident, product)?)
 }
 
 /// The pairs of section 1.
-fn origin_key(alloc: Global, identification: &[u8]) -> Result<Key, NoMemory>
-    requires { 21 ≤ length identification.now }
-    ensures pairs { IfOk result (λ k. k ≡ origin_pairs identification.now) }
+fn origin_key(alloc: Global, ident: &Ident) -> Result<Key, NoMemory>
+    ensures pairs { IfOk result (λ k. k ≡ origin_pairs ident.now) }
     ensures short { IfOk result (λ k. length (key_text k) ≤ 150) }
 {
     let mut key = Key::new(alloc)?;
-    let centre = two_octets(identification, 6);
-    put_number(alloc, &mut key, "centre", centre as u32)?;
-    let date = date_of(alloc, identification)?;
+    put_number(alloc, &mut key, "centre", u32::from(ident.centre))?;
+    let date = date_of(alloc, ident)?;
     key.put(alloc, "date", date.as_str())?;
-    let time = time_of(alloc, identification)?;
+    let time = time_of(alloc, ident)?;
     key.put(alloc, "time", time.as_str())?;
-    let processed = octet(identification, 21);
-    put_number(alloc, &mut key, "type", u32::from(processed))?;
+    put_number(alloc, &mut key, "type", u32::from(ident.data_type))?;
     Ok(key)
 }
 
-/// The parameter of sections 0 and 4.
-fn param_in(alloc: Global, indicator: &[u8], product: &[u8]) -> Result<String, NoMemory>
-    requires indicator { length indicator.now ≡ 16 }
-    requires product { 34 ≤ length product.now }
-    ensures text { IfOk result (λ s. string_bytes s ≡ param_in indicator.now product.now) }
+/// The quantity, by its discipline, category and number.
+fn param_in(alloc: Global, discipline: u8, product: &Product) -> Result<String, NoMemory>
+    ensures text { IfOk result (λ s. string_bytes s ≡ param_in discipline product.now) }
     ensures short { IfOk result (λ s. length (string_bytes s) ≤ 32) }
 {
-    param_text(
-        alloc,
-        octet(indicator, 7),
-        octet(product, 10),
-        octet(product, 11),
-    )
+    param_text(alloc, discipline, product.category, product.parameter)
 }
 
 /// Puts the parameter and the types of the surfaces.
-fn put_field(alloc: Global, key: &mut Key, indicator: &[u8], product: &[u8]) -> Result<(), NoMemory>
-    requires room { length key.old < 100 }
-    requires indicator { length indicator.now ≡ 16 }
-    requires product { 34 ≤ length product.now }
-    ensures pairs { OnOk result (key.new ≡ with_pair (with_pair key.old (codes "param") (param_in indicator.now product.now)) (codes "levtype") (levtype_of product.now)) }
+fn put_field(
+    alloc: Global,
+    key: &mut Key,
+    discipline: u8,
+    product: &Product,
+) -> Result<(), NoMemory>
+    requires { length key.old < 100 }
+    ensures pairs { OnOk result (key.new ≡ with_pair (with_pair key.old (codes "param") (param_in discipline product.now)) (codes "levtype") (levtype_of product.now)) }
     ensures short { OnOk result (length (key_text key.new) ≤ length (key_text key.old) + 100) }
 {
-    let param = param_in(alloc, indicator, product)?;
+    let param = param_in(alloc, discipline, product)?;
     key.put(alloc, "param", param.as_str())?;
-    let levtype = levtype_text(alloc, octet(product, 23), octet(product, 29))?;
+    let levtype = levtype_text(
+        alloc,
+        product.first_surface_type,
+        product.second_surface_type,
+    )?;
     key.put(alloc, "levtype", levtype.as_str())?;
     Ok(())
 }
 
 /// Puts the values of the surfaces, if there are any.
-fn put_levels(alloc: Global, key: &mut Key, product: &[u8]) -> Result<(), NoMemory>
+fn put_levels(alloc: Global, key: &mut Key, product: &Product) -> Result<(), NoMemory>
     requires room { length key.old < 100 }
-    requires product { 34 ≤ length product.now }
+    requires fits { Fits product.now }
     ensures pairs { OnOk result (key.new ≡ with_pair_if key.old (codes "levelist") (levels_of product.now)) }
     ensures short { OnOk result (length (key_text key.new) ≤ length (key_text key.old) + 710) }
 {
@@ -126,66 +140,61 @@ fn put_levels(alloc: Global, key: &mut Key, product: &[u8]) -> Result<(), NoMemo
 /// The pairs of sections 0, 1 and 4.
 fn own_pairs(
     alloc: Global,
-    indicator: &[u8],
-    identification: &[u8],
-    product: &[u8],
+    discipline: u8,
+    ident: &Ident,
+    product: &Product,
 ) -> Result<Key, NoMemory>
-    requires indicator { length indicator.now ≡ 16 }
-    requires identification { 21 ≤ length identification.now }
-    requires product { 34 ≤ length product.now }
-    ensures pairs { IfOk result (λ k. k ≡ pairs_in indicator.now identification.now product.now) }
+    requires { Fits product.now }
+    ensures pairs { IfOk result (λ k. k ≡ pairs_in discipline ident.now product.now) }
     ensures short { IfOk result (λ k. length (key_text k) ≤ 1100) }
     ensures own { IfOk result (λ k. are_reserved k ≡ true) }
 {
-    let mut key = origin_key(alloc, identification)?;
-    put_field(alloc, &mut key, indicator, product)?;
+    let mut key = origin_key(alloc, ident)?;
+    put_field(alloc, &mut key, discipline, product)?;
     put_levels(alloc, &mut key, product)?;
     let step = step_of(alloc, product)?;
     key.put(alloc, "step", step.as_str())?;
     Ok(key)
 }
 
-/// Tells that the reference time of section 1 is a day of the years 0 to 9999 and a time of day.
-fn has_date(identification: &[u8]) -> bool
-    requires { 21 ≤ length identification.now }
-    ensures { result ≡ has_date identification.now }
+/// Tells that the reference time is a day of the years 0 to 9999 and a time of day.
+fn has_date(ident: &Ident) -> bool
+    ensures { result ≡ has_date ident.now }
 {
     is_date(
-        two_octets(identification, 13) as u32,
-        u32::from(octet(identification, 15)),
-        u32::from(octet(identification, 16)),
+        u32::from(ident.year),
+        u32::from(ident.month),
+        u32::from(ident.day),
     ) && is_time(
-        u32::from(octet(identification, 17)),
-        u32::from(octet(identification, 18)),
-        u32::from(octet(identification, 19)),
+        u32::from(ident.hour),
+        u32::from(ident.minute),
+        u32::from(ident.second),
     )
 }
 
-/// The day of the reference time of section 1.
-fn date_of(alloc: Global, identification: &[u8]) -> Result<String, NoMemory>
-    requires { 21 ≤ length identification.now }
-    ensures text { IfOk result (λ s. string_bytes s ≡ date_of identification.now) }
+/// The day of the reference time.
+fn date_of(alloc: Global, ident: &Ident) -> Result<String, NoMemory>
+    ensures text { IfOk result (λ s. string_bytes s ≡ date_of ident.now) }
     ensures short { IfOk result (λ s. length (string_bytes s) ≤ 8) }
 {
     date_text(
         alloc,
-        two_octets(identification, 13) as u32,
-        u32::from(octet(identification, 15)),
-        u32::from(octet(identification, 16)),
+        u32::from(ident.year),
+        u32::from(ident.month),
+        u32::from(ident.day),
     )
 }
 
-/// The time of day of the reference time of section 1.
-fn time_of(alloc: Global, identification: &[u8]) -> Result<String, NoMemory>
-    requires { 21 ≤ length identification.now }
-    ensures text { IfOk result (λ s. string_bytes s ≡ time_of identification.now) }
+/// The time of day of the reference time.
+fn time_of(alloc: Global, ident: &Ident) -> Result<String, NoMemory>
+    ensures text { IfOk result (λ s. string_bytes s ≡ time_of ident.now) }
     ensures short { IfOk result (λ s. length (string_bytes s) ≤ 6) }
 {
     time_text(
         alloc,
-        u32::from(octet(identification, 17)),
-        u32::from(octet(identification, 18)),
-        u32::from(octet(identification, 19)),
+        u32::from(ident.hour),
+        u32::from(ident.minute),
+        u32::from(ident.second),
     )
 }
 
@@ -199,17 +208,16 @@ fn put_number(alloc: Global, key: &mut Key, name: &str, number: u32) -> Result<(
     key.put(alloc, name, text.as_str())
 }
 
-/// The forecast time of section 4.
-fn step_of(alloc: Global, product: &[u8]) -> Result<String, NoMemory>
-    requires { 34 ≤ length product.now }
+/// The forecast time.
+fn step_of(alloc: Global, product: &Product) -> Result<String, NoMemory>
     ensures text { IfOk result (λ s. string_bytes s ≡ step_of product.now) }
     ensures short { IfOk result (λ s. length (string_bytes s) ≤ 40) }
 {
-    let number = signed(four_octets(product, 19), 32);
+    let number = product.forecast_time;
     step_text(
         alloc,
         number.is_negative(),
-        number.unsigned_abs(),
-        octet(product, 18),
+        u64::from(number.unsigned_abs()),
+        product.time_unit,
     )
 }

@@ -14,9 +14,9 @@ use Rattle.fd_templates.specs.Grid.{grid_is}
 use Rattle.fd_templates.specs.Product.{product_is}
 use Rattle.fd_templates.specs.Simple.{simple_is}
 use Rattle.fd_key.specs.declared.fault.KeyFault.{KeyFault}
-use Rattle.fd_key.specs.declared.fault.KeyFault.TheVariants as key
 use Rattle.fd_key.specs.Pairs.{Pair, key_text}
 use Rattle.fd_key.specs.Keys.{key_of}
+use Rattle.fd_key.specs.FaultTexts.{key_fault_text}
 use Rattle.fd_listing.specs.Lines.{blank, line}
 
 -- ---- Numbers
@@ -166,13 +166,6 @@ abbrev pub map_line : List ℕ → List ℕ
 map_line bit_map = line (codes "map " ++ decimal (octets 6 6 bit_map))
 
 -- ---- The key, or why there is none
-
-abbrev pub key_fault_text : KeyFault → List ℕ
-key_fault_text (key.Product template) = codes "Product " ++ decimal template
-key_fault_text (key.ProductLength said) = codes "ProductLength " ++ decimal said
-key_fault_text key.BadDate = codes "BadDate"
-key_fault_text (key.KeyTooLong len) = codes "KeyTooLong " ++ decimal len
-key_fault_text key.NoMemory = codes "NoMemory"
 
 abbrev pub key_line_text : Result (List Pair) KeyFault → List ℕ
 key_line_text (Ok pairs) = key_text pairs

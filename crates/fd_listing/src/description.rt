@@ -3,7 +3,7 @@ ghost use Rattle.fd_sections.specs.Parts.{sections_of};
 ghost use Rattle.fd_key.specs.Keys.{key_of};
 ghost use Rattle.fd_io.specs.Streams.{Takes, TakesFront};
 ghost use Rattle.fd_listing.specs.Sinks.{HasSinkCause};
-ghost use Rattle.fd_listing.specs.Describe.{ident_numbers, grid_numbers, product_numbers, formula_text, packing_text, template_line, message_line, ident_line, grid_line, product_line, packing_line, map_line, key_line, key_line_text, key_fault_text, describe_text};
+ghost use Rattle.fd_listing.specs.Describe.{ident_numbers, grid_numbers, product_numbers, formula_text, packing_text, template_line, message_line, ident_line, grid_line, product_line, packing_line, map_line, key_line, key_line_text, describe_text};
 
 use crate::fault::TextFault;
 use crate::lines::write_text;
@@ -211,20 +211,6 @@ pub fn none_given(alloc: Global) -> Result<Given, NoMemory>
     }
 }
 
-/// Appends why a message has no key: the kind of the fault, and its number behind a blank.
-pub fn push_key_fault(out: &mut String, fault: KeyFault) -> Result<(), NoMemory>
-    ensures { OnOk result (string_bytes out.new ≡ string_bytes out.old ++ key_fault_text fault) }
-{
-    match fault {
-        KeyFault::Product(template) => write!(out, "Product {template}")?,
-        KeyFault::ProductLength { said } => write!(out, "ProductLength {said}")?,
-        KeyFault::BadDate => out.push_str("BadDate")?,
-        KeyFault::KeyTooLong { len } => write!(out, "KeyTooLong {len}")?,
-        KeyFault::NoMemory => out.push_str("NoMemory")?,
-    }
-    Ok(())
-}
-
 /// The key, or why there is none.
 fn push_key_text(alloc: Global, out: &mut String, message: &Message<'_>) -> Result<(), NoMemory>
     ensures { OnOk result (string_bytes out.new ≡ string_bytes out.old ++ key_line_text (key_of (sections_of message.now) [])) }
@@ -238,8 +224,8 @@ fn push_key_text(alloc: Global, out: &mut String, message: &Message<'_>) -> Resu
         }
         Err(KeyFault::NoMemory) => Err(NoMemory),
         Err(fault) => {
-            out.push_str("refused ")?;
-            push_key_fault(out, fault)
+            write!(out, "refused {fault}")?;
+            Ok(())
         }
     }
 }

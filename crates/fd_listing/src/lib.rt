@@ -6,9 +6,7 @@ mod fault;
 mod lines;
 mod numbers;
 mod point_values;
-#[cfg(test)]
-mod tests;
 
-pub use description::{describe, none_given, push_key_fault};
+pub use description::{describe, none_given};
 pub use fault::{TextFault, ValuesFault};
 pub use point_values::values;

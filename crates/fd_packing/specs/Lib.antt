@@ -6,3 +6,4 @@ pub mod Value
 pub mod Faults
 pub mod Field
 pub mod Parts
+pub mod FaultTexts

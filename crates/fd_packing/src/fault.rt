@@ -3,6 +3,8 @@ ghost use Rattle.fd_packing.specs.Faults.{of_template};
 
 use fd_bytes::NoMemory;
 use fd_templates::TemplateFault;
+use std::error::Error;
+use std::fmt;
 
 /// Why the values of a message are not read: the first thing that is wrong, in this order.
 #[derive(Clone, Copy, Debug, PartialEq, Eq)]
@@ -59,3 +61,43 @@ impl From<NoMemory> for PackFault {
         PackFault::NoMemory
     }
 }
+
+impl fmt::Display for FieldFault {
+    ghost use Rattle.std.specs.Prelude.{Some};
+    ghost use Rattle.fd_packing.specs.FaultTexts.{field_fault_text};
+
+    ghost output = { λ fault. Some (field_fault_text fault) };
+
+    fn fmt<W: fmt::Write>(&self, f: &mut fmt::Formatter<W>) -> fmt::Result {
+        match self {
+            FieldFault::Template(template) => write!(f, "Template {template}"),
+            FieldFault::BadLength { said } => write!(f, "BadLength {said}"),
+            FieldFault::Bits(bits) => write!(f, "Bits {bits}"),
+            FieldFault::ReferenceNotFinite(raw) => write!(f, "ReferenceNotFinite {raw}"),
+            FieldFault::TooWide { need } => write!(f, "TooWide {need}"),
+            FieldFault::BitMap(indicator) => write!(f, "BitMap {indicator}"),
+            FieldFault::MapShort { need, found } => write!(f, "MapShort {need} {found}"),
+            FieldFault::Count { said, found } => write!(f, "Count {said} {found}"),
+            FieldFault::PackedShort { need, found } => write!(f, "PackedShort {need} {found}"),
+            FieldFault::NoMemory => f.write_str("NoMemory"),
+        }
+    }
+}
+
+impl Error for FieldFault {}
+
+impl fmt::Display for PackFault {
+    ghost use Rattle.std.specs.Prelude.{Some};
+    ghost use Rattle.fd_packing.specs.FaultTexts.{pack_fault_text};
+
+    ghost output = { λ fault. Some (pack_fault_text fault) };
+
+    fn fmt<W: fmt::Write>(&self, f: &mut fmt::Formatter<W>) -> fmt::Result {
+        match self {
+            PackFault::DoesNotFit { at } => write!(f, "DoesNotFit {at}"),
+            PackFault::NoMemory => f.write_str("NoMemory"),
+        }
+    }
+}
+
+impl Error for PackFault {}

@@ -20,6 +20,3 @@ pub use field::Field;
 pub use ieee::reference_is_exact;
 pub use packing::pack;
 pub use points::Points;
-
-#[cfg(test)]
-mod tests;

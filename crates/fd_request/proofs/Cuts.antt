@@ -6,7 +6,7 @@ use Rattle.std.proofs.lemmas.List.{at_drop_more, at_drop_all, append-nil, map_pu
 use Rattle.fd_schema.specs.declared.token.Token.{Token}
 use Rattle.fd_schema.specs.Tokens.{Part, views}
 use Rattle.fd_request.specs.declared.word.Word as code_word
-use Rattle.fd_request.specs.Grammar.{Word, side_by_side, joined, behind_words, first_of_two, word_in}
+use Rattle.fd_request.specs.Grammar.{Word, side_by_side, joined, behind_words, first_of_two, word_in, unless_behind, up_to_behind}
 use Rattle.fd_request.specs.Seen.{seen_word, seen_words}
 
 -- ---- tokens side by side
@@ -73,11 +73,40 @@ none_behind ws i le = at_drop_all (λ (us : List code_word.Word). behind_words (
 
 -- ---- one more word
 
-pub word_more : (ws new : List code_word.Word) (w : code_word.Word) (p : Part) (ps qs : List Part) (all : List Word)
-    → new ≡ ws ++ w ∷ [] → seen_word w ≡ word_in p → qs ≡ p ∷ ps → seen_words ws ++ map word_in qs ≡ all → seen_words new ++ map word_in ps ≡ all
-word_more ws new w p ps qs all pushed is parts_are so_far =
-    ap (λ (us : List code_word.Word). seen_words us ++ map word_in ps) pushed
-    ∙ ap (λ (us : List Word). us ++ map word_in ps) (map_push seen_word ws w)
-    ∙ append_assoc (seen_words ws) (seen_word w ∷ []) (map word_in ps)
-    ∙ ap (λ (x : Word). seen_words ws ++ (x ∷ map word_in ps)) is
-    ∙ ap (λ (us : List Part). seen_words ws ++ map word_in us) (sym parts_are) ∙ so_far
+all_after : (o : Option ℕ) (ws : List Word) → is_some o ≡ false → ws ≡ unless_behind o ws
+all_after None ws h = refl
+all_after (Some place) ws h = absurd (cc)
+
+none_after : (o : Option ℕ) (ws : List Word) → is_some o ≡ true → [] ≡ unless_behind o ws
+none_after None ws h = absurd (cc)
+none_after (Some place) ws h = refl
+
+-- what a word and those behind it are, behind these
+one_cut : (ws : List code_word.Word) (w : code_word.Word) (p : Part) (ps qs : List Part) (all : List Word)
+    → seen_word w ≡ word_in p → qs ≡ p ∷ ps → seen_words ws ++ up_to_behind (map word_in qs) ≡ all
+    → seen_words ws ++ (seen_word w ∷ unless_behind w.behind (up_to_behind (map word_in ps))) ≡ all
+unfolding up_to_behind
+one_cut ws w p ps qs all is parts_are so_far =
+    ap (λ (x : Word). seen_words ws ++ (x ∷ unless_behind x.behind (up_to_behind (map word_in ps)))) is
+    ∙ ap (λ (us : List Part). seen_words ws ++ up_to_behind (map word_in us)) (sym parts_are) ∙ so_far
+
+pub word_goes : (ws new : List code_word.Word) (w : code_word.Word) (p : Part) (ps qs : List Part) (all : List Word)
+    → new ≡ ws ++ w ∷ [] → seen_word w ≡ word_in p → is_some w.behind ≡ false → qs ≡ p ∷ ps → seen_words ws ++ up_to_behind (map word_in qs) ≡ all → seen_words new ++ up_to_behind (map word_in ps) ≡ all
+word_goes ws new w p ps qs all pushed is open_ parts_are so_far =
+    let rest = up_to_behind (map word_in ps) in
+    ap (λ (us : List code_word.Word). seen_words us ++ rest) pushed
+    ∙ ap (λ (us : List Word). us ++ rest) (map_push seen_word ws w)
+    ∙ append_assoc (seen_words ws) (seen_word w ∷ []) rest
+    ∙ ap (λ (us : List Word). seen_words ws ++ (seen_word w ∷ us)) (all_after w.behind rest open_)
+    ∙ one_cut ws w p ps qs all is parts_are so_far
+
+pub word_stops : (ws new : List code_word.Word) (w : code_word.Word) (p : Part) (ps qs : List Part) (all : List Word)
+    → new ≡ ws ++ w ∷ [] → seen_word w ≡ word_in p → is_some w.behind ≡ true → qs ≡ p ∷ ps → seen_words ws ++ up_to_behind (map word_in qs) ≡ all → seen_words new ≡ all
+word_stops ws new w p ps qs all pushed is some parts_are so_far =
+    ap seen_words pushed ∙ map_push seen_word ws w
+    ∙ ap (λ (us : List Word). seen_words ws ++ (seen_word w ∷ us)) (none_after w.behind (up_to_behind (map word_in ps)) some)
+    ∙ one_cut ws w p ps qs all is parts_are so_far
+
+pub words_end : (new : List code_word.Word) (all : List Word) → seen_words new ++ up_to_behind [] ≡ all → seen_words new ≡ all
+unfolding up_to_behind
+words_end new all h = sym (append-nil (seen_words new)) ∙ h

@@ -111,7 +111,7 @@ next_is number d n below = go (ltb d.day (month_days d.year d.month)) refl
         }
     go false e = months (ltb d.month 12) refl (let within : d.day ≤ month_days d.year d.month = n.civil.2.1 in omega (arith, ltb-false d.day (month_days d.year d.month) e))
 
-later_is : (first : ℤ) (d : Day) (far : ℕ) → IsNumbered first d → (first +ℤ pos far) ≤ℤ pos 2_932_896 → IsNumbered (first +ℤ pos far) (later far d)
+pub later_is : (first : ℤ) (d : Day) (far : ℕ) → IsNumbered first d → (first +ℤ pos far) ≤ℤ pos 2_932_896 → IsNumbered (first +ℤ pos far) (later far d)
 unfolding later
 later_is first d zero n high = record { civil = n.civil; is = n.is ∙ omega (arith, ints) }
 later_is first d (suc far) n high =

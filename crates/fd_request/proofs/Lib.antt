@@ -3,6 +3,7 @@ mod Examples
 pub mod Cuts
 pub mod Ends
 pub mod RangeLaws
+pub mod Reaches
 pub mod Turns
 pub mod Lengths
 pub mod Places

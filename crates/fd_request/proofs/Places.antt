@@ -16,7 +16,7 @@ use Rattle.fd_request.specs.Reading.{Fails}
 use Rattle.fd_request.specs.Requests.{IsPlace}
 use Rattle.fd_request.specs.Expansion.{Keyword}
 use Rattle.fd_request.specs.Ranges.{range_of}
-use Rattle.fd_request.specs.Grammar.{Fault, ◌>>=◌, wrong, Verb, Pair, Repeated, each_of, front_place, verb_of, Word, first_place, side_by_side, word_in, value_or, value_of, value_in, word_texts, is_range_word, first_of_two, behind_words, range_or, values_of, has_name, words_of, behind_name, name_of, keyword_of, keyword_in, behind_verb, request_in, keywords_of}
+use Rattle.fd_request.specs.Grammar.{Fault, ◌>>=◌, wrong, Verb, Pair, Repeated, each_of, front_place, verb_of, Word, first_place, side_by_side, word_in, value_or, value_of, value_in, word_texts, is_range_word, first_of_two, behind_words, range_or, values_of, has_name, unless_behind, up_to_behind, words_of, behind_name, name_of, keyword_of, keyword_in, behind_verb, request_in, keywords_of}
 
 -- what is wrong is wrong at most at this place
 abbrev pub Within : {A : Type 0} → ℕ → Result A Fault → Type 0
@@ -113,6 +113,15 @@ words_end : (n : ℕ) (ps : List Part) → PartsEnd n ps → WordsEnd n (map wor
 words_end n [] h = tt
 words_end n (p ∷ ps) h = (word_end n p h.0, words_end n ps h.1)
 
+open_end : (n : ℕ) (o : Option ℕ) (ws : List Word) → WordsEnd n ws → WordsEnd n (unless_behind o ws)
+open_end n None ws h = h
+open_end n (Some place) ws h = tt
+
+cut_end : (n : ℕ) (ws : List Word) → WordsEnd n ws → WordsEnd n (up_to_behind ws)
+unfolding up_to_behind
+cut_end n [] h = tt
+cut_end n (w ∷ ws) h = (h.0, open_end n w.behind (up_to_behind ws) (cut_end n ws h.1))
+
 two_end : (n : ℕ) (o p : Option ℕ) → PlaceIn n o → PlaceIn n p → PlaceIn n (first_of_two o p)
 two_end n None p ho hp = hp
 two_end n (Some x) p ho hp = ho
@@ -156,7 +165,7 @@ unfolding behind_name
 behind_within n name stop [] e h = let le : stop.at ≤ n = omega arith in le
 behind_within n name stop (t ∷ ts) e h =
     choice n (is_token 61 t) (values_of name (front_place stop ts) (words_of stop ts)) (wrong t.at Pair)
-    (values_within n name (front_place stop ts) (words_of stop ts) (front_end n stop ts e h.1) (words_end n (parts 47 stop ts) (parts_end n 47 stop ts e h.1)))
+    (values_within n name (front_place stop ts) (words_of stop ts) (front_end n stop ts e h.1) (cut_end n (map word_in (parts 47 stop ts)) (words_end n (parts 47 stop ts) (parts_end n 47 stop ts e h.1))))
     (let le : t.at ≤ n = omega (arith, h.0) in le)
 
 name_within : (n : ℕ) (before : List Keyword) (t : Piece) → Ends n t → Within n (name_of before t)

@@ -131,8 +131,18 @@ values_of name at words =
 abbrev pub has_name : List Keyword → List ℕ → Bool
 has_name ks name = list_any (λ k. bytes_eq k.name name) ks
 
+-- Behind a word that has something else than a slash behind it, the values are at their end: what stands further on is none
+-- of them.
+abbrev pub unless_behind : Option ℕ → List Word → List Word
+unless_behind None ws = ws
+unless_behind (Some place) ws = []
+
+unfoldable pub up_to_behind : List Word → List Word
+up_to_behind [] = []
+up_to_behind (w ∷ ws) = w ∷ unless_behind w.behind (up_to_behind ws)
+
 abbrev pub words_of : Piece → List Piece → List Word
-words_of stop ts = map word_in (parts 47 stop ts)
+words_of stop ts = up_to_behind (map word_in (parts 47 stop ts))
 
 -- what stands behind a name
 unfoldable pub behind_name : List ℕ → Piece → List Piece → Result (List (List ℕ)) Fault

@@ -1,5 +1,6 @@
 pub mod Expansion
 pub mod Ranges
+pub mod Reached
 pub mod Grammar
 pub mod Limits
 pub mod Seen
@@ -9,3 +10,4 @@ pub mod Reading
 pub mod Requests
 pub mod Behind
 pub mod Matching
+pub mod FaultTexts

@@ -2,6 +2,8 @@ ghost use Rattle.std.specs.Prelude.{◌≡◌};
 ghost use Rattle.fd_request.specs.declared.fault.Refusal.TheVariants as refusals;
 
 use std::alloc::{AllocError, AllocFailed};
+use std::error::Error;
+use std::fmt;
 
 /// What is wrong with a request.
 #[derive(Debug, Drop)]
@@ -64,3 +66,39 @@ impl<T: Drop> From<AllocFailed<T>> for Refusal {
         Refusal::NoMemory
     }
 }
+
+impl fmt::Display for RequestKind {
+    ghost use Rattle.std.specs.Prelude.{Some};
+    ghost use Rattle.fd_request.specs.FaultTexts.{request_kind_text};
+
+    ghost output = { λ kind. Some (request_kind_text kind) };
+
+    fn fmt<W: fmt::Write>(&self, f: &mut fmt::Formatter<W>) -> fmt::Result {
+        match self {
+            RequestKind::TooLong => f.write_str("TooLong"),
+            RequestKind::Verb => f.write_str("Verb"),
+            RequestKind::Pair => f.write_str("Pair"),
+            RequestKind::Repeated(name) => write!(f, "Repeated {name}"),
+            RequestKind::Value => f.write_str("Value"),
+            RequestKind::Range => f.write_str("Range"),
+            RequestKind::TooMany { count } => write!(f, "TooMany {count}"),
+            RequestKind::KeyTooLong { len } => write!(f, "KeyTooLong {len}"),
+        }
+    }
+}
+
+impl fmt::Display for RequestFault {
+    ghost use Rattle.std.specs.Prelude.{Some};
+    ghost use Rattle.fd_request.specs.FaultTexts.{request_fault_text};
+
+    ghost output = { λ fault. Some (request_fault_text fault) };
+
+    fn fmt<W: fmt::Write>(&self, f: &mut fmt::Formatter<W>) -> fmt::Result {
+        match self {
+            RequestFault::At { at, kind } => write!(f, "{at} {kind}"),
+            RequestFault::NoMemory => f.write_str("NoMemory"),
+        }
+    }
+}
+
+impl Error for RequestFault {}

@@ -19,9 +19,6 @@ mod values;
 mod word;
 
 pub use fault::{RequestFault, RequestKind};
-pub use laws::{count_of_keys, key_by_division};
+pub use laws::{count_of_keys, key_by_division, range_to_its_end};
 pub use partial::Partial;
 pub use request::Request;
-
-#[cfg(test)]
-mod tests;

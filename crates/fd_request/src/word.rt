@@ -83,8 +83,12 @@ fn word_in(alloc: Global, stop: &Token, tokens: &[Token]) -> Result<Word, NoMemo
     })
 }
 
-/// The words between slashes.
-pub(crate) fn words_of(alloc: Global, stop: &Token, tokens: &[Token]) -> Result<Vec<Word>, NoMemory>
+/// The words between slashes, up to the first one that has something else behind it.
+pub(crate) fn words_of<'s, 't>(
+    alloc: Global,
+    stop: &'s Token<'t>,
+    tokens: &'s [Token<'t>],
+) -> Result<Vec<Word>, NoMemory>
     ensures words { IfOk result (λ v. seen_words v.items ≡ words_of (view stop.now) (views tokens.now)) }
     ensures some { IfOk result (λ v. 0 < length v.items) }
 {
@@ -92,7 +96,12 @@ pub(crate) fn words_of(alloc: Global, stop: &Token, tokens: &[Token]) -> Result<
     let mut from = 0;
     'parts: loop {
         let (inside, behind, next) = part_from(b'/', stop, tokens, from);
-        words.push(word_in(alloc, behind, inside)?)?;
+        let word = word_in(alloc, behind, inside)?;
+        let is_last = word.behind.is_some();
+        words.push(word)?;
+        if is_last {
+            return Ok(words);
+        }
         match next {
             None => return Ok(words),
             Some(place) => from = place,

@@ -16,6 +16,3 @@ pub struct Scaled {
 
 pub use decimals::nearest_is_one;
 pub use fault::DecimalFault;
-
-#[cfg(test)]
-mod tests;

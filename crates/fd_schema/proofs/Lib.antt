@@ -7,3 +7,5 @@ pub mod Whole
 pub mod Facts
 pub mod Laid
 pub mod ReadsBack
+pub mod Places
+pub mod Printing

@@ -4,3 +4,4 @@ pub mod Grammar
 pub mod Seen
 pub mod Reading
 pub mod Printed
+pub mod FaultTexts

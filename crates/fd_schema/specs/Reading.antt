@@ -15,7 +15,6 @@ use Rattle.fd_schema.specs.Rules.{Rule, Texts}
 use Rattle.fd_schema.specs.Grammar.{Wrong, TooLong, Byte, Name, Value, Twice, Depth, NoneRequired, TooMany, End, Empty, Fault, wrong, schema_of}
 
 abbrev pub seen_wrong : code_wrong.Wrong → Wrong
-seen_wrong wrongs.TooLong = TooLong
 seen_wrong wrongs.Byte = Byte
 seen_wrong wrongs.Name = Name
 seen_wrong wrongs.Value = Value

@@ -1,5 +1,5 @@
 -- Rules of a schema: which keys each admits, and the three texts that it makes of a key.
-use Rattle.std.specs.Prelude.{ℕ, ◌+◌, Bool, true, false, not, ◌&&◌, ◌||◌, List, [], ◌∷◌, ◌++◌, codes, is_some, Option, Some, None, if◌then◌else◌}
+use Rattle.std.specs.Prelude.{ℕ, ◌+◌, ◌≤◌, length, Bool, true, false, not, ◌&&◌, ◌||◌, List, [], ◌∷◌, ◌++◌, codes, is_some, Option, Some, None, if◌then◌else◌}
 use Rattle.std.specs.List.{list_all, list_any}
 use Rattle.std.specs.Str.{bytes_eq}
 use Rattle.fd_key.specs.Pairs.{Pair, text_of, pair_text, key_text}
@@ -87,6 +87,11 @@ pub record Texts : Type 0 where
 -- the key of a place in the files of its dataset: the index text, a vertical line, the datum text
 abbrev pub file_key : Texts → List ℕ
 file_key t = t.index ++ 124 ∷ t.datum
+
+-- the texts of a place are short: its dataset has at most 255 bytes, its key in the files at most 256
+pub record IsShort (t : Texts) : Type 0 where
+  pub dataset : length t.dataset ≤ 255
+  pub key : length (file_key t) ≤ 256
 
 abbrev pub texts_of : ℕ → Rule → List Pair → Texts
 texts_of number rule key = record {

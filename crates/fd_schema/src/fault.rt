@@ -4,6 +4,8 @@ ghost use Rattle.fd_schema.specs.declared.fault.SchemaFault.TheVariants as schem
 ghost use Rattle.fd_schema.specs.declared.fault.PlaceFault.TheVariants as place_faults;
 
 use std::alloc::{AllocError, AllocFailed};
+use std::error::Error;
+use std::fmt;
 
 /// What is wrong with a schema.
 #[derive(Debug, Drop)]
@@ -51,7 +53,6 @@ pub enum PlaceFault {
 /// What is wrong at a place.
 #[derive(Debug, Drop)]
 pub(crate) enum Wrong {
-    TooLong,
     Byte,
     Name,
     Value,
@@ -101,3 +102,57 @@ impl From<fd_bytes::NoMemory> for PlaceFault {
         PlaceFault::NoMemory
     }
 }
+
+impl fmt::Display for SchemaKind {
+    ghost use Rattle.std.specs.Prelude.{Some};
+    ghost use Rattle.fd_schema.specs.FaultTexts.{schema_kind_text};
+
+    ghost output = { λ kind. Some (schema_kind_text kind) };
+
+    fn fmt<W: fmt::Write>(&self, f: &mut fmt::Formatter<W>) -> fmt::Result {
+        match self {
+            SchemaKind::TooLong => f.write_str("TooLong"),
+            SchemaKind::Byte(byte) => write!(f, "Byte {byte}"),
+            SchemaKind::Name => f.write_str("Name"),
+            SchemaKind::Value => f.write_str("Value"),
+            SchemaKind::Twice(name) => write!(f, "Twice {name}"),
+            SchemaKind::Depth => f.write_str("Depth"),
+            SchemaKind::Level => f.write_str("Level"),
+            SchemaKind::TooMany { count } => write!(f, "TooMany {count}"),
+            SchemaKind::End => f.write_str("End"),
+            SchemaKind::Empty => f.write_str("Empty"),
+        }
+    }
+}
+
+impl fmt::Display for SchemaFault {
+    ghost use Rattle.std.specs.Prelude.{Some};
+    ghost use Rattle.fd_schema.specs.FaultTexts.{schema_fault_text};
+
+    ghost output = { λ fault. Some (schema_fault_text fault) };
+
+    fn fmt<W: fmt::Write>(&self, f: &mut fmt::Formatter<W>) -> fmt::Result {
+        match self {
+            SchemaFault::At { line, kind } => write!(f, "{line} {kind}"),
+            SchemaFault::NoMemory => f.write_str("NoMemory"),
+        }
+    }
+}
+
+impl Error for SchemaFault {}
+
+impl fmt::Display for PlaceFault {
+    ghost use Rattle.std.specs.Prelude.{Some};
+    ghost use Rattle.fd_schema.specs.FaultTexts.{place_fault_text};
+
+    ghost output = { λ fault. Some (place_fault_text fault) };
+
+    fn fmt<W: fmt::Write>(&self, f: &mut fmt::Formatter<W>) -> fmt::Result {
+        match self {
+            PlaceFault::NoRule => f.write_str("NoRule"),
+            PlaceFault::NoMemory => f.write_str("NoMemory"),
+        }
+    }
+}
+
+impl Error for PlaceFault {}

@@ -1,7 +1,7 @@
 // The items of a level.
 ghost use Rattle.std.specs.Prelude.{◌≡◌, ◌≤◌, ◌<◌, ℕ, List, [], ◌∷◌, IsTrue, length, take, string_bytes, IfOk};
-ghost use Rattle.std.specs.List.{list_all, prefix_len};
-ghost use Rattle.fd_key.specs.Names.{is_letter, is_name, is_name_byte};
+ghost use Rattle.std.specs.List.{prefix_len};
+ghost use Rattle.fd_key.specs.Names.{is_name, is_name_byte};
 ghost use Rattle.fd_schema.specs.Tokens.{view, views, parts};
 ghost use Rattle.fd_schema.specs.Rules.{has_name};
 ghost use Rattle.fd_schema.specs.Grammar.{absent, name_of, want_of, item_of, items_of, level_of, is_bracket, bracket_place, behind, front};
@@ -14,38 +14,11 @@ use crate::token::Token;
 use crate::tokens::{is_token, part_end};
 use crate::values::{absent, ascii_text, values};
 use fd_bytes::NoMemory;
+use fd_key::{is_name, is_name_byte};
 use std::alloc::Global;
 
 /// The most names of a rule.
 const NAMES: usize = 32;
-
-fn is_letter(b: u8) -> bool
-    ensures { result ≡ is_letter b }
-{
-    b'a' <= b && b <= b'z'
-}
-
-fn is_name_byte(b: u8) -> bool
-    ensures { result ≡ is_name_byte b }
-{
-    is_letter(b) || (b'0' <= b && b <= b'9') || b == b'_'
-}
-
-fn are_name_bytes(bytes: &[u8]) -> bool
-    ensures { result ≡ list_all is_name_byte bytes.now }
-{
-    bytes.iter().all(|b| is_name_byte(*b))
-}
-
-/// Tells that a text in lower case is a name: a letter, and up to 15 letters, digits and `_`.
-fn is_name(text: &[u8]) -> bool
-    ensures { result ≡ is_name text.now }
-{
-    let Some((first, others)) = text.split_first() else {
-        return false;
-    };
-    is_letter(*first) && others.len() <= 15 && are_name_bytes(others)
-}
 
 /// How many bytes of a name stand at the front.
 pub fn name_end(text: &[u8]) -> usize

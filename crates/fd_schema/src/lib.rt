@@ -19,6 +19,3 @@ pub use schema::Schema;
 pub use token::Token;
 pub use tokens::{is_token, part_end, tokens_of};
 pub use values::ascii_text;
-
-#[cfg(test)]
-mod tests;

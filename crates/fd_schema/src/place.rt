@@ -1,5 +1,5 @@
 // The place of a key: the first rule that admits it, and the three texts that the rule makes of it.
-ghost use Rattle.std.specs.Prelude.{◌≡◌, ◌≤◌, ◌++◌, ◌∷◌, [], ℕ, List, IfOk, OnOk, string_bytes, option_map, length};
+ghost use Rattle.std.specs.Prelude.{◌≡◌, ◌≤◌, ◌++◌, ◌∷◌, [], ℕ, List, IfOk, OnOk, string_bytes, option_map, length, is_some};
 ghost use Rattle.std.specs.List.{list_all, list_any};
 ghost use Rattle.std.specs.Str.{bytes_eq};
 ghost use Rattle.std.specs.Option.{option_copied};
@@ -11,6 +11,7 @@ use crate::fault::PlaceFault;
 use crate::grammar::same_level;
 use crate::items::has_name;
 use crate::rule::{Item, Level, Rule, Want};
+use arrayvec::ArrayString;
 use fd_bytes::NoMemory;
 use fd_key::Key;
 use std::alloc::Global;
@@ -39,6 +40,18 @@ impl Place {
         key.push(b'|')?;
         key.extend_from_slice(self.datum.as_bytes())?;
         Ok(key)
+    }
+
+    /// The same key where it has at most 256 bytes, as that of a key of at most 255 bytes has. It takes no memory.
+    pub fn short_key(&self) -> ArrayString<256>
+        requires { length (file_key (seen_place self.now)) ≤ 256 }
+        ensures { result.bytes ≡ file_key (seen_place self.now) }
+    {
+        let mut key = ArrayString::new();
+        key.push_str(self.index.as_str());
+        key.push_str("|");
+        key.push_str(self.datum.as_str());
+        key
     }
 }
 
@@ -126,8 +139,8 @@ fn push_pair(out: &mut String, name: &str, text: &str) -> Result<(), NoMemory>
     Ok(())
 }
 
-#[tactic(auto, unfolding(crate::specs::Rules::level_pairs), using(crate::proofs::Texts::one_more, crate::proofs::Texts::no_more))]
 /// The text of one level: the pairs that the key has, in the rule's order.
+#[tactic(auto, unfolding(crate::specs::Rules::level_pairs), using(crate::proofs::Texts::one_more, crate::proofs::Texts::no_more))]
 fn level_text(alloc: Global, level: Level, rule: &[Item], key: &Key) -> Result<String, NoMemory>
     ensures { IfOk result (λ s. string_bytes s ≡ level_text level (seen_items rule.now) key.now) }
 {
@@ -142,8 +155,21 @@ fn level_text(alloc: Global, level: Level, rule: &[Item], key: &Key) -> Result<S
     Ok(out)
 }
 
+/// Tells that some rule admits the key.
 #[tactic(auto, unfolding(crate::specs::Rules::place_from))]
+pub(crate) fn has_place(rules: &[Rule], key: &Key) -> bool
+    ensures { result ≡ is_some (place_from 0 (seen_rules rules.now) key.now) }
+{
+    for candidate in rules {
+        if admits(&candidate.items, key) {
+            return true;
+        }
+    }
+    false
+}
+
 /// The place of a key by the first rule that admits it.
+#[tactic(auto, unfolding(crate::specs::Rules::place_from))]
 pub(crate) fn place_of(alloc: Global, rules: &[Rule], key: &Key) -> Result<Place, PlaceFault>
     requires { length rules.now ≤ 256 }
     ensures { GivesPlace result (place_from 0 (seen_rules rules.now) key.now) }

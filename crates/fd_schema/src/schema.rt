@@ -1,13 +1,14 @@
-ghost use Rattle.std.specs.Prelude.{◌≡◌, ◌≤◌, ◌+◌, ◌==◌, ℕ, List, [], IfOk, Ok, length, take, count_by, slice_index, string_bytes};
-ghost use Rattle.fd_schema.specs.Rules.{place_from};
+ghost use Rattle.std.specs.Prelude.{◌≡◌, ◌≤◌, ◌+◌, ◌==◌, ℕ, List, [], IfOk, Ok, length, take, count_by, slice_index, string_bytes, is_some};
+ghost use Rattle.fd_key.specs.Pairs.{key_text};
+ghost use Rattle.fd_schema.specs.Rules.{IsShort, place_from};
 ghost use Rattle.fd_schema.specs.Grammar.{schema_of};
 ghost use Rattle.fd_schema.specs.Seen.{seen_rules};
 ghost use Rattle.fd_schema.specs.Printed.{schema_text};
-ghost use Rattle.fd_schema.specs.Reading.{Gives, GivesSchema, GivesPlace, Names, line_of, seen_wrong};
+ghost use Rattle.fd_schema.specs.Reading.{Gives, GivesSchema, GivesPlace, Names, line_of, seen_place, seen_wrong};
 
 use crate::fault::{PlaceFault, Refusal, SchemaFault, SchemaKind, Wrong};
 use crate::grammar::rules_of;
-use crate::place::{Place, place_of};
+use crate::place::{Place, has_place, place_of};
 use crate::printed::text_of;
 use crate::rule::Rule;
 use crate::token::Token;
@@ -78,7 +79,6 @@ fn kind_of(wrong: Wrong, byte: u8) -> SchemaKind
     ensures { Names result byte (seen_wrong wrong) }
 {
     match wrong {
-        Wrong::TooLong => SchemaKind::TooLong,
         Wrong::Byte => SchemaKind::Byte(byte),
         Wrong::Name => SchemaKind::Name,
         Wrong::Value => SchemaKind::Value,
@@ -91,15 +91,13 @@ fn kind_of(wrong: Wrong, byte: u8) -> SchemaKind
     }
 }
 
-/// The rules of a text, or the first place that is wrong.
+/// The rules of a text that isn't too long, or the first place that is wrong.
 #[tactic(auto, unfolding(crate::specs::Grammar::schema_of))]
 fn rules_in(alloc: Global, text: &[u8]) -> Result<Vec<Rule>, Refusal>
+    requires { length text.now ≤ 65536 }
     ensures rules { Gives (λ v. seen_rules v.items) result (schema_of text.now) }
     ensures few { IfOk result (λ v. length v.items ≤ 256) }
 {
-    if BYTES < text.len() {
-        return Err(Refusal::At(0, Wrong::TooLong));
-    }
     let shown = plain(alloc, text)?;
     let tokens = tokens_of(alloc, &shown)?;
     let end = Token {
@@ -140,11 +138,19 @@ impl Schema {
 
     /// The place of a key: the first rule that admits it, and the texts of the rule's levels. A rule admits a key that has
     /// all its required names, none that the rule hasn't, and for each restricted name one of its values. `NoRule` exactly
-    /// where no rule admits the key.
+    /// where no rule admits the key. A key of at most 255 bytes has a place whose texts are short.
     pub fn place(&self, alloc: Global, key: &Key) -> Result<Place, PlaceFault>
-        ensures { GivesPlace result (place_from 0 self.now key.now) }
+        ensures place { GivesPlace result (place_from 0 self.now key.now) }
+        ensures short { IfOk result (λ p. length (key_text key.now) ≤ 255 → IsShort (seen_place p)) }
     {
         place_of(alloc, &self.rules, key)
+    }
+
+    /// Tells that a key has a place. It takes no memory.
+    pub fn admits(&self, key: &Key) -> bool
+        ensures { result ≡ is_some (place_from 0 self.now key.now) }
+    {
+        has_place(&self.rules, key)
     }
 
     /// The text of the schema: each rule on a line, as `[a, b [c=v/w [d, e?]]]`. A text that isn't too long for a schema

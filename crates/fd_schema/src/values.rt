@@ -1,7 +1,6 @@
 // The values of a restriction.
 ghost use Rattle.std.specs.Prelude.{◌≡◌, ℕ, List, [], ◌∷◌, Some, None, option_map, string_bytes, nat_lt, if◌then◌else◌};
 ghost use Rattle.std.specs.List.{list_all};
-ghost use Rattle.fd_key.specs.Names.{is_letter, is_value_byte};
 ghost use Rattle.fd_schema.specs.Tokens.{view, views, parts};
 ghost use Rattle.fd_schema.specs.Grammar.{is_ascii, absent, begins_value, value_of, values_of};
 ghost use Rattle.fd_schema.specs.Seen.{texts};
@@ -10,7 +9,7 @@ ghost use Rattle.fd_schema.specs.Reading.{Gives, Fails};
 use crate::fault::{Refusal, Wrong};
 use crate::token::Token;
 use crate::tokens::part_end;
-use fd_key::{ValueFault, canonical};
+use fd_key::{ValueFault, canonical, is_value_byte};
 use std::alloc::Global;
 
 /// Where something is wanted, this stands: a byte, or the end of the text, which is a token without bytes.
@@ -22,17 +21,6 @@ pub(crate) fn absent(stop: &Token) -> Refusal
     } else {
         Refusal::At(stop.at, Wrong::Byte)
     }
-}
-
-fn is_value_byte(b: u8) -> bool
-    ensures { result ≡ is_value_byte b }
-{
-    (b'a' <= b && b <= b'z')
-        || (b'0' <= b && b <= b'9')
-        || b == b'.'
-        || b == b'_'
-        || b == b'-'
-        || b == b'+'
 }
 
 fn begins_value(text: &[u8]) -> bool

@@ -3,3 +3,4 @@ pub mod Grammar
 pub mod Scripts
 pub mod Growing
 pub mod Reading
+pub mod FaultTexts

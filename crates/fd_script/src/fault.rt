@@ -4,6 +4,8 @@ ghost use Rattle.fd_script.specs.declared.fault.Refusal.TheVariants as refusals;
 use fd_key::{GivenFault, KeyFault};
 use fd_request::RequestFault;
 use std::alloc::{AllocError, AllocFailed};
+use std::error::Error;
+use std::fmt;
 
 /// What is wrong with a script.
 #[derive(Debug, Drop)]
@@ -77,3 +79,45 @@ impl<T: Drop> From<AllocFailed<T>> for Refusal {
         Refusal::NoMemory
     }
 }
+
+impl fmt::Display for ScriptKind {
+    ghost use Rattle.std.specs.Prelude.{Some};
+    ghost use Rattle.fd_script.specs.FaultTexts.{script_kind_text};
+
+    ghost output = { λ kind. Some (script_kind_text kind) };
+
+    fn fmt<W: fmt::Write>(&self, f: &mut fmt::Formatter<W>) -> fmt::Result {
+        match self {
+            ScriptKind::TooLong => f.write_str("TooLong"),
+            ScriptKind::Byte(byte) => write!(f, "Byte {byte}"),
+            ScriptKind::Dataset => f.write_str("Dataset"),
+            ScriptKind::Word => f.write_str("Word"),
+            ScriptKind::Name => f.write_str("Name"),
+            ScriptKind::Given(fault) => write!(f, "Given {fault}"),
+            ScriptKind::Request(fault) => write!(f, "Request {fault}"),
+            ScriptKind::Number => f.write_str("Number"),
+            ScriptKind::TooMany { count } => write!(f, "TooMany {count}"),
+            ScriptKind::End => f.write_str("End"),
+            ScriptKind::Message => f.write_str("Message"),
+            ScriptKind::Key(fault) => write!(f, "Key {fault}"),
+            ScriptKind::NoRule => f.write_str("NoRule"),
+            ScriptKind::OtherDataset => f.write_str("OtherDataset"),
+        }
+    }
+}
+
+impl fmt::Display for ScriptFault {
+    ghost use Rattle.std.specs.Prelude.{Some};
+    ghost use Rattle.fd_script.specs.FaultTexts.{script_fault_text};
+
+    ghost output = { λ fault. Some (script_fault_text fault) };
+
+    fn fmt<W: fmt::Write>(&self, f: &mut fmt::Formatter<W>) -> fmt::Result {
+        match self {
+            ScriptFault::At { line, kind } => write!(f, "{line} {kind}"),
+            ScriptFault::NoMemory => f.write_str("NoMemory"),
+        }
+    }
+}
+
+impl Error for ScriptFault {}

@@ -10,6 +10,3 @@ mod words;
 
 pub use fault::{ScriptFault, ScriptKind};
 pub use script::{Lane, Script, Step};
-
-#[cfg(test)]
-mod tests;

@@ -9,8 +9,6 @@ mod reader;
 mod refusal;
 mod sections;
 mod splitter;
-#[cfg(test)]
-mod tests;
 mod whole;
 
 pub use bad::Bad;

@@ -1,17 +1,16 @@
-ghost use Rattle.std.specs.Prelude.{◌≡◌, ◌≤◌, ◌++◌, length, OnOk, OnErr, IfOk, Ok};
+ghost use Rattle.std.specs.Prelude.{◌≡◌, ◌≤◌, ◌++◌, length, OnOk, OnErr, IfOk, IfSome, Ok};
 ghost use Rattle.fd_sections.specs.Message.{IsSection};
 ghost use Rattle.fd_sections.specs.Parts.{sections_of};
 ghost use Rattle.fd_templates.specs.Grid.{grid_is, grid_of, grid_octets, header_octets, earth_octets, size_octets, area_octets, step_octets, Fits};
+ghost use Rattle.fd_templates.specs.Octets.{signed_or_ones, FitsOrMissing};
 
 use crate::fault::TemplateFault;
 use crate::octets::{
-    read_i8_or_missing, read_i32, read_i32_or_missing, read_u8, read_u16, read_u32,
-    read_u32_or_missing, write_i8_or_ones, write_i32, write_i32_or_ones, write_u8, write_u16,
-    write_u32, write_u32_or_ones,
+    i8_or_ones, i32_octets, i32_or_ones, read_i8_or_missing, read_i32, read_i32_or_missing,
+    read_u8, read_u16, read_u32, read_u32_or_missing, u32_or_ones,
 };
 use fd_bytes::NoMemory;
 use fd_sections::Message;
-use std::alloc::Global;
 
 /// The numbers of section 3 with template 3.0: a grid of points along latitudes and longitudes. Angles are in
 /// micro-degrees where basic angle and subdivisions say nothing else.
@@ -63,7 +62,7 @@ impl LatLon {
 
     /// Appends a section 3 of 72 octets with these numbers, its source of grid definition 0 and no optional list. After
     /// `NoMemory` nothing has changed.
-    pub fn write(&self, alloc: Global, out: &mut Vec<u8>) -> Result<(), NoMemory>
+    pub fn write(&self, out: &mut Vec<u8>) -> Result<(), NoMemory>
         requires { Fits self.now }
         ensures ok { OnOk result (out.new.items ≡ out.old.items ++ grid_octets self.now) }
         ensures err { OnErr result (out.new.items ≡ out.old.items) }
@@ -74,7 +73,7 @@ impl LatLon {
     {
         let grid = *self;
         reads_again(grid);
-        let section = section(alloc, self)?;
+        let section = section(grid);
         out.extend_from_slice(&section)?;
         Ok(())
     }
@@ -128,80 +127,94 @@ fn numbers(section: &[u8]) -> LatLon
 }
 
 /// What stands before the template.
-#[tactic(auto, unfolding(crate::specs::Grid::header_octets))]
-fn put_header(out: &mut Vec<u8>, grid: &LatLon) -> Result<(), NoMemory>
-    ensures { OnOk result (out.new.items ≡ out.old.items ++ header_octets grid.now) }
+fn header(grid: LatLon) -> [u8; 14]
+    ensures { result ≡ header_octets grid }
 {
-    write_u32(out, 72)?;
-    write_u8(out, 3)?;
-    write_u8(out, 0)?;
-    write_u32(out, grid.points)?;
-    write_u8(out, 0)?;
-    write_u8(out, 0)?;
-    write_u16(out, 0)
+    let points = grid.points.to_be_bytes();
+    [
+        0, 0, 0, 72, 3, 0, points[0], points[1], points[2], points[3], 0, 0, 0, 0,
+    ]
+}
+
+/// A length of the earth.
+fn scaled(factor: &Option<i32>, value: &Option<i32>) -> [u8; 5]
+    requires factor { IfSome factor.now (FitsOrMissing 1) }
+    requires value { IfSome value.now (FitsOrMissing 4) }
+    ensures { result ≡ signed_or_ones 1 factor.now ++ signed_or_ones 4 value.now }
+{
+    let factor = i8_or_ones(factor);
+    let value = i32_or_ones(value);
+    [factor[0], value[0], value[1], value[2], value[3]]
 }
 
 /// The shape and the size of the earth.
-#[tactic(auto, unfolding(crate::specs::Grid::earth_octets))]
-fn put_earth(out: &mut Vec<u8>, grid: &LatLon) -> Result<(), NoMemory>
-    requires { Fits grid.now }
-    ensures { OnOk result (out.new.items ≡ out.old.items ++ earth_octets grid.now) }
+fn earth(grid: LatLon) -> [u8; 16]
+    requires { Fits grid }
+    ensures { result ≡ earth_octets grid }
 {
-    write_u8(out, grid.earth_shape)?;
-    write_i8_or_ones(out, &grid.radius_factor)?;
-    write_i32_or_ones(out, &grid.radius)?;
-    write_i8_or_ones(out, &grid.major_axis_factor)?;
-    write_i32_or_ones(out, &grid.major_axis)?;
-    write_i8_or_ones(out, &grid.minor_axis_factor)?;
-    write_i32_or_ones(out, &grid.minor_axis)
+    let shape = grid.earth_shape;
+    let radius = scaled(&grid.radius_factor, &grid.radius);
+    let major = scaled(&grid.major_axis_factor, &grid.major_axis);
+    let minor = scaled(&grid.minor_axis_factor, &grid.minor_axis);
+    [
+        shape, radius[0], radius[1], radius[2], radius[3], radius[4], major[0], major[1], major[2],
+        major[3], major[4], minor[0], minor[1], minor[2], minor[3], minor[4],
+    ]
 }
 
 /// How many points, and the unit of angles.
-#[tactic(auto, unfolding(crate::specs::Grid::size_octets))]
-fn put_size(out: &mut Vec<u8>, grid: &LatLon) -> Result<(), NoMemory>
-    ensures { OnOk result (out.new.items ≡ out.old.items ++ size_octets grid.now) }
+fn size(grid: LatLon) -> [u8; 16]
+    ensures { result ≡ size_octets grid }
 {
-    write_u32(out, grid.ni)?;
-    write_u32(out, grid.nj)?;
-    write_u32(out, grid.basic_angle)?;
-    write_u32_or_ones(out, &grid.subdivisions)
+    let mut octets = [0; 16];
+    octets[..4].copy_from_slice(&grid.ni.to_be_bytes());
+    octets[4..8].copy_from_slice(&grid.nj.to_be_bytes());
+    octets[8..12].copy_from_slice(&grid.basic_angle.to_be_bytes());
+    octets[12..].copy_from_slice(&u32_or_ones(&grid.subdivisions));
+    octets
 }
 
 /// The first and the last point.
-#[tactic(auto, unfolding(crate::specs::Grid::area_octets))]
-fn put_area(out: &mut Vec<u8>, grid: &LatLon) -> Result<(), NoMemory>
-    requires { Fits grid.now }
-    ensures { OnOk result (out.new.items ≡ out.old.items ++ area_octets grid.now) }
+fn area(grid: LatLon) -> [u8; 17]
+    requires { Fits grid }
+    ensures { result ≡ area_octets grid }
 {
-    write_i32(out, &grid.la1)?;
-    write_i32(out, &grid.lo1)?;
-    write_u8(out, grid.resolution_flags)?;
-    write_i32(out, &grid.la2)?;
-    write_i32(out, &grid.lo2)
+    let la1 = i32_octets(&grid.la1);
+    let lo1 = i32_octets(&grid.lo1);
+    let flags = grid.resolution_flags;
+    let la2 = i32_octets(&grid.la2);
+    let lo2 = i32_octets(&grid.lo2);
+    [
+        la1[0], la1[1], la1[2], la1[3], lo1[0], lo1[1], lo1[2], lo1[3], flags, la2[0], la2[1],
+        la2[2], la2[3], lo2[0], lo2[1], lo2[2], lo2[3],
+    ]
 }
 
 /// The steps between points.
-#[tactic(auto, unfolding(crate::specs::Grid::step_octets))]
-fn put_steps(out: &mut Vec<u8>, grid: &LatLon) -> Result<(), NoMemory>
-    ensures { OnOk result (out.new.items ≡ out.old.items ++ step_octets grid.now) }
+fn steps(grid: LatLon) -> [u8; 9]
+    ensures { result ≡ step_octets grid }
 {
-    write_u32(out, grid.di)?;
-    write_u32(out, grid.dj)?;
-    write_u8(out, grid.scanning_mode)
+    let along = grid.di.to_be_bytes();
+    let across = grid.dj.to_be_bytes();
+    let mode = grid.scanning_mode;
+    [
+        along[0], along[1], along[2], along[3], across[0], across[1], across[2], across[3], mode,
+    ]
 }
 
-#[tactic(auto, unfolding(crate::specs::Grid::grid_octets))]
-fn section(alloc: Global, grid: &LatLon) -> Result<Vec<u8>, NoMemory>
-    requires { Fits grid.now }
-    ensures { IfOk result (λ v. v.items ≡ grid_octets grid.now) }
+/// The section with these numbers.
+#[tactic(auto, unfolding(crate::specs::Octets::octets_of, crate::specs::Octets::signed_octets, crate::specs::Octets::octets_or_ones, crate::specs::Octets::signed_or_ones, crate::specs::Grid::header_octets, crate::specs::Grid::earth_octets, crate::specs::Grid::size_octets, crate::specs::Grid::area_octets, crate::specs::Grid::step_octets))]
+fn section(grid: LatLon) -> [u8; 72]
+    requires { Fits grid }
+    ensures { result ≡ grid_octets grid }
 {
-    let mut out = Vec::new(alloc);
-    put_header(&mut out, grid)?;
-    put_earth(&mut out, grid)?;
-    put_size(&mut out, grid)?;
-    put_area(&mut out, grid)?;
-    put_steps(&mut out, grid)?;
-    Ok(out)
+    let mut section = [0; 72];
+    section[..14].copy_from_slice(&header(grid));
+    section[14..30].copy_from_slice(&earth(grid));
+    section[30..46].copy_from_slice(&size(grid));
+    section[46..63].copy_from_slice(&area(grid));
+    section[63..].copy_from_slice(&steps(grid));
+    section
 }
 
 /// The section that is written for these numbers has these numbers.

@@ -1,12 +1,11 @@
-ghost use Rattle.std.specs.Prelude.{◌≡◌, ◌≤◌, ◌++◌, length, OnOk, OnErr, IfOk};
+ghost use Rattle.std.specs.Prelude.{◌≡◌, ◌≤◌, ◌++◌, length, OnOk, OnErr};
 ghost use Rattle.fd_sections.specs.Message.{IsSection};
 ghost use Rattle.fd_sections.specs.Parts.{sections_of};
 ghost use Rattle.fd_templates.specs.Identification.{identification_of, identification_octets, origin_octets, time_octets};
 
-use crate::octets::{read_u8, read_u16, write_u8, write_u16, write_u32};
+use crate::octets::{read_u8, read_u16};
 use fd_bytes::NoMemory;
 use fd_sections::Message;
-use std::alloc::Global;
 
 /// The numbers of section 1: where a message comes from, and the time that its forecast starts from.
 #[derive(Clone, Copy, Debug, PartialEq, Eq)]
@@ -41,7 +40,7 @@ impl Ident {
     }
 
     /// Appends a section 1 of 21 octets with these numbers. After `NoMemory` nothing has changed.
-    pub fn write(&self, alloc: Global, out: &mut Vec<u8>) -> Result<(), NoMemory>
+    pub fn write(&self, out: &mut Vec<u8>) -> Result<(), NoMemory>
         ensures ok { OnOk result (out.new.items ≡ out.old.items ++ identification_octets self.now) }
         ensures err { OnErr result (out.new.items ≡ out.old.items) }
         // It is a section of this number and length.
@@ -51,7 +50,7 @@ impl Ident {
     {
         let ident = *self;
         reads_again(ident);
-        let section = section(alloc, self)?;
+        let section = section(ident);
         out.extend_from_slice(&section)?;
         Ok(())
     }
@@ -79,42 +78,49 @@ fn numbers(section: &[u8]) -> Ident
 }
 
 /// Where the message comes from.
-#[tactic(auto, unfolding(crate::specs::Identification::origin_octets))]
-fn put_origin(out: &mut Vec<u8>, ident: &Ident) -> Result<(), NoMemory>
-    ensures { OnOk result (out.new.items ≡ out.old.items ++ origin_octets ident.now) }
+fn origin(ident: Ident) -> [u8; 7]
+    ensures { result ≡ origin_octets ident }
 {
-    write_u16(out, ident.centre)?;
-    write_u16(out, ident.sub_centre)?;
-    write_u8(out, ident.master_tables_version)?;
-    write_u8(out, ident.local_tables_version)?;
-    write_u8(out, ident.reference_time_significance)
+    let centre = ident.centre.to_be_bytes();
+    let sub_centre = ident.sub_centre.to_be_bytes();
+    [
+        centre[0],
+        centre[1],
+        sub_centre[0],
+        sub_centre[1],
+        ident.master_tables_version,
+        ident.local_tables_version,
+        ident.reference_time_significance,
+    ]
 }
 
 /// The reference time.
-#[tactic(auto, unfolding(crate::specs::Identification::time_octets))]
-fn put_time(out: &mut Vec<u8>, ident: &Ident) -> Result<(), NoMemory>
-    ensures { OnOk result (out.new.items ≡ out.old.items ++ time_octets ident.now) }
+fn time(ident: Ident) -> [u8; 7]
+    ensures { result ≡ time_octets ident }
 {
-    write_u16(out, ident.year)?;
-    write_u8(out, ident.month)?;
-    write_u8(out, ident.day)?;
-    write_u8(out, ident.hour)?;
-    write_u8(out, ident.minute)?;
-    write_u8(out, ident.second)
+    let year = ident.year.to_be_bytes();
+    [
+        year[0],
+        year[1],
+        ident.month,
+        ident.day,
+        ident.hour,
+        ident.minute,
+        ident.second,
+    ]
 }
 
-#[tactic(auto, unfolding(crate::specs::Identification::identification_octets))]
-fn section(alloc: Global, ident: &Ident) -> Result<Vec<u8>, NoMemory>
-    ensures { IfOk result (λ v. v.items ≡ identification_octets ident.now) }
+/// The section with these numbers.
+fn section(ident: Ident) -> [u8; 21]
+    ensures { result ≡ identification_octets ident }
 {
-    let mut out = Vec::new(alloc);
-    write_u32(&mut out, 21)?;
-    write_u8(&mut out, 1)?;
-    put_origin(&mut out, ident)?;
-    put_time(&mut out, ident)?;
-    write_u8(&mut out, ident.production_status)?;
-    write_u8(&mut out, ident.data_type)?;
-    Ok(out)
+    let mut section = [0; 21];
+    section[..5].copy_from_slice(b"\x00\x00\x00\x15\x01");
+    section[5..12].copy_from_slice(&origin(ident));
+    section[12..19].copy_from_slice(&time(ident));
+    section[19] = ident.production_status;
+    section[20] = ident.data_type;
+    section
 }
 
 /// The section that is written for these numbers has these numbers.

@@ -14,6 +14,3 @@ pub use grid::LatLon;
 pub use identification::Ident;
 pub use product::Product;
 pub use simple::Simple;
-
-#[cfg(test)]
-mod tests;

@@ -1,9 +1,9 @@
 // One number at a time. Octets count from 1, as in the manual.
-ghost use Rattle.std.specs.Prelude.{◌≡◌, ◌+◌, ◌-◌, ◌<◌, ◌≤◌, ◌^◌, ◌⊎◌, ◌≢◌, length, ◌++◌, OnOk, IfSome, unsigned_abs};
+ghost use Rattle.std.specs.Prelude.{◌≡◌, ◌+◌, ◌-◌, ◌<◌, ◌≤◌, ◌^◌, ◌⊎◌, ◌≢◌, length, IfSome, unsigned_abs};
 ghost use Rattle.fd_bytes.specs.Numbers.{signed, sign_and_magnitude};
-ghost use Rattle.fd_templates.specs.Octets.{number, signed_number, number_or_missing, signed_or_missing, octets_of, signed_octets, octets_or_ones, signed_or_ones, FitsSigned, FitsOrMissing};
+ghost use Rattle.fd_templates.specs.Octets.{number, signed_number, number_or_missing, signed_or_missing, signed_octets, octets_or_ones, signed_or_ones, FitsSigned, FitsOrMissing};
 
-use fd_bytes::{NoMemory, is_missing, signed, unsigned_of};
+use fd_bytes::{is_missing, signed, unsigned_of};
 
 /// The number in one octet.
 #[tactic(auto, using(crate::proofs::Reading::one_octet))]
@@ -121,82 +121,55 @@ pub fn read_u32_or_missing(section: &[u8], first: usize) -> Option<u32>
     }
 }
 
-/// Appends one octet.
-#[tactic(auto, unfolding(crate::specs::Octets::octets_of))]
-pub fn write_u8(out: &mut Vec<u8>, value: u8) -> Result<(), NoMemory>
-    ensures { OnOk result (out.new.items ≡ out.old.items ++ octets_of 1 value) }
-{
-    out.extend_from_slice(&value.to_be_bytes())?;
-    Ok(())
-}
-
-/// Appends a number in two octets.
-#[tactic(auto, unfolding(crate::specs::Octets::octets_of))]
-pub fn write_u16(out: &mut Vec<u8>, value: u16) -> Result<(), NoMemory>
-    ensures { OnOk result (out.new.items ≡ out.old.items ++ octets_of 2 value) }
-{
-    out.extend_from_slice(&value.to_be_bytes())?;
-    Ok(())
-}
-
-/// Appends a number in four octets.
-#[tactic(auto, unfolding(crate::specs::Octets::octets_of))]
-pub fn write_u32(out: &mut Vec<u8>, value: u32) -> Result<(), NoMemory>
-    ensures { OnOk result (out.new.items ≡ out.old.items ++ octets_of 4 value) }
-{
-    out.extend_from_slice(&value.to_be_bytes())?;
-    Ok(())
-}
-
-/// Appends a sign and a magnitude in two octets.
-#[tactic(auto, unfolding(crate::specs::Octets::octets_of, crate::specs::Octets::signed_octets))]
-pub fn write_i16(out: &mut Vec<u8>, value: &i32) -> Result<(), NoMemory>
+/// The octets of a sign and a magnitude, two of them.
+#[tactic(auto, unfolding(crate::specs::Octets::signed_octets))]
+pub fn i16_octets(value: &i32) -> [u8; 2]
     requires { FitsSigned 2 value.now }
-    ensures { OnOk result (out.new.items ≡ out.old.items ++ signed_octets 2 value.now) }
+    ensures { result ≡ signed_octets 2 value.now }
 {
-    write_u16(out, unsigned_of(i64::from(*value), 16) as u16)
+    (unsigned_of(i64::from(*value), 16) as u16).to_be_bytes()
 }
 
-/// Appends a sign and a magnitude in four octets.
-#[tactic(auto, unfolding(crate::specs::Octets::octets_of, crate::specs::Octets::signed_octets))]
-pub fn write_i32(out: &mut Vec<u8>, value: &i32) -> Result<(), NoMemory>
+/// The octets of a sign and a magnitude, four of them.
+#[tactic(auto, unfolding(crate::specs::Octets::signed_octets))]
+pub fn i32_octets(value: &i32) -> [u8; 4]
     requires { FitsSigned 4 value.now }
-    ensures { OnOk result (out.new.items ≡ out.old.items ++ signed_octets 4 value.now) }
+    ensures { result ≡ signed_octets 4 value.now }
 {
-    write_u32(out, unsigned_of(i64::from(*value), 32) as u32)
+    (unsigned_of(i64::from(*value), 32) as u32).to_be_bytes()
 }
 
-/// Appends a sign and a magnitude in one octet, whose bits are all 1 where there is no number.
-#[tactic(auto, unfolding(crate::specs::Octets::octets_of, crate::specs::Octets::signed_or_ones))]
-pub fn write_i8_or_ones(out: &mut Vec<u8>, value: &Option<i32>) -> Result<(), NoMemory>
+/// The octet of a sign and a magnitude, whose bits are all 1 where there is no number.
+#[tactic(auto, unfolding(crate::specs::Octets::signed_or_ones))]
+pub fn i8_or_ones(value: &Option<i32>) -> [u8; 1]
     requires { IfSome value.now (FitsOrMissing 1) }
-    ensures { OnOk result (out.new.items ≡ out.old.items ++ signed_or_ones 1 value.now) }
+    ensures { result ≡ signed_or_ones 1 value.now }
 {
     match value {
-        Some(value) => write_u8(out, unsigned_of(i64::from(*value), 8) as u8),
-        None => write_u8(out, u8::MAX),
+        Some(value) => (unsigned_of(i64::from(*value), 8) as u8).to_be_bytes(),
+        None => u8::MAX.to_be_bytes(),
     }
 }
 
-/// Appends a sign and a magnitude in four octets, whose bits are all 1 where there is no number.
-#[tactic(auto, unfolding(crate::specs::Octets::octets_of, crate::specs::Octets::signed_or_ones))]
-pub fn write_i32_or_ones(out: &mut Vec<u8>, value: &Option<i32>) -> Result<(), NoMemory>
+/// The octets of a sign and a magnitude, four of them, whose bits are all 1 where there is no number.
+#[tactic(auto, unfolding(crate::specs::Octets::signed_or_ones))]
+pub fn i32_or_ones(value: &Option<i32>) -> [u8; 4]
     requires { IfSome value.now (FitsOrMissing 4) }
-    ensures { OnOk result (out.new.items ≡ out.old.items ++ signed_or_ones 4 value.now) }
+    ensures { result ≡ signed_or_ones 4 value.now }
 {
     match value {
-        Some(value) => write_u32(out, unsigned_of(i64::from(*value), 32) as u32),
-        None => write_u32(out, u32::MAX),
+        Some(value) => (unsigned_of(i64::from(*value), 32) as u32).to_be_bytes(),
+        None => u32::MAX.to_be_bytes(),
     }
 }
 
-/// Appends a number in four octets, whose bits are all 1 where there is none.
-#[tactic(auto, unfolding(crate::specs::Octets::octets_of, crate::specs::Octets::octets_or_ones))]
-pub fn write_u32_or_ones(out: &mut Vec<u8>, value: &Option<u32>) -> Result<(), NoMemory>
-    ensures { OnOk result (out.new.items ≡ out.old.items ++ octets_or_ones 4 value.now) }
+/// The octets of a number, four of them, whose bits are all 1 where there is none.
+#[tactic(auto, unfolding(crate::specs::Octets::octets_or_ones))]
+pub fn u32_or_ones(value: &Option<u32>) -> [u8; 4]
+    ensures { result ≡ octets_or_ones 4 value.now }
 {
     match value {
-        Some(value) => write_u32(out, *value),
-        None => write_u32(out, u32::MAX),
+        Some(value) => value.to_be_bytes(),
+        None => u32::MAX.to_be_bytes(),
     }
 }

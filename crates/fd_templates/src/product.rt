@@ -5,12 +5,11 @@ ghost use Rattle.fd_templates.specs.Product.{product_is, product_of, product_oct
 
 use crate::fault::TemplateFault;
 use crate::octets::{
-    read_i8_or_missing, read_i32, read_i32_or_missing, read_u8, read_u16, write_i8_or_ones,
-    write_i32, write_i32_or_ones, write_u8, write_u16, write_u32,
+    i8_or_ones, i32_octets, i32_or_ones, read_i8_or_missing, read_i32, read_i32_or_missing,
+    read_u8, read_u16,
 };
 use fd_bytes::NoMemory;
 use fd_sections::Message;
-use std::alloc::Global;
 
 /// The numbers of section 4 with template 4.0: which quantity, when, and at which surfaces. The value of a surface is
 /// its scaled value times 10^(-factor), in the unit of its type.
@@ -55,7 +54,7 @@ impl Product {
 
     /// Appends a section 4 of 34 octets with these numbers. The coordinate values themselves are not written. After
     /// `NoMemory` nothing has changed.
-    pub fn write(&self, alloc: Global, out: &mut Vec<u8>) -> Result<(), NoMemory>
+    pub fn write(&self, out: &mut Vec<u8>) -> Result<(), NoMemory>
         requires { Fits self.now }
         ensures ok { OnOk result (out.new.items ≡ out.old.items ++ product_octets self.now) }
         ensures err { OnErr result (out.new.items ≡ out.old.items) }
@@ -66,7 +65,7 @@ impl Product {
     {
         let product = *self;
         reads_again(product);
-        let section = section(alloc, self)?;
+        let section = section(product);
         out.extend_from_slice(&section)?;
         Ok(())
     }
@@ -116,65 +115,82 @@ fn numbers(section: &[u8]) -> Product
 }
 
 /// What stands before the template.
-#[tactic(auto, unfolding(crate::specs::Product::header_octets))]
-fn put_header(out: &mut Vec<u8>, product: &Product) -> Result<(), NoMemory>
-    ensures { OnOk result (out.new.items ≡ out.old.items ++ header_octets product.now) }
+fn header(product: Product) -> [u8; 9]
+    ensures { result ≡ header_octets product }
 {
-    write_u32(out, 34)?;
-    write_u8(out, 4)?;
-    write_u16(out, product.coordinates)?;
-    write_u16(out, 0)
+    let coordinates = product.coordinates.to_be_bytes();
+    [0, 0, 0, 34, 4, coordinates[0], coordinates[1], 0, 0]
 }
 
 /// The quantity, and what made it.
-#[tactic(auto, unfolding(crate::specs::Product::process_octets))]
-fn put_process(out: &mut Vec<u8>, product: &Product) -> Result<(), NoMemory>
-    ensures { OnOk result (out.new.items ≡ out.old.items ++ process_octets product.now) }
+fn process(product: Product) -> [u8; 5]
+    ensures { result ≡ process_octets product }
 {
-    write_u8(out, product.category)?;
-    write_u8(out, product.parameter)?;
-    write_u8(out, product.generating_process_type)?;
-    write_u8(out, product.background_process)?;
-    write_u8(out, product.process_identifier)
+    [
+        product.category,
+        product.parameter,
+        product.generating_process_type,
+        product.background_process,
+        product.process_identifier,
+    ]
 }
 
 /// The cutoff and the forecast time.
-#[tactic(auto, unfolding(crate::specs::Product::time_octets))]
-fn put_time(out: &mut Vec<u8>, product: &Product) -> Result<(), NoMemory>
-    requires { Fits product.now }
-    ensures { OnOk result (out.new.items ≡ out.old.items ++ time_octets product.now) }
+fn time(product: Product) -> [u8; 8]
+    requires { Fits product }
+    ensures { result ≡ time_octets product }
 {
-    write_u16(out, product.cutoff_hours)?;
-    write_u8(out, product.cutoff_minutes)?;
-    write_u8(out, product.time_unit)?;
-    write_i32(out, &product.forecast_time)
+    let hours = product.cutoff_hours.to_be_bytes();
+    let forecast = i32_octets(&product.forecast_time);
+    [
+        hours[0],
+        hours[1],
+        product.cutoff_minutes,
+        product.time_unit,
+        forecast[0],
+        forecast[1],
+        forecast[2],
+        forecast[3],
+    ]
 }
 
 /// Both surfaces.
-#[tactic(auto, unfolding(crate::specs::Product::surface_octets))]
-fn put_surfaces(out: &mut Vec<u8>, product: &Product) -> Result<(), NoMemory>
-    requires { Fits product.now }
-    ensures { OnOk result (out.new.items ≡ out.old.items ++ surface_octets product.now) }
+fn surfaces(product: Product) -> [u8; 12]
+    requires { Fits product }
+    ensures { result ≡ surface_octets product }
 {
-    write_u8(out, product.first_surface_type)?;
-    write_i8_or_ones(out, &product.first_surface_factor)?;
-    write_i32_or_ones(out, &product.first_surface_value)?;
-    write_u8(out, product.second_surface_type)?;
-    write_i8_or_ones(out, &product.second_surface_factor)?;
-    write_i32_or_ones(out, &product.second_surface_value)
+    let first_factor = i8_or_ones(&product.first_surface_factor);
+    let first = i32_or_ones(&product.first_surface_value);
+    let second_factor = i8_or_ones(&product.second_surface_factor);
+    let second = i32_or_ones(&product.second_surface_value);
+    [
+        product.first_surface_type,
+        first_factor[0],
+        first[0],
+        first[1],
+        first[2],
+        first[3],
+        product.second_surface_type,
+        second_factor[0],
+        second[0],
+        second[1],
+        second[2],
+        second[3],
+    ]
 }
 
-#[tactic(auto, unfolding(crate::specs::Product::product_octets))]
-fn section(alloc: Global, product: &Product) -> Result<Vec<u8>, NoMemory>
-    requires { Fits product.now }
-    ensures { IfOk result (λ v. v.items ≡ product_octets product.now) }
+/// The section with these numbers.
+#[tactic(auto, unfolding(crate::specs::Octets::octets_of, crate::specs::Octets::signed_octets, crate::specs::Octets::signed_or_ones, crate::specs::Product::header_octets, crate::specs::Product::process_octets, crate::specs::Product::time_octets, crate::specs::Product::surface_octets))]
+fn section(product: Product) -> [u8; 34]
+    requires { Fits product }
+    ensures { result ≡ product_octets product }
 {
-    let mut out = Vec::new(alloc);
-    put_header(&mut out, product)?;
-    put_process(&mut out, product)?;
-    put_time(&mut out, product)?;
-    put_surfaces(&mut out, product)?;
-    Ok(out)
+    let mut section = [0; 34];
+    section[..9].copy_from_slice(&header(product));
+    section[9..14].copy_from_slice(&process(product));
+    section[14..22].copy_from_slice(&time(product));
+    section[22..].copy_from_slice(&surfaces(product));
+    section
 }
 
 /// The section that is written for these numbers has these numbers.

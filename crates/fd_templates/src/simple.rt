@@ -4,12 +4,9 @@ ghost use Rattle.fd_sections.specs.Parts.{sections_of};
 ghost use Rattle.fd_templates.specs.Simple.{simple_is, simple_of, simple_octets, header_octets, packing_octets, Fits};
 
 use crate::fault::TemplateFault;
-use crate::octets::{
-    read_i16, read_u8, read_u16, read_u32, write_i16, write_u8, write_u16, write_u32,
-};
+use crate::octets::{i16_octets, read_i16, read_u8, read_u16, read_u32};
 use fd_bytes::NoMemory;
 use fd_sections::Message;
-use std::alloc::Global;
 
 /// The numbers of section 5 with template 5.0, simple packing. The reference value is given by its octets, an IEEE 754
 /// single.
@@ -41,7 +38,7 @@ impl Simple {
     }
 
     /// Appends a section 5 of 21 octets with these numbers. After `NoMemory` nothing has changed.
-    pub fn write(&self, alloc: Global, out: &mut Vec<u8>) -> Result<(), NoMemory>
+    pub fn write(&self, out: &mut Vec<u8>) -> Result<(), NoMemory>
         requires { Fits self.now }
         ensures ok { OnOk result (out.new.items ≡ out.old.items ++ simple_octets self.now) }
         ensures err { OnErr result (out.new.items ≡ out.old.items) }
@@ -52,7 +49,7 @@ impl Simple {
     {
         let simple = *self;
         reads_again(simple);
-        let section = section(alloc, self)?;
+        let section = section(simple);
         out.extend_from_slice(&section)?;
         Ok(())
     }
@@ -92,38 +89,44 @@ fn numbers(section: &[u8]) -> Simple
 }
 
 /// What stands before the template.
-#[tactic(auto, unfolding(crate::specs::Simple::header_octets))]
-fn put_header(out: &mut Vec<u8>, simple: &Simple) -> Result<(), NoMemory>
-    ensures { OnOk result (out.new.items ≡ out.old.items ++ header_octets simple.now) }
+fn header(simple: Simple) -> [u8; 11]
+    ensures { result ≡ header_octets simple }
 {
-    write_u32(out, 21)?;
-    write_u8(out, 5)?;
-    write_u32(out, simple.coded)?;
-    write_u16(out, 0)
+    let coded = simple.coded.to_be_bytes();
+    [0, 0, 0, 21, 5, coded[0], coded[1], coded[2], coded[3], 0, 0]
 }
 
 /// The template.
-#[tactic(auto, unfolding(crate::specs::Simple::packing_octets))]
-fn put_packing(out: &mut Vec<u8>, simple: &Simple) -> Result<(), NoMemory>
-    requires { Fits simple.now }
-    ensures { OnOk result (out.new.items ≡ out.old.items ++ packing_octets simple.now) }
+fn packing(simple: Simple) -> [u8; 10]
+    requires { Fits simple }
+    ensures { result ≡ packing_octets simple }
 {
-    write_u32(out, simple.reference)?;
-    write_i16(out, &simple.binary_scale)?;
-    write_i16(out, &simple.decimal_scale)?;
-    write_u8(out, simple.bits)?;
-    write_u8(out, simple.original_type)
+    let reference = simple.reference.to_be_bytes();
+    let binary = i16_octets(&simple.binary_scale);
+    let decimal = i16_octets(&simple.decimal_scale);
+    [
+        reference[0],
+        reference[1],
+        reference[2],
+        reference[3],
+        binary[0],
+        binary[1],
+        decimal[0],
+        decimal[1],
+        simple.bits,
+        simple.original_type,
+    ]
 }
 
-#[tactic(auto, unfolding(crate::specs::Simple::simple_octets))]
-fn section(alloc: Global, simple: &Simple) -> Result<Vec<u8>, NoMemory>
-    requires { Fits simple.now }
-    ensures { IfOk result (λ v. v.items ≡ simple_octets simple.now) }
+/// The section with these numbers.
+fn section(simple: Simple) -> [u8; 21]
+    requires { Fits simple }
+    ensures { result ≡ simple_octets simple }
 {
-    let mut out = Vec::new(alloc);
-    put_header(&mut out, simple)?;
-    put_packing(&mut out, simple)?;
-    Ok(out)
+    let mut section = [0; 21];
+    section[..11].copy_from_slice(&header(simple));
+    section[11..].copy_from_slice(&packing(simple));
+    section
 }
 
 /// The section that is written for these numbers has these numbers.
