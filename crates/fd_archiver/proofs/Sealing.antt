@@ -1,5 +1,5 @@
 -- What sealing and keeping a batch leave of an archiver.
-use Rattle.std.proofs.Common.{◌≡◌, ◌≢◌, ◌++◌, ◌<◌, ◌≤◌, ℕ, Bool, true, false, List, [], ◌∷◌, refl, sym, ap, ◌∙◌, subst, arith, Option, Some, None, IfSome, IsSome, is_some, IsTrue, ◌↔◌}
+use Rattle.std.proofs.Common.{◌≡◌, ◌≢◌, ◌++◌, ◌<◌, ◌≤◌, ℕ, Bool, true, false, List, [], ◌∷◌, refl, sym, ap, ◌∙◌, subst, arith, Option, Some, None, Result, Ok, Err, OnOk, OnErr, IfSome, IsSome, is_some, IsTrue, ◌↔◌}
 use Rattle.fd_disk.specs.declared.folders.FileName.{FileName}
 use Rattle.fd_disk.specs.declared.folders.FileKind.{FileKind}
 use Rattle.fd_disk.specs.declared.folders.FileKind.TheVariants.{Fields, Index}
@@ -64,10 +64,9 @@ waits_told o d n s is tells = told_files s.files (is.pending.1.batch tells)
 pub whole_listed : (o : Owner) (d : Filling) (n : Option Filling) (s : Standing) → IsWhole o d n (Some s) → IsWhole o d n None
 whole_listed o d n s is = record { draft_of = is.draft_of; next_of = is.next_of; segment_of = tt; pairs = []; pending = is.pending.0 }
 
--- a pair more in the draft
-pub whole_put : (o : Owner) (d e : Filling) (n : Option Filling) (u : Option Standing) (p : Pair) → u ≡ None → e.origin ≡ d.origin → e.held.keys ≡ d.held.keys → e.held.bytes ≡ d.held.bytes
-    → ((b : List Pair) → Puts d b → Puts e (b ++ p ∷ [])) → IsWhole o d n u → IsWhole o e n u
-whole_put o d e n None p none origin keys bytes puts is = record {
+-- other pairs in the draft
+whole_now : (o : Owner) (d e : Filling) (n : Option Filling) → e.origin ≡ d.origin → e.held.keys ≡ d.held.keys → e.held.bytes ≡ d.held.bytes → (pairs : List Pair) → Puts e pairs → IsWhole o d n None → IsWhole o e n None
+whole_now o d e n origin keys bytes pairs puts is = record {
   draft_of = record {
     writer = ap (λ (x : Origin). x.writer) origin ∙ is.draft_of.writer;
     dataset = ap (λ (x : Origin). x.dataset) origin ∙ is.draft_of.dataset;
@@ -78,10 +77,16 @@ whole_put o d e n None p none origin keys bytes puts is = record {
   };
   next_of = subst (λ (x : Origin). IfSome n (IsNextOf o x.seq)) (sym origin) is.next_of;
   segment_of = tt;
-  pairs = is.pairs ++ p ∷ [];
-  pending = puts is.pairs is.pending;
+  pairs = pairs;
+  pending = puts;
 }
-whole_put o d e n (Some s) p none origin keys bytes puts is = absurd (cc none)
+
+-- a pair more in the draft, or none where the put was refused
+pub whole_put : {E : Type 0} (r : Result (Unit {0}) E) (o : Owner) (d e : Filling) (n : Option Filling) (u : Option Standing) (p : Pair) → u ≡ None → e.origin ≡ d.origin → e.held.keys ≡ d.held.keys → e.held.bytes ≡ d.held.bytes
+    → OnOk r ((b : List Pair) → Puts d b → Puts e (b ++ p ∷ [])) → OnErr r ((b : List Pair) → Puts d b → Puts e b) → IsWhole o d n u → IsWhole o e n u
+whole_put (Ok done) o d e n None p none origin keys bytes ok err is = whole_now o d e n origin keys bytes (is.pairs ++ p ∷ []) (ok is.pairs is.pending) is
+whole_put (Err x) o d e n None p none origin keys bytes ok err is = whole_now o d e n origin keys bytes is.pairs (err is.pairs is.pending) is
+whole_put r o d e n (Some s) p none origin keys bytes ok err is = absurd (cc none)
 
 -- the shelf was called, and tells as before
 pub whole_kept : (w keys bytes last : ℕ) (name name' : List ℕ) (told told' : Bool) (d : Filling) (n : Option Filling) (u u' : Option Standing) → name' ≡ name → told' ≡ told → u' ≡ u

@@ -19,20 +19,17 @@ FullAs room (Ok done) = room ≡ Ok tt
 FullAs room (Err archives.Unlisted) = Unit {0}
 FullAs room (Err (archives.Full keys left)) = room ≡ Err (record { keys = keys; left = left })
 FullAs room (Err (archives.Disk f)) = room ≡ Ok tt
-FullAs room (Err archives.NoMemory) = Unit {0}
 
 abbrev pub OnArchiveDisk : {F : Type 0} → ArchiveFault F → Type 0 → Type 0
 OnArchiveDisk archives.Unlisted P = Unit {0}
 OnArchiveDisk (archives.Full keys left) P = Unit {0}
 OnArchiveDisk (archives.Disk f) P = P
-OnArchiveDisk archives.NoMemory P = Unit {0}
 
 -- refused before anything was asked of the draft
 abbrev pub OnUntouched : {F : Type 0} → ArchiveFault F → Type 0 → Type 0
 OnUntouched archives.Unlisted P = P
 OnUntouched (archives.Full keys left) P = P
 OnUntouched (archives.Disk f) P = Unit {0}
-OnUntouched archives.NoMemory P = Unit {0}
 
 abbrev pub OnFlushDisk : {F : Type 0} → FlushFault F → Type 0 → Type 0
 OnFlushDisk (flushes.Disk f) P = P

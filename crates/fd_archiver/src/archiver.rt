@@ -22,7 +22,7 @@ use std::sync::Arc;
 
 /// A segment that is sealed and not listed.
 #[derive(Drop)]
-pub(crate) enum Unlisted<F: Send, Z: Sealed<F> + Drop> {
+pub(crate) enum Unlisted<F: Send, Z: Sealed<F>> {
     /// There is none.
     No,
     /// The shelf doesn't keep its files yet.
@@ -32,11 +32,7 @@ pub(crate) enum Unlisted<F: Send, Z: Sealed<F> + Drop> {
 }
 
 /// One writer of a dataset.
-pub struct Archiver<F: Send, H: Shelf<F>>
-where
-    H::File: Drop,
-    H::Sealed: Drop,
-{
+pub struct Archiver<F: Send, H: Shelf<F>> {
     pub(crate) shelf: H,
     pub(crate) writer: u32,
     pub(crate) room: Room,
@@ -48,11 +44,7 @@ where
     pub(crate) unlisted: Unlisted<F, H::Sealed>,
 }
 
-impl<F: Send, H: Shelf<F>> Model for Archiver<F, H>
-where
-    H::File: Drop,
-    H::Sealed: Drop,
-{
+impl<F: Send, H: Shelf<F>> Model for Archiver<F, H> {
     ghost use Rattle.std.specs.Prelude.{◌≡◌, is_some};
     ghost use Rattle.fd_archiver.specs.Writing.{Writing};
     ghost use Rattle.fd_archiver.specs.Waiting.{is_kept, waiting};
@@ -79,11 +71,7 @@ where
         × KeptIs (is_kept a.unlisted) (H.kept a.shelf) (waiting a.unlisted) };
 }
 
-impl<F: Send, H: Shelf<F> + Drop> Drop for Archiver<F, H>
-where
-    H::File: Drop,
-    H::Sealed: Drop,
-{
+impl<F: Send, H: Shelf<F>> Drop for Archiver<F, H> {
     fn drop(self) {
         let Archiver {
             shelf: _,
@@ -97,11 +85,7 @@ where
     }
 }
 
-impl<F: Send, H: Shelf<F>> Archiver<F, H>
-where
-    H::File: Drop,
-    H::Sealed: Drop,
-{
+impl<F: Send, H: Shelf<F>> Archiver<F, H> {
     /// A writer with an empty batch, on this writer's shelf, on which nothing was created. The shelf comes back with an
     /// `Err`: it may have created an empty file or two.
     ///
@@ -143,16 +127,12 @@ where
     }
 
     /// Puts a field of this dataset into the batch, under the key of its place, which has at most 256 bytes. The bytes
-    /// are at most 128 MiB, and all of a batch together are fewer than 2^63. After a refusal the batch is as before.
+    /// are at most 128 MiB, and all of a batch together are fewer than 2^63. It takes no memory. After a refusal the batch
+    /// is as before.
     ///
     /// `Unlisted` comes exactly while a sealed batch waits to be listed, `Full` exactly where the batch has no room for
     /// the key, both before anything is written, and `Disk` only where the field file's count of faults rose.
-    pub fn archive(
-        &mut self,
-        alloc: Global,
-        place: &Place,
-        bytes: &[u8],
-    ) -> Result<(), ArchiveFault<F>>
+    pub fn archive(&mut self, place: &Place, bytes: &[u8]) -> Result<(), ArchiveFault<F>>
         requires dataset { (seen_place place.now).dataset ≡ self.old.dataset }
         requires key { length (file_key (seen_place place.now)) ≤ 256 }
         requires bytes { length bytes.now ≤ 134217728 }
@@ -172,11 +152,11 @@ where
         if self.unlisted() {
             return Err(ArchiveFault::Unlisted);
         }
-        self.put(alloc, place, bytes)
+        self.put(place, bytes)
     }
 
     // Puts a field into the batch, where none waits.
-    fn put(&mut self, alloc: Global, place: &Place, bytes: &[u8]) -> Result<(), ArchiveFault<F>>
+    fn put(&mut self, place: &Place, bytes: &[u8]) -> Result<(), ArchiveFault<F>>
         requires none { self.old.unlisted ≡ None }
         requires key { length (file_key (seen_place place.now)) ≤ 256 }
         requires sum { self.old.draft.end + length bytes.now < 2 ^ 63 }
@@ -192,14 +172,11 @@ where
         ensures room { (self.new.draft.held.keys ≡ self.old.draft.held.keys) × (self.new.draft.held.bytes ≡ self.old.draft.held.bytes) }
         ensures rest { self.new ≡ record self.old { draft = self.new.draft } }
     {
-        let Ok(key) = place.file_key(alloc) else {
-            return Err(ArchiveFault::NoMemory);
-        };
-        match self.draft.put(&key, bytes) {
+        let key = place.short_key();
+        match self.draft.put(key.as_str().as_bytes(), bytes) {
             Ok(()) => Ok(()),
             Err(PutFault::Full { keys, left }) => Err(ArchiveFault::Full { keys, left }),
             Err(PutFault::Fault(fault)) => Err(ArchiveFault::Disk(fault)),
-            Err(PutFault::NoMemory) => Err(ArchiveFault::NoMemory),
         }
     }
 

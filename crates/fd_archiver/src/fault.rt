@@ -14,8 +14,6 @@ pub enum ArchiveFault<F> {
     },
     /// The field file failed.
     Disk(F),
-    /// Memory was refused.
-    NoMemory,
 }
 
 /// What a flush did.

@@ -18,11 +18,7 @@ use fd_disk::{Disk, Shelf};
 use std::alloc::Global;
 use std::sync::{Arc, Wait};
 
-impl<F: Send, H: Shelf<F>> Archiver<F, H>
-where
-    H::File: Drop,
-    H::Sealed: Drop,
-{
+impl<F: Send, H: Shelf<F>> Archiver<F, H> {
     /// Lists what is pending, in the dataset's table: makes the next draft, seals the batch, has the shelf keep both
     /// files, and lists the segment; what an earlier flush of this batch has done is left out. `Nothing` is answered
     /// exactly where nothing is pending. A flush uses at most one sequence number, of which there are fewer than 2^32, and

@@ -5,8 +5,6 @@ mod archiver;
 mod fault;
 mod flush;
 mod steps;
-#[cfg(test)]
-mod tests;
 
 pub use archiver::Archiver;
 pub use fault::{ArchiveFault, Flush, FlushFault};

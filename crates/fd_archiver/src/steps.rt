@@ -18,11 +18,7 @@ use std::alloc::Global;
 use std::mem;
 use std::sync::Arc;
 
-impl<F: Send, H: Shelf<F>> Archiver<F, H>
-where
-    H::File: Drop,
-    H::Sealed: Drop,
-{
+impl<F: Send, H: Shelf<F>> Archiver<F, H> {
     // Makes the next draft, where none waits.
     fn make_next(&mut self, alloc: Global) -> Result<(), Down<F>>
         requires left { self.old.last < 2 ^ 32 - 1 }

@@ -43,8 +43,8 @@ contains_in (y ∷ xs) x zero lt is = inl is
 contains_in (y ∷ xs) x (suc k) lt is = inr (contains_in xs x k (omega arith) is)
 
 -- a pass that is split off is the same before and after other splits
-pub recipient_same : (v w : View) → v.history ≡ w.history → v.opening ≡ w.opening → v.subject ≡ w.subject → recipient v ≡ recipient w
-recipient_same v w h o s = λ i. record { history = h i; parts = 1; amount = 0; doubts = []; opening = o i; subject = s i; lock = Free }
+pub recipient_same : (v w : View) → v.history ≡ w.history → v.opening ≡ w.opening → v.subject ≡ w.subject → v.told ≡ w.told → recipient v ≡ recipient w
+recipient_same v w h o s t = λ i. record { history = h i; parts = 1; amount = 0; doubts = []; opening = o i; subject = s i; told = t i; lock = Free }
 
 pub one_job_more : {B C : Type 0} (f : B → C) (js ks : List B) (xs : List C) (j : B) (x : C) → map f js ≡ xs → f j ≡ x → ks ≡ js ++ j ∷ [] → map f ks ≡ xs ++ x ∷ []
 one_job_more f js ks xs j x is here more = ap (map f) more ∙ (map-append f js (j ∷ []) ∙ (ap (λ l. l ++ f j ∷ []) is ∙ ap (λ y. xs ++ y ∷ []) here))

@@ -37,7 +37,7 @@ module _ (F : Type 0) (P : List Pair → ℕ → Type 0) (Q : Type 0) (R : ℕ �
   last_up s (Put p) (Listed n) h = absurd h
   last_up s (Put p) Nothing h = absurd h
   last_up s (Put p) TableFull h = absurd h
-  last_up s (Put p) NoMemory h = omega arith
+  last_up s (Put p) NoMemory h = absurd h
   last_up s (Put p) (Damaged d) h = absurd h
   last_up s (Put p) (Got n a) h = absurd h
   last_up s Flush PutOk h = absurd h

@@ -32,11 +32,7 @@ use std::thread;
 use std::thread::Threads;
 
 /// The writers of a dataset, one for each lane, and a pass that has every part.
-pub struct Crew<F: Send, T: Disk<F>, H: Shelf<F>>
-where
-    H::File: Drop,
-    H::Sealed: Drop,
-{
+pub struct Crew<F: Send, T: Disk<F>, H: Shelf<F>> {
     /// The writers.
     pub archivers: Vec<Archiver<F, H>>,
     /// The pass.
@@ -52,11 +48,7 @@ pub struct Transcript<F> {
 }
 
 /// What a run of lanes gives.
-pub struct Outcome<F: Send, T: Disk<F>, H: Shelf<F>>
-where
-    H::File: Drop,
-    H::Sealed: Drop,
-{
+pub struct Outcome<F: Send, T: Disk<F>, H: Shelf<F>> {
     /// How all steps ended.
     pub transcript: Transcript<F>,
     /// The writers and the pass.
@@ -69,7 +61,6 @@ fn rooms<F: Send + Drop, H: Shelf<F>>(
     n: usize,
 ) -> Result<Vec<LaneRoom<F, H>>, NoMemory>
 where
-    <H::Sealed as Sealed<F>>::Reader: Drop,
     ensures { IfOk result (λ v. (length v.items ≡ n) × All IsRoom v.items) }
 {
     let Ok(mut all) = Vec::with_capacity(alloc, n) else {
@@ -86,7 +77,7 @@ where
 }
 
 // All that is listed, as a number.
-fn settled<F: Send, T: Disk<F>, Z: Sealed<F> + Drop, R: Wait>(
+fn settled<F: Send, T: Disk<F>, Z: Sealed<F>, R: Wait>(
     rt: &R,
     alloc: Global,
     dataset: &Dataset<F, T, Z>,
@@ -106,7 +97,7 @@ fn settled<F: Send, T: Disk<F>, Z: Sealed<F> + Drop, R: Wait>(
 }
 
 // A job for each archiver, with a pass that is split off.
-fn sent_out<F: Send + Drop, T: Disk<F>, H: Shelf<F> + Drop>(
+fn sent_out<F: Send + Drop, T: Disk<F>, H: Shelf<F>>(
     dataset: &Dataset<F, T, H::Sealed>,
     pass: &mut DatasetPass<F, T, H::Sealed>,
     archivers: Vec<Archiver<F, H>>,
@@ -114,9 +105,6 @@ fn sent_out<F: Send + Drop, T: Disk<F>, H: Shelf<F> + Drop>(
     mut jobs: Vec<LaneJob<F, T, H>>,
 ) -> Vec<LaneJob<F, T, H>>
 where
-    H::File: Drop,
-    H::Sealed: Drop,
-    <H::Sealed as Sealed<F>>::Reader: Drop,
     requires own { IsOf dataset.now pass.old }
     requires free { (view pass.old).lock ≡ Free }
     requires parts { length archivers.items < (view pass.old).parts }
@@ -158,9 +146,6 @@ fn run_at<F: Send + Drop, T: Disk<F>, H: Shelf<F>, G: Gate, R: Wait>(
     job: &mut LaneJob<F, T, H>,
 )
 where
-    H::File: Drop,
-    H::Sealed: Drop,
-    <H::Sealed as Sealed<F>>::Reader: Drop,
     requires lane { (i < length lanes.now) × (length lanes.now ≤ 8) }
     requires short { All (λ l. length l.steps ≤ 4096) lanes.now }
     requires steps { LanesFit schema.now messages.now (view job.old.pass).subject (map seen_place places.now) lanes.now }
@@ -188,9 +173,6 @@ fn run_all<F: Send + Drop, T: Disk<F>, H: Shelf<F>, G: Gate, R: Threads + Wait +
     jobs: &mut [LaneJob<F, T, H>],
 )
 where
-    H::File: Drop,
-    H::Sealed: Drop,
-    <H::Sealed as Sealed<F>>::Reader: Drop,
     requires lanes { (length jobs.old ≡ length lanes.now) × (length lanes.now ≤ 8) }
     requires short { All (λ l. length l.steps ≤ 4096) lanes.now }
     requires fresh { All (IsFresh dataset.now) jobs.old }
@@ -216,7 +198,7 @@ where
 type Gathered<F, H> = (Vec<Archiver<F, H>>, Vec<Items<End<F>>>);
 
 // Takes the pass of each job in, and gives the archivers and the ends.
-fn taken_in<F: Send + Drop, T: Disk<F>, H: Shelf<F> + Drop>(
+fn taken_in<F: Send + Drop, T: Disk<F>, H: Shelf<F>>(
     dataset: &Dataset<F, T, H::Sealed>,
     pass: &mut DatasetPass<F, T, H::Sealed>,
     jobs: Vec<LaneJob<F, T, H>>,
@@ -224,9 +206,6 @@ fn taken_in<F: Send + Drop, T: Disk<F>, H: Shelf<F> + Drop>(
     mut ends: Vec<Items<End<F>>>,
 ) -> Gathered<F, H>
 where
-    H::File: Drop,
-    H::Sealed: Drop,
-    <H::Sealed as Sealed<F>>::Reader: Drop,
     requires own { IsOf dataset.now pass.old }
     requires free { (view pass.old).lock ≡ Free }
     requires jobs { All (λ j. IsOf dataset.now j.pass × ((view j.pass).lock ≡ Free)) jobs.items }
@@ -251,7 +230,7 @@ where
 }
 
 // Sends the lanes out, and takes them in. The pass has then seen all that is listed.
-fn run_crew<F: Send + Drop, T: Disk<F>, H: Shelf<F> + Drop, G: Gate, R: Threads + Wait + Sync>(
+fn run_crew<F: Send + Drop, T: Disk<F>, H: Shelf<F>, G: Gate, R: Threads + Wait + Sync>(
     rt: &R,
     alloc: Global,
     gate: &G,
@@ -268,9 +247,6 @@ fn run_crew<F: Send + Drop, T: Disk<F>, H: Shelf<F> + Drop, G: Gate, R: Threads 
     ends: Vec<Items<End<F>>>,
 ) -> Gathered<F, H>
 where
-    H::File: Drop,
-    H::Sealed: Drop,
-    <H::Sealed as Sealed<F>>::Reader: Drop,
     requires own { IsOf dataset.now pass.old }
     requires free { (view pass.old).lock ≡ Free }
     requires all { (view pass.old).parts ≡ all_parts }
@@ -310,7 +286,7 @@ where
 /// pass has then seen all that is listed.
 ///
 /// After `NoMemory` no step was taken, and the crew comes back; the pass may have seen more.
-pub fn lanes<F: Send + Drop, T: Disk<F>, H: Shelf<F> + Drop, G: Gate, R: Threads + Wait + Sync>(
+pub fn lanes<F: Send + Drop, T: Disk<F>, H: Shelf<F>, G: Gate, R: Threads + Wait + Sync>(
     rt: &R,
     alloc: Global,
     script: &Script,
@@ -322,9 +298,6 @@ pub fn lanes<F: Send + Drop, T: Disk<F>, H: Shelf<F> + Drop, G: Gate, R: Threads
     gate: &G,
 ) -> Result<Outcome<F, T, H>, (Crew<F, T, H>, NoMemory)>
 where
-    H::File: Drop,
-    H::Sealed: Drop,
-    <H::Sealed as Sealed<F>>::Reader: Drop,
     requires own { IsOf dataset.now crew.pass }
     requires free { (view crew.pass).lock ≡ Free }
     requires all { (view crew.pass).parts ≡ all_parts }

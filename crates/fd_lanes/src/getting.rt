@@ -37,14 +37,13 @@ fn place_of(alloc: Global, schema: &Schema, key: &Key) -> Result<Place, NoMemory
 }
 
 /// What the newest segment of a place's key has.
-fn fetch_one<F: Send, Z: Sealed<F> + Drop>(
+fn fetch_one<F: Send, Z: Sealed<F>>(
     alloc: Global,
     snapshot: &Snapshot<F, Z>,
     lenses: &mut Lenses<F, Z>,
     place: &Place,
 ) -> Result<Answer, FetchFault<F, NoMemory>>
 where
-    Z::Reader: Drop,
     requires fits { Fits lenses.old (map listing snapshot.now) }
     ensures fits { Fits lenses.new (map listing snapshot.now) }
     ensures answer { IfOk result (λ a. (t : List (List Pair)) → Tells (map listing snapshot.now) t → answer_bytes a ≡ newest t (file_key (seen_place place.now))) }
@@ -59,7 +58,7 @@ where
 }
 
 /// What the key at a place of a request, from 0, is answered.
-fn fetch_at<F: Send, Z: Sealed<F> + Drop>(
+fn fetch_at<F: Send, Z: Sealed<F>>(
     alloc: Global,
     schema: &Schema,
     request: &Request,
@@ -68,7 +67,6 @@ fn fetch_at<F: Send, Z: Sealed<F> + Drop>(
     lenses: &mut Lenses<F, Z>,
 ) -> Result<Answer, FetchFault<F, NoMemory>>
 where
-    Z::Reader: Drop,
     requires within { i < length (expand request.now) }
     requires fits { Fits lenses.old (map listing snapshot.now) }
     requires places { (n : ℕ) (key : List keys.Pair) → slice_get (expand request.now) n ≡ Some key → (t : _) × (place_from 0 schema.now key ≡ Some t) }
@@ -86,7 +84,7 @@ where
 }
 
 /// The answers of all keys of a request, each of which has a place.
-pub(crate) fn fetch_all<F: Send + Drop, Z: Sealed<F> + Drop>(
+pub(crate) fn fetch_all<F: Send + Drop, Z: Sealed<F>>(
     alloc: Global,
     schema: &Schema,
     request: &Request,
@@ -94,7 +92,6 @@ pub(crate) fn fetch_all<F: Send + Drop, Z: Sealed<F> + Drop>(
     lenses: &mut Lenses<F, Z>,
 ) -> Result<Answers, FetchFault<F, NoMemory>>
 where
-    Z::Reader: Drop,
     requires fits { Fits lenses.old (map listing snapshot.now) }
     requires places { (i : ℕ) (key : List keys.Pair) → slice_get (expand request.now) i ≡ Some key → (t : _) × (place_from 0 schema.now key ≡ Some t) }
     ensures fits { Fits lenses.new (map listing snapshot.now) }

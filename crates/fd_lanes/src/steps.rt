@@ -33,14 +33,11 @@ use std::sync::Wait;
 
 /// A message is put, for which there is room.
 pub(crate) fn put_step<F: Send, H: Shelf<F>>(
-    alloc: Global,
     place: &Place,
     bytes: &[u8],
     archiver: &mut Archiver<F, H>,
 ) -> End<F>
 where
-    H::File: Drop,
-    H::Sealed: Drop,
     requires dataset { (seen_place place.now).dataset ≡ archiver.old.dataset }
     requires key { length (file_key (seen_place place.now)) ≤ 256 }
     requires bytes { length bytes.now ≤ 134217728 }
@@ -48,12 +45,11 @@ where
     ensures stays { StaysOf archiver.old archiver.new }
     ensures moves { (v : View) (s : Stand) → Fits archiver.old v s → Moves archiver.old archiver.new v v s (acts.Put (record { key = file_key (seen_place place.now); bytes = bytes.now })) result }
 {
-    match archiver.archive(alloc, place, bytes) {
+    match archiver.archive(place, bytes) {
         Ok(()) => End::PutOk,
         Err(ArchiveFault::Unlisted) => End::PutUnlisted,
         Err(ArchiveFault::Full { keys: _, left: _ }) => unreachable!(),
         Err(ArchiveFault::Disk(fault)) => End::Fault(fault),
-        Err(ArchiveFault::NoMemory) => End::NoMemory,
     }
 }
 
@@ -66,8 +62,6 @@ pub(crate) fn flush_step<F: Send, T: Disk<F>, H: Shelf<F>, R: Wait>(
     pass: &mut DatasetPass<F, T, H::Sealed>,
 ) -> End<F>
 where
-    H::File: Drop,
-    H::Sealed: Drop,
     requires own { IsOf dataset.now pass.old }
     requires free { (view pass.old).lock ≡ Free }
     requires dataset { archiver.old.dataset ≡ (view pass.old).subject }
@@ -88,7 +82,7 @@ where
 }
 
 /// The keys of a request, each of which has a place, are looked up.
-pub(crate) fn get_step<F: Send + Drop, T: Disk<F>, Z: Sealed<F> + Drop, R: Wait>(
+pub(crate) fn get_step<F: Send + Drop, T: Disk<F>, Z: Sealed<F>, R: Wait>(
     rt: &R,
     alloc: Global,
     schema: &Schema,
@@ -98,7 +92,6 @@ pub(crate) fn get_step<F: Send + Drop, T: Disk<F>, Z: Sealed<F> + Drop, R: Wait>
     pass: &mut DatasetPass<F, T, Z>,
 ) -> End<F>
 where
-    Z::Reader: Drop,
     requires own { IsOf dataset.now pass.old }
     requires free { (view pass.old).lock ≡ Free }
     requires fits { opened.Fits lenses.old (view pass.old).history }
@@ -137,9 +130,6 @@ pub(crate) fn run_step<F: Send + Drop, T: Disk<F>, H: Shelf<F>, R: Wait>(
     job: &mut LaneJob<F, T, H>,
 ) -> End<F>
 where
-    H::File: Drop,
-    H::Sealed: Drop,
-    <H::Sealed as Sealed<F>>::Reader: Drop,
     requires own { IsOf dataset.now job.old.pass }
     requires free { (view job.old.pass).lock ≡ Free }
     requires dataset { job.old.archiver.dataset ≡ (view job.old.pass).subject }
@@ -160,7 +150,7 @@ where
         Step::Put(number) => {
             let [place, ..] = places else { unreachable!() };
             let bytes = messages[(*number - 1) as usize].as_slice();
-            put_step(alloc, place, bytes, &mut job.archiver)
+            put_step(place, bytes, &mut job.archiver)
         }
         Step::Flush => flush_step(rt, alloc, dataset, &mut job.archiver, &mut job.pass),
         Step::Get(request) => get_step(
@@ -189,9 +179,6 @@ pub(crate) fn run_lane<F: Send + Drop, T: Disk<F>, H: Shelf<F>, G: Gate, R: Wait
     job: &mut LaneJob<F, T, H>,
 )
 where
-    H::File: Drop,
-    H::Sealed: Drop,
-    <H::Sealed as Sealed<F>>::Reader: Drop,
     requires own { IsOf dataset.now job.old.pass }
     requires free { (view job.old.pass).lock ≡ Free }
     requires sure { (view job.old.pass).doubts ≡ [] }

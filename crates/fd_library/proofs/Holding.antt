@@ -51,16 +51,16 @@ module _ {A : Type 0} where
   writers_listed n xs es is all = writers_of n xs (subst (All (λ (e : Entry). e.writer ≤ n)) (sym is) all)
 
   -- by the files of the folder, without its table, the dataset holds what it held
-  pub holds_files : (store : Option Holdings) (has0 has1 : Option Contents) (name : List ℕ) (xs : List (Arc Standing A)) (es : List Entry) (b : BoardId) → has0 ≡ option_map (λ s. folder_at s name) store → has1 ≡ option_map without_table has0
+  pub holds_files : (store : Option Holdings) (has0 has1 : Option Contents) (name : List ℕ) (xs : List (Arc Standing A)) (es : List Entry) (b : BoardId) (tells : Bool) → has0 ≡ option_map (λ s. folder_at s name) store → has1 ≡ option_map without_table has0
       → entries xs ≡ es → IfSome has0 (λ v. batches_listed v.files (Ok es) ≡ held name v)
-      → IfSome store (λ s. held_by_pass has1 (Some (record { board = b; view = first_view name (listings xs) })) ≡ held_of s name)
-  holds_files None has0 has1 name xs es b first later is files = tt
-  holds_files (Some s) has0 has1 name xs es b first later is files =
+      → IfSome store (λ s. held_by_pass has1 (Some (record { board = b; view = first_view name tells (listings xs) })) ≡ held_of s name)
+  holds_files None has0 has1 name xs es b tells first later is files = tt
+  holds_files (Some s) has0 has1 name xs es b tells first later is files =
       let v = folder_at s name in
       let here : has1 ≡ Some (without_table v) = later ∙ ap (option_map without_table) first in
       let same : map (λ (l : Listing). l.entry) (listings xs) ≡ es = listed_entries xs ∙ is in
       let told : batches_listed v.files (Ok es) ≡ held name v = subst (λ (o : Option Contents). IfSome o (λ v. batches_listed v.files (Ok es) ≡ held name v)) first files in
-      ap (λ (o : Option Contents). held_by_pass o (Some (record { board = b; view = first_view name (listings xs) }))) here ∙ (ap (λ (l : List Entry). batches_listed v.files (Ok l)) same ∙ told)
+      ap (λ (o : Option Contents). held_by_pass o (Some (record { board = b; view = first_view name tells (listings xs) }))) here ∙ (ap (λ (l : List Entry). batches_listed v.files (Ok l)) same ∙ told)
 
   -- and so it does by its listings
   pub holds_listings : (store : Option Holdings) (has0 : Option Contents) (name : List ℕ) (xs : List (Arc Standing A)) → has0 ≡ option_map (λ s. folder_at s name) store
@@ -71,12 +71,12 @@ module _ {A : Type 0} where
       ap all_of (listed_batches xs) ∙ subst (λ (o : Option Contents). IfSome o (λ v. all_of (map (λ (s : Standing). batch_of s.files) (standings xs)) ≡ held name v)) first told
 
   -- by both it holds what the store held
-  pub holds_as : {D : Type 0} (has : D → Option Contents) (h : OpenDataset D) (store : Option Holdings) (has0 : Option Contents) (name : List ℕ) (xs : List (Arc Standing A)) (es : List Entry) (b : BoardId) → h.name ≡ name
-      → h.pass ≡ Some (record { board = b; view = first_view name (listings xs) }) → has0 ≡ option_map (λ s. folder_at s name) store → has h.folder ≡ option_map without_table has0 → entries xs ≡ es
+  pub holds_as : {D : Type 0} (has : D → Option Contents) (h : OpenDataset D) (store : Option Holdings) (has0 : Option Contents) (name : List ℕ) (xs : List (Arc Standing A)) (es : List Entry) (b : BoardId) (tells : Bool) → h.name ≡ name
+      → h.pass ≡ Some (record { board = b; view = first_view name tells (listings xs) }) → has0 ≡ option_map (λ s. folder_at s name) store → has h.folder ≡ option_map without_table has0 → entries xs ≡ es
       → IfSome has0 (λ v. batches_listed v.files (Ok es) ≡ held name v) → IfSome has0 (λ v. all_of (map (λ s. batch_of s.files) (standings xs)) ≡ held name v) → IfSome store (λ s. HoldsAs has s h)
-  holds_as has h None has0 name xs es b text pass first later is files told = tt
-  holds_as has h (Some s) has0 name xs es b text pass first later is files told =
-      let by_files = holds_files (Some s) has0 (has h.folder) name xs es b first later is files in
+  holds_as has h None has0 name xs es b tells text pass first later is files told = tt
+  holds_as has h (Some s) has0 name xs es b tells text pass first later is files told =
+      let by_files = holds_files (Some s) has0 (has h.folder) name xs es b tells first later is files in
       let by_listings = holds_listings (Some s) has0 name xs first told in
       record {
         files = ap (held_by_pass (has h.folder)) pass ∙ (by_files ∙ sym (ap (held_of s) text));

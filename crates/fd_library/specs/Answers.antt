@@ -46,8 +46,9 @@ TableBrokeIn file faults new name = (has : Option Contents) × IfSome new (λ t.
 -- a dataset that was opened just now, on this board
 pub record IsOpened {D : Type 0} (name : List ℕ) (b : BoardId) (h : OpenDataset D) : Type 0 where
   pub history : List Listing
+  pub told : Bool
   pub name_is : h.name ≡ name
-  pub pass : h.pass ≡ Some (record { board = b; view = first_view name history })
+  pub pass : h.pass ≡ Some (record { board = b; view = first_view name told history })
   pub opening : h.opening ≡ length history
   pub asked : (h.given ≡ 0) × (h.lent ≡ 0)
   pub writers : All (λ l. l.entry.writer ≤ h.last) history

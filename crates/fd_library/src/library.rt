@@ -25,18 +25,12 @@ use std::marker::Model;
 
 /// The datasets of a store that are open. Each has a number, from 0, by which its writers and its pass are asked for.
 /// While a dataset is open its folder is out of the store; `give_back` puts all folders back.
-pub struct Library<F: Send, S: Store<F>>
-where
-    <S::Folder as Folder<F>>::Sealed: Drop,
-{
+pub struct Library<F: Send, S: Store<F>> {
     datasets: Vec<FolderDataset<F, S::Folder>>,
     held: Vec<Held<F, S::Folder>>,
 }
 
-impl<F: Send, S: Store<F>> Model for Library<F, S>
-where
-    <S::Folder as Folder<F>>::Sealed: Drop,
-{
+impl<F: Send, S: Store<F>> Model for Library<F, S> {
     ghost use Rattle.std.specs.Prelude.{◌≤◌, length};
     ghost use Rattle.fd_library.specs.Open.{AreDistinct, AreSeated, OpenDatasets, names_of};
 
@@ -47,10 +41,7 @@ where
     ghost invariant = { λ l. (length l.held.items ≤ 2048) × AreDistinct (names_of l.held.items) × AreSeated l.datasets.items l.held.items };
 }
 
-impl<F: Send, S: Store<F>> Library<F, S>
-where
-    <S::Folder as Folder<F>>::Sealed: Drop,
-{
+impl<F: Send, S: Store<F>> Library<F, S> {
     /// No dataset is open.
     pub fn new(alloc: Global) -> Result<Library<F, S>, NoMemory>
         ensures { IfOk result (λ l. l ≡ record { boards = []; each = [] }) }
@@ -193,12 +184,7 @@ where
     }
 }
 
-impl<F: Send, S: Store<F>> Library<F, S>
-where
-    <S::Folder as Folder<F>>::Sealed: Drop,
-    <<S::Folder as Folder<F>>::Shelf as Shelf<F>>::File: Drop,
-    <<S::Folder as Folder<F>>::Shelf as Shelf<F>>::Sealed: Drop,
-{
+impl<F: Send, S: Store<F>> Library<F, S> {
     /// A writer of a dataset, with one more than the greatest number that was listed when the dataset was opened or given
     /// since. A number whose archiver was refused counts as given. Of one dataset 65,535 writers are asked for at most.
     pub fn archiver(
@@ -232,7 +218,6 @@ fn none_more<F: Send, S: Store<F>>(
     make: bool,
 ) -> Result<Option<u32>, OpenFault<F>>
 where
-    <S::Folder as Folder<F>>::Sealed: Drop,
     requires out { S.out store.old name.now ≡ false }
     ensures none { IfOk result (λ o. (o ≡ None) × (make ≡ false) × IfSome (S.has store.old) (λ s. is_some (folder_at s name.now).table ≡ false)) }
     ensures too_many { TooManyAt 2048 (IsWanted make (S.has store.old) name.now) result }
@@ -256,7 +241,6 @@ where
 // The number of the dataset with this text.
 fn number_of<F: Send, D: Folder<F>>(held: &[Held<F, D>], name: &str) -> Option<u32>
 where
-    D::Sealed: Drop,
     requires { length held.now ≤ 2048 }
     ensures { MatchOption result (among name.now (names_of held.now) ≡ false) (λ n. (h : OpenDataset D) × (slice_get held.now n ≡ Some h) × (h.name ≡ name.now)) }
 {
@@ -275,7 +259,6 @@ fn put_back<F: Send, S: Store<F>>(
     store: &mut S,
 )
 where
-    <S::Folder as Folder<F>>::Sealed: Drop,
     requires seated { IsSome held.pass }
     requires own { IfSome held.pass (λ p. p.board ≡ dataset) }
     ensures others { WhereTold (S.has store.old) (S.has store.new) (SameBut held.name) }

@@ -24,10 +24,7 @@ use fd_toc::Toc;
 use std::alloc::Global;
 
 /// A dataset that began just now, with its one pass, the number of its entries and their greatest writer.
-pub(crate) struct Start<F: Send, D: Folder<F>>
-where
-    D::Sealed: Drop,
-{
+pub(crate) struct Start<F: Send, D: Folder<F>> {
     pub(crate) dataset: FolderDataset<F, D>,
     pub(crate) pass: FolderPass<F, D>,
     pub(crate) opening: u32,
@@ -43,7 +40,6 @@ pub(crate) fn taken_up<F: Send, D: Folder<F>>(
     make: bool,
 ) -> Result<Option<Recovered<F, D>>, OpenFault<F>>
 where
-    D::Sealed: Drop,
     requires back { D.table_out folder.old ≡ false }
     requires dataset { D.name folder.old ≡ name.now }
     requires short { make ≡ true → length name.now ≤ 255 }
@@ -92,7 +88,6 @@ fn founded<F: Send, D: Folder<F>>(
     name: &str,
 ) -> Result<Recovered<F, D>, OpenFault<F>>
 where
-    D::Sealed: Drop,
     requires back { D.table_out folder.old ≡ false }
     requires dataset { D.name folder.old ≡ name.now }
     requires short { length name.now ≤ 255 }
@@ -142,13 +137,12 @@ pub(crate) fn begun<F: Send, D: Folder<F>>(
     recovered: Recovered<F, D>,
 ) -> Result<Start<F, D>, Toc<F, D::Table>>
 where
-    D::Sealed: Drop,
     requires name { D.Table.name recovered.toc.table ≡ recovered.toc.dataset }
     requires sure { recovered.toc.doubt ≡ None }
     requires each { entries recovered.segments.items ≡ recovered.toc.entries }
     requires own { AreOf (D.Table.name recovered.toc.table) recovered.segments.items }
     ensures own { IfOk result (λ b. IsOf b.dataset b.pass) }
-    ensures pass { IfOk result (λ b. view b.pass ≡ first_view recovered.toc.dataset (listings recovered.segments.items)) }
+    ensures pass { IfOk result (λ b. view b.pass ≡ first_view recovered.toc.dataset (is_some (D.Table.file recovered.toc.table)) (listings recovered.segments.items)) }
     ensures opening { IfOk result (λ b. b.opening ≡ length recovered.toc.entries) }
     ensures writers { IfOk result (λ b. All (λ e. e.writer ≤ b.last) recovered.toc.entries) }
     ensures greatest { IfOk result (λ b. b.last ≤ 65536 * b.opening) }
@@ -199,7 +193,6 @@ pub(crate) fn opened<F: Send, S: Store<F>>(
     make: bool,
 ) -> Result<Option<(FolderDataset<F, S::Folder>, Held<F, S::Folder>)>, OpenFault<F>>
 where
-    <S::Folder as Folder<F>>::Sealed: Drop,
     requires out { S.out store.old (string_bytes name) ≡ false }
     requires short { make ≡ true → length (string_bytes name) ≤ 255 }
     ensures none { IfOk result (λ o. IfSome (S.has store.old) (λ s. is_some o ≡ (is_some (folder_at s (string_bytes name)).table || make))) }

@@ -7,7 +7,6 @@ use Rattle.lru.proofs.CallerLemmas.{Contains-lookup, Contains-put_entries, Conta
 use Rattle.lru.proofs.Splits.{Contains-cons, Contains-head, Contains-nil, Contains-tail}
 use Rattle.fd_segment.specs.Held.{Opened}
 use Rattle.fd_retriever.specs.Kept.{Kept}
-use Rattle.fd_retriever.specs.Answers.{AllRead, Reads}
 
 from_map : {A B : Type 0} (f : A → B) (es : List A) (y : B) → Contains (map f es) y → (e : A) × Contains es e × (f e ≡ y)
 from_map f [] y h = absurd (Contains-nil y h)
@@ -37,11 +36,6 @@ pub taken_maybe : (es : List (ℕ × Opened)) (number : ℕ) (o : Option Opened)
 taken_maybe es number None found = tt
 taken_maybe es number (Some lens) found = taken_out es number lens found
 
--- and its index was read
-pub read_maybe : (es : List (ℕ × Opened)) (number : ℕ) (o : Option Opened) → o ≡ lookup (nat_eq number) es → AllRead (map kept_of es) → IfSome o (λ l. Reads l.files)
-read_maybe es number None found all = tt
-read_maybe es number (Some lens) found all = all (record { number = number; files = lens.files }) (taken_out es number lens found)
-
 pub left_kept : (es : List (ℕ × Opened)) (number : ℕ) (k : Kept) → Contains (map kept_of (remove_entry (nat_eq number) es)) k → Contains (map kept_of es) k
 left_kept es number k has =
     let at = from_map kept_of (remove_entry (nat_eq number) es) k has in
@@ -64,21 +58,6 @@ pub kept_after : {X E : Type 0} (r : Result X E) (old new : LruCache ℕ Opened)
 kept_after (Ok x) old new number lens ok err k has = put_in old number lens k (subst (λ (c : LruCache ℕ Opened). Contains (map kept_of c.entries) k) ok has)
 kept_after (Err x) old new number lens ok err k has = inl (subst (λ (c : LruCache ℕ Opened). Contains (map kept_of c.entries) k) err has)
 
--- what holds of a cache whose lenses' indexes were read
-abbrev pub IsSound : LruCache ℕ Opened → Type 0
-IsSound c = (c.cap ≡ 64) × AllRead (map kept_of c.entries)
-
-pub sound_after : {X E : Type 0} (r : Result X E) (old new : LruCache ℕ Opened) (number : ℕ) (lens : Opened) → OnOk r (new ≡ lru_cache (put_entries nat_eq old number lens) old.cap) → OnErr r (new ≡ old)
-    → IsSound old → Reads lens.files → IsSound new
-sound_after r old new number lens ok err sound reads = (room r ok err, λ k has. go k (kept_after r old new number lens ok err k has))
-  where
-    room : {X E : Type 0} (r : Result X E) → OnOk r (new ≡ lru_cache (put_entries nat_eq old number lens) old.cap) → OnErr r (new ≡ old) → new.cap ≡ 64
-    room (Ok x) ok err = ap (λ (c : LruCache ℕ Opened). c.cap) ok ∙ sound.0
-    room (Err x) ok err = ap (λ (c : LruCache ℕ Opened). c.cap) err ∙ sound.0
-
-    go : (k : Kept) → Contains (map kept_of old.entries) k ⊎ (k ≡ record { number = number; files = lens.files }) → Reads k.files
-    go k (inl was) = sound.1 k was
-    go k (inr is) = subst (λ (x : Kept). Reads x.files) (sym is) reads
-
-pub sound_left : (old new : LruCache ℕ Opened) (number : ℕ) → new ≡ lru_cache (remove_entry (nat_eq number) old.entries) old.cap → IsSound old → IsSound new
-sound_left old new number is sound = subst IsSound (sym is) (sound.0, λ k has. sound.1 k (left_kept old.entries number k has))
+pub cap_after : {X E : Type 0} (r : Result X E) (old new : LruCache ℕ Opened) (number : ℕ) (lens : Opened) → OnOk r (new ≡ lru_cache (put_entries nat_eq old number lens) old.cap) → OnErr r (new ≡ old) → new.cap ≡ old.cap
+cap_after (Ok x) old new number lens ok err = ap (λ (c : LruCache ℕ Opened). c.cap) ok
+cap_after (Err x) old new number lens ok err = ap (λ (c : LruCache ℕ Opened). c.cap) err

@@ -1,34 +1,11 @@
 -- What the indexes of segments say of a key.
-use Rattle.std.proofs.Common.{◌≡◌, ◌<◌, ◌≤◌, ◌+◌, ◌-◌, ℕ, List, length, Option, Some, None, Result, Ok, Err, IsOk, ◌⊎◌, inl, inr, Contains, refl, sym, ◌∙◌, subst, arith}
-use Rattle.std.specs.Prelude.{IfSome, IfOk}
+use Rattle.std.proofs.Common.{◌≡◌, ◌<◌, ◌≤◌, ◌-◌, ℕ, List, length, ◌⊎◌, inl, inr, ◌∙◌, subst, arith}
 use Rattle.std.proofs.lemmas.Option.{slice_get_within}
-use Rattle.fd_index.specs.Records.{Record, place_of}
-use Rattle.fd_segment.specs.Causes.{IsPlace}
-use Rattle.fd_segment.specs.Held.{Files, Standing, records_in}
-use Rattle.fd_retriever.specs.declared.fault.Got.{Got}
+use Rattle.fd_segment.specs.Held.{Standing}
 use Rattle.fd_retriever.specs.declared.fault.Got.TheVariants.{Found, Miss}
-use Rattle.fd_retriever.specs.Kept.{IsNumbered, Kept}
-use Rattle.fd_retriever.specs.Answers.{AllSay, LackBehind, Reads, Says}
+use Rattle.fd_retriever.specs.Kept.{IsNumbered}
+use Rattle.fd_retriever.specs.Answers.{AllSay, LackBehind, Says}
 use Rattle.fd_retriever.proofs.Keeping.{numbered_same}
-
-read_as : (r : Result (List Record) ℕ) → IsOk r → (rs : List Record) × (r ≡ Ok rs)
-read_as (Ok rs) ok = (rs, refl)
-read_as (Err at) ok = absurd (cc ok)
-
-pub says_missed : (f : Files) (key : List ℕ) → Reads f → IsPlace f.entry f.index key None → Says f key Miss
-says_missed f key reads place = go f.index reads place
-  where
-    go : (index : Option (List ℕ)) → IfSome index (λ bytes. IsOk (records_in f.entry bytes)) → IsPlace f.entry index key None → IfSome index (λ bytes. (rs : List Record) × (records_in f.entry bytes ≡ Ok rs) × (place_of key rs ≡ None))
-    go None reads place = tt
-    go (Some bytes) reads place = let read = read_as (records_in f.entry bytes) reads in (read.0, read.1, sym (place read.0 read.1))
-
-pub says_found : (f : Files) (key : List ℕ) (at len : ℕ) → Reads f → IsPlace f.entry f.index key (Some (at, len)) → at + len ≤ f.entry.fields_len → Says f key (Found len)
-says_found f key at len reads place inside = go f.index reads place
-  where
-    go : (index : Option (List ℕ)) → IfSome index (λ bytes. IsOk (records_in f.entry bytes)) → IsPlace f.entry index key (Some (at, len))
-        → IfSome index (λ bytes. (rs : List Record) × (from : ℕ) × (records_in f.entry bytes ≡ Ok rs) × (place_of key rs ≡ Some (from, len)) × (from + len ≤ f.entry.fields_len))
-    go None reads place = tt
-    go (Some bytes) reads place = let read = read_as (records_in f.entry bytes) reads in (read.0, at, read.1, sym (place read.0 read.1), inside)
 
 -- there is none behind the last
 pub lack_at_end : (ss : List Standing) (key : List ℕ) (n : ℕ) → length ss ≤ n → LackBehind ss key n

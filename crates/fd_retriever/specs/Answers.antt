@@ -1,17 +1,17 @@
 -- What a fetch answers, and why it refuses.
-use Rattle.std.specs.Prelude.{◌≡◌, ◌⊎◌, ◌<◌, ◌≤◌, ◌+◌, ℕ, List, length, map, Option, Some, None, Result, Ok, Err, IfSome, IsOk, Contains}
+use Rattle.std.specs.Prelude.{◌≡◌, ◌⊎◌, ◌<◌, ◌≤◌, ◌+◌, ℕ, List, length, map, Option, Some, None, Result, Ok, Err}
 use Rattle.fd_io.specs.Streams.{Takes, TakesFront}
 use Rattle.fd_core.specs.declared.batch.Pair.{Pair}
 use Rattle.fd_core.specs.declared.batch.Listing.{Listing}
-use Rattle.fd_index.specs.Records.{Record, place_of}
+use Rattle.fd_pages.specs.Parts.{IsSeen}
 use Rattle.fd_segment.specs.declared.fault.Damage.{Damage}
-use Rattle.fd_segment.specs.Causes.{IsBadIndex, IsBeyond}
-use Rattle.fd_segment.specs.Held.{Files, Standing, records_in}
+use Rattle.fd_segment.specs.Causes.{IsBadIndex, IsFindDamage, IsPlace}
+use Rattle.fd_segment.specs.Held.{Files, Standing}
 use Rattle.fd_retriever.specs.declared.fault.Got.{Got}
 use Rattle.fd_retriever.specs.declared.fault.Got.TheVariants.{Found, Miss}
 use Rattle.fd_retriever.specs.declared.fault.FetchFault.{FetchFault}
 use Rattle.fd_retriever.specs.declared.fault.FetchFault.TheVariants.{Disk, Write, Damaged, NoMemory}
-use Rattle.fd_retriever.specs.Kept.{IsNumbered, Kept}
+use Rattle.fd_retriever.specs.Kept.{IsNumbered}
 
 -- the batches that the listings stand for, where each has one
 abbrev pub Tells : List Listing → List (List Pair) → Type 0
@@ -63,17 +63,15 @@ module _ {F X : Type 0} where
   UnlessWrite (Err (Damaged d)) P = P
   UnlessWrite (Err NoMemory) P = P
 
--- the index is in its format, where told
-abbrev pub Reads : Files → Type 0
-Reads f = IfSome f.index (λ index. IsOk (records_in f.entry index))
+-- What the index says of a key, where told: by the pages of it that decide, each in the format by itself, and by all of it,
+-- where it is in its format.
+abbrev pub IsSaid : Files → List ℕ → Option (ℕ × ℕ) → Type 0
+IsSaid f key place = IsSeen f.index f.entry.index_len key place × IsPlace f.entry f.index key place
 
-abbrev pub AllRead : List Kept → Type 0
-AllRead kept = (k : Kept) → Contains kept k → Reads k.files
-
--- What the index says of a key, where told: that its bytes are so many, and end within the fields; or that it isn't there.
+-- That its bytes are so many, and end within the fields; or that it isn't there.
 abbrev pub Says : Files → List ℕ → Got → Type 0
-Says f key (Found n) = IfSome f.index (λ index. (rs : List Record) × (at : ℕ) × (records_in f.entry index ≡ Ok rs) × (place_of key rs ≡ Some (at, n)) × (at + n ≤ f.entry.fields_len))
-Says f key Miss = IfSome f.index (λ index. (rs : List Record) × (records_in f.entry index ≡ Ok rs) × (place_of key rs ≡ None))
+Says f key (Found n) = (at : ℕ) × IsSaid f key (Some (at, n)) × (at + n ≤ f.entry.fields_len)
+Says f key Miss = IsSaid f key None
 
 -- the index of each segment behind this number says that the key isn't there
 abbrev pub LackBehind : List Standing → List ℕ → ℕ → Type 0
@@ -84,9 +82,10 @@ abbrev pub AllSay : List Standing → List ℕ → Got → Type 0
 AllSay ss key (Found n) = (number : ℕ) × (s : Standing) × IsNumbered ss number s × Says s.files key (Found n) × LackBehind ss key number
 AllSay ss key Miss = LackBehind ss key 0
 
--- The damage stands in these files: the index isn't in the format at the place, or the key's record ends beyond the fields.
+-- The damage stands in these files: the index, or a page of it by itself, isn't in the format at the place, or the key's
+-- record ends beyond the fields.
 abbrev pub StandsIn : Files → List ℕ → Damage → Type 0
-StandsIn f key d = IsBadIndex f.entry f.index d ⊎ IsBeyond f.entry f.index key d
+StandsIn f key d = IsBadIndex f.entry f.index d ⊎ IsFindDamage f.entry f.index key d
 
 -- the damage stands in the files of one of the segments
 abbrev pub StandsAmong : List Standing → List ℕ → Damage → Type 0

@@ -26,7 +26,7 @@ use std::alloc::Global;
 /// each other answer the count is as before. `Damaged` never comes where each segment stands for a batch, and the damage
 /// stands in one of the segments. After a refusal a front of the newest message was written, and nothing at `Damaged` and
 /// `NoMemory`.
-pub fn fetch<F: Send, Z: Sealed<F> + Drop, X, K: Sink<X>>(
+pub fn fetch<F: Send, Z: Sealed<F>, X, K: Sink<X>>(
     alloc: Global,
     snapshot: &Snapshot<F, Z>,
     lenses: &mut Lenses<F, Z>,
@@ -34,7 +34,6 @@ pub fn fetch<F: Send, Z: Sealed<F> + Drop, X, K: Sink<X>>(
     sink: &mut K,
 ) -> Result<Got, FetchFault<F, X>>
 where
-    Z::Reader: Drop,
     requires fits { Fits lenses.old (map listing snapshot.now) }
     ensures fits { Fits lenses.new (map listing snapshot.now) }
     ensures those { AreThose lenses.old snapshot.now → AreThose lenses.new snapshot.now }

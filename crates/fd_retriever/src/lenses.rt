@@ -2,7 +2,6 @@ ghost use Rattle.std.specs.Prelude.{◌≡◌, ◌≤◌, ◌⊎◌, List, [], l
 ghost use Rattle.fd_core.specs.declared.batch.Listing.{Listing};
 ghost use Rattle.fd_segment.specs.Held.{Standing};
 ghost use Rattle.fd_retriever.specs.Kept.{AreThose, Fits, Kept};
-ghost use Rattle.fd_retriever.specs.Answers.{Reads};
 
 use fd_bytes::NoMemory;
 use fd_disk::Sealed;
@@ -13,41 +12,28 @@ use std::marker::Model;
 use std::num::NonZeroUsize;
 
 /// The opened segments of one dataset, at most 64, by their numbers.
-pub struct Lenses<F: Send, Z: Sealed<F>>
-where
-    Z::Reader: Drop,
-{
+pub struct Lenses<F: Send, Z: Sealed<F>> {
     cache: LruCache<u32, Lens<F, Z::Reader>>,
 }
 
-impl<F: Send, Z: Sealed<F>> Model for Lenses<F, Z>
-where
-    Z::Reader: Drop,
-{
+impl<F: Send, Z: Sealed<F>> Model for Lenses<F, Z> {
     ghost use Rattle.std.specs.Prelude.{◌≡◌, List, map};
     ghost use Rattle.fd_retriever.specs.Kept.{Kept};
-    ghost use Rattle.fd_retriever.specs.Answers.{AllRead};
 
     ghost Value = { List Kept };
 
     ghost view = { λ l. map (λ e. record { number = e.0; files = e.1.files }) l.cache.entries };
 
-    ghost invariant = { λ l. (l.cache.cap ≡ 64) × AllRead (map (λ e. record { number = e.0; files = e.1.files }) l.cache.entries) };
+    ghost invariant = { λ l. l.cache.cap ≡ 64 };
 }
 
-impl<F: Send, Z: Sealed<F>> Drop for Lenses<F, Z>
-where
-    Z::Reader: Drop,
-{
+impl<F: Send, Z: Sealed<F>> Drop for Lenses<F, Z> {
     fn drop(self) {
         let Lenses { cache: _ } = self;
     }
 }
 
-impl<F: Send, Z: Sealed<F>> Lenses<F, Z>
-where
-    Z::Reader: Drop,
-{
+impl<F: Send, Z: Sealed<F>> Lenses<F, Z> {
     /// No opened segments yet, and room for 64. They fit every snapshot.
     pub fn new(alloc: Global) -> Result<Lenses<F, Z>, NoMemory>
         ensures empty { IfOk result (λ l. l ≡ []) }
@@ -72,15 +58,13 @@ where
     /// Takes the opened segment of a number out, where one is kept.
     pub(crate) fn take(&mut self, number: u32) -> Option<Lens<F, Z::Reader>>
         ensures files { IfSome result (λ l. Contains self.old (record { number = number; files = l.files })) }
-        ensures read { IfSome result (λ l. Reads l.files) }
         ensures kept { (k : Kept) → Contains self.new k → Contains self.old k }
     {
         self.cache.pop(&number)
     }
 
-    /// Keeps an opened segment under its number, whose index was read. Where there is no memory it is let go.
+    /// Keeps an opened segment under its number. Where there is no memory it is let go.
     pub(crate) fn keep(&mut self, number: u32, lens: Lens<F, Z::Reader>)
-        requires { Reads lens.files }
         ensures { (k : Kept) → Contains self.new k → Contains self.old k ⊎ (k ≡ record { number = number; files = lens.files }) }
     {
         let _ = self.cache.put(number, lens);

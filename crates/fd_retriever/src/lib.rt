@@ -11,6 +11,3 @@ pub use fault::{FetchFault, Got};
 pub use fetching::fetch;
 pub use laws::{every_later_snapshot, every_snapshot};
 pub use lenses::Lenses;
-
-#[cfg(test)]
-mod written_tests;

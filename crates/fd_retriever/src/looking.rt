@@ -2,11 +2,11 @@ ghost use Rattle.std.specs.Prelude.{◌≡◌, ◌≤◌, ◌⊎◌, List, Some,
 ghost use Rattle.fd_bytes.specs.Causes.{Rose};
 ghost use Rattle.fd_core.specs.declared.batch.Pair.{Pair};
 ghost use Rattle.fd_core.specs.Batches.{of_batch};
-ghost use Rattle.fd_segment.specs.Causes.{IsBeyond};
+ghost use Rattle.fd_segment.specs.Causes.{IsFindDamage};
 ghost use Rattle.fd_segment.specs.Held.{Files, batch_of};
 ghost use Rattle.fd_dataset.specs.Listed.{listing_in};
 ghost use Rattle.fd_retriever.specs.Kept.{Kept};
-ghost use Rattle.fd_retriever.specs.Answers.{IsAnswer, OnDamaged, OnWrite, Reads, Says, StandsIn, TookAsMany, TookFront, UnlessWrite, Unwritten};
+ghost use Rattle.fd_retriever.specs.Answers.{IsAnswer, OnDamaged, OnWrite, Says, StandsIn, TookAsMany, TookFront, UnlessWrite, Unwritten};
 
 use crate::fault::{FetchFault, Got};
 use crate::lenses::Lenses;
@@ -18,16 +18,16 @@ use std::alloc::Global;
 /// Looks a key up in an opened segment, and copies its bytes into the sink, or tells what is wrong with the segment, and
 /// then nothing was written.
 fn copied<F: Send, R: Reader<F>, X, K: Sink<X>>(
+    alloc: Global,
     lens: &mut Lens<F, R>,
     key: &[u8],
     sink: &mut K,
 ) -> Result<Result<Got, Damage>, FetchFault<F, X>>
-    requires read { Reads lens.old.files }
     ensures files { lens.new.files ≡ lens.old.files }
     ensures answer { IfOk result (λ r. IfOk r (λ got. (b : List Pair) → batch_of lens.old.files ≡ Some b → IsAnswer (of_batch b key.now) (K.taken sink.old) (K.taken sink.new) got)) }
     ensures says { IfOk result (λ r. IfOk r (Says lens.old.files key.now)) }
     ensures took { IfOk result (λ r. IfOk r (TookAsMany (K.taken sink.old) (K.taken sink.new))) }
-    ensures damaged { IfOk result (λ r. IfErr r (IsBeyond lens.old.files.entry lens.old.files.index key.now)) }
+    ensures damaged { IfOk result (λ r. IfErr r (IsFindDamage lens.old.files.entry lens.old.files.index key.now)) }
     ensures sound { IfOk result (λ r. OnErr r (batch_of lens.old.files ≡ None)) }
     ensures untouched { IfOk result (λ r. OnErr r (K.taken sink.new ≡ K.taken sink.old)) }
     ensures err { IfErr result (λ _. (b : List Pair) → batch_of lens.old.files ≡ Some b → TookFront (of_batch b key.now) (K.taken sink.old) (K.taken sink.new)) }
@@ -37,11 +37,11 @@ fn copied<F: Send, R: Reader<F>, X, K: Sink<X>>(
     ensures calm { UnlessWrite result (K.faults sink.new ≡ K.faults sink.old) }
     ensures write { IfErr result (λ e. OnWrite e (Rose (K.faults sink.old) (K.faults sink.new))) }
 {
-    let (at, len) = match lens.find(key) {
+    let (at, len) = match lens.find(alloc, key) {
         Ok(Some(place)) => place,
         Ok(None) => return Ok(Ok(Got::Miss)),
         Err(LensFault::Fault(fault)) => return Err(FetchFault::Disk(fault)),
-        Err(LensFault::Damaged(beyond)) => return Ok(Err(beyond)),
+        Err(LensFault::Damaged(damage)) => return Ok(Err(damage)),
         Err(LensFault::NoMemory) => return Err(FetchFault::NoMemory),
     };
     match lens.copy_to(at, len, sink) {
@@ -62,7 +62,6 @@ pub(crate) fn fetch_from<F: Send, Z: Sealed<F>, X, K: Sink<X>>(
     sink: &mut K,
 ) -> Result<Got, FetchFault<F, X>>
 where
-    Z::Reader: Drop,
     requires fits { (f : Files) → Contains lenses.old (record { number = number; files = f }) → listing_in f ≡ listing_in segment.now.files }
     ensures kept { (k : Kept) → Contains lenses.new k → Contains lenses.old k ⊎ (k ≡ record { number = number; files = segment.now.files }) }
     ensures answer { IfOk result (λ got. (b : List Pair) → batch_of segment.now.files ≡ Some b → IsAnswer (of_batch b key.now) (K.taken sink.old) (K.taken sink.new) got) }
@@ -77,7 +76,7 @@ where
     ensures write { IfErr result (λ e. OnWrite e (Rose (K.faults sink.old) (K.faults sink.new))) }
 {
     if let Some(mut lens) = lenses.take(number) {
-        match copied(&mut lens, key, sink) {
+        match copied(alloc, &mut lens, key, sink) {
             Ok(Err(_)) => {}
             Ok(Ok(got)) => {
                 lenses.keep(number, lens);
@@ -102,7 +101,6 @@ fn fetch_opened<F: Send, Z: Sealed<F>, X, K: Sink<X>>(
     sink: &mut K,
 ) -> Result<Got, FetchFault<F, X>>
 where
-    Z::Reader: Drop,
     ensures kept { (k : Kept) → Contains lenses.new k → Contains lenses.old k ⊎ (k ≡ record { number = number; files = segment.now.files }) }
     ensures answer { IfOk result (λ got. (b : List Pair) → batch_of segment.now.files ≡ Some b → IsAnswer (of_batch b key.now) (K.taken sink.old) (K.taken sink.new) got) }
     ensures says { IfOk result (Says segment.now.files key.now) }
@@ -121,7 +119,7 @@ where
         Err(LensFault::Damaged(damage)) => return Err(FetchFault::Damaged(damage)),
         Err(LensFault::NoMemory) => return Err(FetchFault::NoMemory),
     };
-    let answer = copied(&mut lens, key, sink);
+    let answer = copied(alloc, &mut lens, key, sink);
     lenses.keep(number, lens);
     match answer {
         Ok(Ok(got)) => Ok(got),

@@ -1,4 +1,4 @@
-use Rattle.std.proofs.Common.{rules, ◌≡◌, ◌∙◌, ap, refl, List, ℕ, Ok, Some, IfSome, map, length, option_map, string_bytes}
+use Rattle.std.proofs.Common.{rules, ◌≡◌, ◌∙◌, ap, refl, List, ℕ, Ok, Some, is_some, IfSome, map, length, option_map, string_bytes}
 use Rattle.fd_disk.specs.Folders.{SameBut, WhereTold, folder_at, with_table, without_table}
 use Rattle.fd_segment.specs.Held.{batch_of}
 use Rattle.fd_turn.specs.Passes.{view}
@@ -27,11 +27,13 @@ returns-in-Ok-begun-clause-opened g c =
     let name = string_bytes c.args.name in
     let text : toc.dataset ≡ name = search rules in
     let entries : entries xs ≡ toc.entries = search rules in
-    let pass : view c.in-Ok-begun.field-0.pass ≡ first_view toc.dataset (listings xs) = search rules in
+    let tells = is_some (g.S.Folder.Table.Disk.file toc.table) in
+    let pass : view c.in-Ok-begun.field-0.pass ≡ first_view toc.dataset tells (listings xs) = search rules in
     let opening : c.in-Ok-begun.field-0.opening ≡ length toc.entries = search rules in
-    let known = pass ∙ ap (λ (n : List ℕ). first_view n (listings xs)) text in
+    let known = pass ∙ ap (λ (n : List ℕ). first_view n tells (listings xs)) text in
     record {
       history = listings xs;
+      told = tells;
       name_is = refl;
       pass = λ j. Some (record { board = c.in-Ok-begun.ensures.own j; view = known j });
       opening = opening ∙ as_many_listed xs toc.entries entries;
@@ -47,15 +49,16 @@ returns-in-Ok-begun-clause-holds g c =
     let name = string_bytes c.args.name in
     let text : toc.dataset ≡ name = search rules in
     let entries : entries xs ≡ toc.entries = search rules in
-    let pass : view c.in-Ok-begun.field-0.pass ≡ first_view toc.dataset (listings xs) = search rules in
-    let known = pass ∙ ap (λ (n : List ℕ). first_view n (listings xs)) text in
+    let tells = is_some (g.S.Folder.Table.Disk.file toc.table) in
+    let pass : view c.in-Ok-begun.field-0.pass ≡ first_view toc.dataset tells (listings xs) = search rules in
+    let known = pass ∙ ap (λ (n : List ℕ). first_view n tells (listings xs)) text in
     let first : has c.in-Ok.folder ≡ option_map (λ s. folder_at s name) (g.S.Store.has c.args.store.now) = search rules in
     let later : has c.taken_up.new.folder ≡ option_map without_table (has c.in-Ok.folder) = search rules in
     let files : IfSome (has c.in-Ok.folder) (λ v. batches_listed v.files (Ok toc.entries) ≡ held name v) = search rules in
     let told : IfSome (has c.in-Ok.folder) (λ v. all_of (map (λ s. batch_of s.files) (standings xs)) ≡ held name v) = search rules in
     holds_as has
     (record { name = name; folder = c.taken_up.new.folder; pass = Some (seat_of c.in-Ok-begun.field-0.pass); opening = c.in-Ok-begun.field-0.opening; last = c.in-Ok-begun.field-0.last; given = 0; lent = 0 })
-    (g.S.Store.has c.args.store.now) (has c.in-Ok.folder) name xs toc.entries c.in-Ok-begun.field-0.dataset refl (λ j. Some (record { board = c.in-Ok-begun.ensures.own j; view = known j })) first later entries files told
+    (g.S.Store.has c.args.store.now) (has c.in-Ok.folder) name xs toc.entries c.in-Ok-begun.field-0.dataset tells refl (λ j. Some (record { board = c.in-Ok-begun.ensures.own j; view = known j })) first later entries files told
 
 pub returns-in-Err-begun-clause-store_err : goal.returns-in-Err-begun-clause-store_err
 returns-in-Err-begun-clause-store_err g c =

@@ -1,16 +1,13 @@
-use Rattle.std.proofs.Common.{ℕ, List, Contains, IfSome, map, subst}
+use Rattle.std.proofs.Common.{ℕ, List, Contains, IfSome, map, ap, ◌∙◌, subst}
 use Rattle.lru.specs.LruCache.{LruCache}
 use Rattle.fd_segment.specs.Held.{Opened}
 use Rattle.fd_retriever.specs.Kept.{Kept}
-use Rattle.fd_retriever.proofs.Caching.{kept_of, left_kept, read_maybe, sound_left, taken_maybe}
+use Rattle.fd_retriever.proofs.Caching.{kept_of, left_kept, taken_maybe}
 use Rattle.fd_retriever.proofs.lenses.Lenses.take.Goals as goal
 
 pub returns-clause-files : goal.returns-clause-files
 returns-clause-files g c =
     subst (λ (ks : List Kept). IfSome c.pop.result (λ l. Contains ks (record { number = c.args.number; files = l.files }))) c.self.view_is (taken_maybe c.self.inside.cache.entries c.args.number c.pop.result c.pop.ensures.value)
-
-pub returns-clause-read : goal.returns-clause-read
-returns-clause-read g c = read_maybe c.self.inside.cache.entries c.args.number c.pop.result c.pop.ensures.value c.self.invariant.1
 
 pub returns-clause-kept : goal.returns-clause-kept
 returns-clause-kept g c = λ k has.
@@ -18,4 +15,4 @@ returns-clause-kept g c = λ k has.
     (left_kept c.self.inside.cache.entries c.args.number k (subst (λ (m : LruCache ℕ Opened). Contains (map kept_of m.entries) k) c.pop.ensures.entries has))
 
 pub invariant_of-self : goal.invariant_of-self
-invariant_of-self g c = sound_left c.self.inside.cache c.pop.new.self c.args.number c.pop.ensures.entries c.self.invariant
+invariant_of-self g c = ap (λ (m : LruCache ℕ Opened). m.cap) c.pop.ensures.entries ∙ c.self.invariant

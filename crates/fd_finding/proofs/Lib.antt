@@ -1,0 +1,4 @@
+pub mod Spots
+pub mod Keys
+pub mod Jobs
+pub mod Only

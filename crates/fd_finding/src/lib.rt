@@ -1,0 +1,12 @@
+//! The places of many keys at once: where the newest bytes of each stand among the segments of a snapshot, found by up to
+//! eight workers side by side, each of which goes over the segments once.
+#![tactic(auto)]
+
+mod dealing;
+mod finding;
+mod looking;
+mod searching;
+mod spot;
+
+pub use finding::find_all;
+pub use spot::Spot;
