@@ -1,0 +1,4 @@
+pub mod Steps
+pub mod Miscasts
+pub mod Done
+pub mod Texts

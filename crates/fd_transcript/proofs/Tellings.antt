@@ -1,0 +1,36 @@
+-- The steps of a lane, one after the other.
+use Rattle.std.proofs.Common.{◌≡◌, ◌∙◌, ◌≤◌, ◌+◌, ℕ, zero, suc, List, [], ◌∷◌, ◌++◌, length, append_assoc, slice_get, Some, ap, arith}
+use Rattle.std.specs.Prelude.{flat_map, min}
+use Rattle.fd_script.specs.declared.script.Lane.{Lane}
+use Rattle.fd_script.specs.declared.script.Step.{Step}
+use Rattle.fd_lanes.specs.declared.end.End.{End}
+use Rattle.fd_transcript.specs.Lines.{all_told, step_lines, told_from}
+use Rattle.fd_transcript.specs.History.{all_flushed, history_line, in_order}
+use Rattle.fd_transcript.specs.Transcripts.{before_line, transcript_text}
+
+pub told_at : {F : Type 0} (lane : List ℕ) (k : ℕ) (ss : List Step) (es : List (End F)) (i n : ℕ) (s : Step) (e : End F) → slice_get ss i ≡ Some s → slice_get es i ≡ Some e → n ≡ k + i
+    → slice_get (told_from lane k ss es) i ≡ Some (record { lane = lane; number = n; step = s; end = e })
+told_at lane k [] es i n s e at also is = absurd (cc at)
+told_at lane k (x ∷ ss) [] i n s e at also is = absurd (cc also)
+told_at lane k (x ∷ ss) (y ∷ es) zero n s e at also is =
+    let a : x ≡ s = cc at in
+    let b : y ≡ e = cc also in
+    let d : k ≡ n = omega (arith, is) in
+    cc
+told_at lane k (x ∷ ss) (y ∷ es) (suc i) n s e at also is = told_at lane (k + 1) ss es i n s e at also (omega (arith, is))
+
+pub told_short : {F : Type 0} (lane : List ℕ) (k : ℕ) (ss : List Step) (es : List (End F)) (n : ℕ) → min (length ss) (length es) ≤ n → length (told_from lane k ss es) ≤ n
+told_short lane k [] es n le = omega arith
+told_short lane k (s ∷ ss) [] n le = omega arith
+told_short lane k (s ∷ ss) (e ∷ es) zero le = absurd (omega (arith, le))
+told_short lane k (s ∷ ss) (e ∷ es) (suc n) le = let more = told_short lane (k + 1) ss es n (omega (arith, le)) in omega (arith, more)
+
+-- the lines before those of the steps, and these
+pub text_whole : {F : Type 0} (b : ℕ) (its lanes : List Lane) (ends : List (List (End F))) (empty lines : List ℕ) → lines ≡ empty ++ (before_line b ++ history_line (in_order b (all_flushed its ends))) → empty ≡ [] → its ≡ lanes
+    → lines ++ flat_map step_lines (all_told its ends) ≡ transcript_text b lanes ends
+text_whole b its lanes ends empty lines is none same =
+    let history = history_line (in_order b (all_flushed its ends)) in
+    let steps = flat_map step_lines (all_told its ends) in
+    ap (λ (t : List ℕ). t ++ steps) (is ∙ ap (λ (t : List ℕ). t ++ (before_line b ++ history)) none)
+    ∙ append_assoc (before_line b) history steps
+    ∙ ap (λ (ls : List Lane). transcript_text b ls ends) same

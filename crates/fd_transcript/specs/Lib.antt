@@ -1,0 +1,4 @@
+pub mod Lines
+pub mod History
+pub mod Seen
+pub mod Transcripts

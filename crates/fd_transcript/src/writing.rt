@@ -1,0 +1,44 @@
+// Lines that are held until there are many.
+ghost use Rattle.std.specs.Prelude.{◌≤◌, OnErr, OnOk, string_bytes};
+ghost use Rattle.fd_io.specs.Streams.{Takes, TakesFront};
+ghost use Rattle.fd_listing.specs.Sinks.{HasSinkCause, TakesAllBut};
+
+use fd_io::{Sink, write_all};
+use fd_listing::TextFault;
+
+/// How many bytes of lines are held before they are written.
+const MOST_HELD: usize = 65_536;
+
+/// Writes a text.
+pub(crate) fn write_text<X, K: Sink<X>>(sink: &mut K, text: &str) -> Result<(), TextFault<X>>
+    ensures took { OnOk result (Takes (K.taken sink.old) (K.taken sink.new) text.now) }
+    ensures front { OnErr result (TakesFront (K.taken sink.old) (K.taken sink.new) text.now) }
+    ensures count { K.faults sink.old ≤ K.faults sink.new }
+    ensures cause { HasSinkCause result (K.faults sink.old) (K.faults sink.new) }
+{
+    match write_all(sink, text.as_bytes()) {
+        Ok(()) => Ok(()),
+        Err(fault) => Err(TextFault::Write(fault)),
+    }
+}
+
+/// Writes the lines that are held once there are many, and lets go of them.
+pub(crate) fn write_many<X, K: Sink<X>>(
+    lines: &mut String,
+    sink: &mut K,
+) -> Result<(), TextFault<X>>
+    ensures took { OnOk result (TakesAllBut (K.taken sink.old) (K.taken sink.new) (string_bytes lines.old) (string_bytes lines.new)) }
+    ensures front { OnErr result (TakesFront (K.taken sink.old) (K.taken sink.new) (string_bytes lines.old)) }
+    ensures count { K.faults sink.old ≤ K.faults sink.new }
+    ensures cause { HasSinkCause result (K.faults sink.old) (K.faults sink.new) }
+{
+    if lines.len() < MOST_HELD {
+        return Ok(());
+    }
+    match write_text(sink, lines.as_str()) {
+        Ok(()) => {}
+        Err(fault) => return Err(fault),
+    }
+    lines.clear();
+    Ok(())
+}
