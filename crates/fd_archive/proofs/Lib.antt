@@ -14,7 +14,6 @@ pub mod Told
 pub mod Ready
 pub mod Ending
 pub mod Sweeping
-pub mod Places
 pub mod Seating
 pub mod Tying
 pub mod Sweeps

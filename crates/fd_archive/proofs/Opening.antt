@@ -35,7 +35,7 @@ folder_same s t n e = ap (λ (o : Option Contents). held n (Rattle.std.specs.Pre
 
 module _ {D : Type 0} (has : D → Option Contents) (name : List ℕ) (board : BoardId) (h : OpenDataset D) (opened : IsOpened name board h) where
   abbrev pub first_seat : Seated
-  first_seat = record { board = board; view = first_view name opened.history }
+  first_seat = record { board = board; view = first_view name opened.told opened.history }
 
   -- what the store held at first, the files of the folder hold
   pub opened_told : (start before : Option Holdings) (t : List (List Pair)) → WhereTold start before (λ s b. b.folders name ≡ s.folders name) → IfSome before (λ b. HoldsAs has b h) → base_of start h.name ≡ Some t

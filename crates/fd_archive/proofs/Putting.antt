@@ -85,8 +85,6 @@ module _ {F D H : Type 0} (has : D → Option Contents) (kept : H → Option (Fi
     where
       kept_on : Course has kept Filling base pairs h w → ((b : List Pair) → IsPending w b → IsPending x b) → Course has kept Filling base pairs h x
       kept_on c err = put_course has kept base pairs h w x c rest origin room pairs [] (sym (Rattle.std.proofs.Common.append-nil pairs)) (subst (IsPending x) (sym (Rattle.std.proofs.Common.append-nil c.pending)) (err c.pending c.is_pending))
-  goes_on (Err archives.NoMemory) c unlisted ok err untouched full =
-      put_course has kept base pairs h w x c rest origin room pairs [] (sym (Rattle.std.proofs.Common.append-nil pairs)) (subst (IsPending x) (sym (Rattle.std.proofs.Common.append-nil c.pending)) (err c.pending c.is_pending))
 
   -- an empty batch has room
   pub has_room_first : (r : Result (Unit {0}) (ArchiveFault F)) → Course has kept Emptied base pairs h w
@@ -97,4 +95,3 @@ module _ {F D H : Type 0} (has : D → Option Contents) (kept : H → Option (Fi
       let q = puts_of w [] c.stands.0 (subst (IsPending w) c.stands.3 c.is_pending) in
       absurd (room_at_first w.draft.held p.key (record { keys = keys; left = left }) c.room.0 c.room.1 short q.records (full c.stands.0))
   has_room_first (Err (archives.Disk f)) c unlisted full = tt
-  has_room_first (Err archives.NoMemory) c unlisted full = tt

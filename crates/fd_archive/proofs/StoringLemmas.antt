@@ -1,15 +1,11 @@
 -- A message that is stored.
-use Rattle.std.proofs.Common.{◌≡◌, ◌≤◌, ℕ, Bool, true, false, List, [], ◌++◌, length, Option, Some, None, Result, Ok, Err, refl, sym, ap, ◌∙◌, if◌then◌else◌, arith}
-use Rattle.std.proofs.lemmas.Bool.{ltb-false}
-use Rattle.std.specs.Prelude.{nat_lt}
+use Rattle.std.proofs.Common.{◌≡◌, ℕ, Bool, true, false, List, [], ◌++◌, Option, Some, None, Result, Ok, Err, refl, sym, ap, ◌∙◌, if◌then◌else◌}
 use Rattle.fd_disk.specs.declared.folders.FileName.{FileName}
 use Rattle.fd_disk.specs.Folders.{Contents, Holdings}
 use Rattle.fd_sections.specs.Message.{Sections, message_octets}
 use Rattle.fd_key.specs.declared.fault.KeyFault.{KeyFault}
-use Rattle.fd_key.specs.declared.fault.KeyFault.TheVariants.{KeyTooLong}
-use Rattle.fd_key.specs.Pairs.{Pair, key_text}
-use Rattle.fd_key.specs.Keys.{key_of, message_pairs, with_given, within_limit}
-use Rattle.fd_schema.specs.Grammar.{IsSchema}
+use Rattle.fd_key.specs.Pairs.{Pair}
+use Rattle.fd_key.specs.Keys.{key_of}
 use Rattle.fd_schema.specs.Rules.{Rule, Texts, place_from}
 use Rattle.fd_outcome.specs.Causes.{Cause, NoRule, TooManyDatasets}
 use Rattle.fd_outcome.specs.Archiving.{Stored, stored_at, stored_in, stored_of, keyed, is_too_many}
@@ -20,7 +16,6 @@ use Rattle.fd_archive.specs.declared.storing.Ended.TheVariants as ends
 use Rattle.fd_archive.specs.Answers.{Refuses, TooManyAt}
 use Rattle.fd_archive.specs.Keeping.{EndedAs, IsIn, IsNoRule, MessageStored, OnStored, Stays}
 use Rattle.fd_archive.specs.Keeps.{IsReady, Keeping}
-use Rattle.fd_archive.proofs.Places.{IsShort, short_place}
 use Rattle.fd_archive.proofs.Turning.{keeps_stopped}
 
 pub stored_is : (rules : List Rule) (given : List Pair) (ds : List (List ℕ)) (n : ℕ) (m : Sections) (key : List Pair) (place : Texts)
@@ -49,27 +44,6 @@ keyed_bytes rules ds n m s (Ok key) e = placed_bytes ds m key s (place_from 0 ru
 
 pub stored_bytes : (rules : List Rule) (given : List Pair) (ds : List (List ℕ)) (n : ℕ) (m : Sections) (s : Stored) → stored_of rules given ds n m ≡ Ok s → s.pair.bytes ≡ message_octets m
 stored_bytes rules given ds n m s e = keyed_bytes rules ds n m s (key_of m given) e
-
--- ---- a key and a place are short
-
-limited : (pairs key : List Pair) (b : Bool) → nat_lt 255 (length (key_text pairs)) ≡ b → (if b then Err (KeyTooLong (length (key_text pairs))) else Ok pairs) ≡ Ok key → length (key_text key) ≤ 255
-limited pairs key true t e = absurd cc
-limited pairs key false t e =
-    let same : pairs ≡ key = cc in
-    let le : length (key_text pairs) ≤ 255 = ltb-false _ _ t in
-    omega (arith, le, ap (λ (ps : List Pair). length (key_text ps)) same)
-
-with_short : (own : Result (List Pair) KeyFault) (given key : List Pair) → with_given own given ≡ Ok key → length (key_text key) ≤ 255
-unfolding within_limit
-with_short (Err fault) given key e = absurd cc
-with_short (Ok own) given key e = limited (own ++ given) key (nat_lt 255 (length (key_text (own ++ given)))) refl e
-
-key_short : (m : Sections) (given key : List Pair) → key_of m given ≡ Ok key → length (key_text key) ≤ 255
-unfolding key_of
-key_short m given key e = with_short (message_pairs m) given key e
-
-pub short : (rules : List Rule) (given : List Pair) (m : Sections) (key : List Pair) (place : Texts) → IsSchema rules → key_of m given ≡ Ok key → place_from 0 rules key ≡ Some place → IsShort place
-short rules given m key place schema keyed-is placed = short_place rules key place schema placed (key_short m given key keyed-is)
 
 -- ---- a message that isn't stored
 

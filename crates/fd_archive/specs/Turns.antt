@@ -47,7 +47,6 @@ WentOn has kept (Ok done) base pairs p h w x = Course has kept Filling base (pai
 WentOn has kept (Err archives.Unlisted) base pairs p h w x = ⊥
 WentOn has kept (Err (archives.Full keys left)) base pairs p h w x = (x ≡ w) × IsFilled w
 WentOn has kept (Err (archives.Disk f)) base pairs p h w x = Course has kept Filling base pairs h x
-WentOn has kept (Err archives.NoMemory) base pairs p h w x = Course has kept Filling base pairs h x
 
 -- it isn't the answer of a full batch
 abbrev pub IsNotFull : {F : Type 0} → Result (Unit {0}) (ArchiveFault F) → Type 0
@@ -55,7 +54,6 @@ IsNotFull (Ok done) = Unit {0}
 IsNotFull (Err archives.Unlisted) = ⊥
 IsNotFull (Err (archives.Full keys left)) = ⊥
 IsNotFull (Err (archives.Disk f)) = Unit {0}
-IsNotFull (Err archives.NoMemory) = Unit {0}
 
 -- A field was put into the archiver's batch, or wasn't. An empty batch isn't full.
 pub record Puts {F D H : Type 0} (has : D → Option Contents) (kept : H → Option (FileName → Option (List ℕ))) (answer : Result (Unit {0}) (ArchiveFault F)) (p : Pair) (h : OpenDataset D) (w : Writing H) (x : Writing H) : Type 0 where

@@ -65,9 +65,6 @@ pub(crate) fn store_input<F: Send, X: Drop, S: Store<F>, I: Source<X>, R: Wait>(
     input: &mut I,
 ) -> Result<Counts, Halt<F>>
 where
-    <S::Folder as Folder<F>>::Sealed: Drop,
-    <<S::Folder as Folder<F>>::Shelf as Shelf<F>>::File: Drop,
-    <<S::Folder as Folder<F>>::Shelf as Shelf<F>>::Sealed: Drop,
     requires schema { IsSchema schema.now }
     requires out { OutAre keeper.old.library.each (S.out store.old) }
     requires begun { IsReady S.Folder.has S.Folder.Shelf.kept (S.has store.old) (S.has store.old) [] keeper.old }
@@ -136,9 +133,6 @@ pub(crate) fn list_pending<F: Send + Drop, S: Store<F>, R: Wait>(
     stored: Result<Counts, Halt<F>>,
 ) -> Result<Counts, Halt<F>>
 where
-    <S::Folder as Folder<F>>::Sealed: Drop,
-    <<S::Folder as Folder<F>>::Shelf as Shelf<F>>::File: Drop,
-    <<S::Folder as Folder<F>>::Shelf as Shelf<F>>::Sealed: Drop,
     requires stored { WasStored S.Folder.has S.Folder.Shelf.kept keeper.old stored }
     ensures names { names_of keeper.new.library.each ≡ names_of keeper.old.library.each }
     ensures lists { (rules : List Rule) (given : List Pair) (left after : Option (List ℕ)) (start now : Option Holdings) → InputStored S.Folder.has S.Folder.Shelf.kept rules given left after start now keeper.old stored

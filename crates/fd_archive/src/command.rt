@@ -32,9 +32,6 @@ pub fn archive<F: Send + Drop, X: Drop, S: Store<F>, I: Source<X>, E: Sink<X>, R
     report: &mut E,
 ) -> Status
 where
-    <S::Folder as Folder<F>>::Sealed: Drop,
-    <<S::Folder as Folder<F>>::Shelf as Shelf<F>>::File: Drop,
-    <<S::Folder as Folder<F>>::Shelf as Shelf<F>>::Sealed: Drop,
     requires home { (name : List ℕ) → S.out store.old name ≡ false }
     ensures ran { (a : Option (List ℕ)) (k : ℕ) → Ran (Archive root.now given.now) result (object (S.has store.old) (S.has store.new) (S.faults store.old) (S.faults store.new)) (object (I.left input.old) (I.left input.new) (I.faults input.old) (I.faults input.new)) (object a a k k) (object (E.taken report.old) (E.taken report.new) (E.faults report.old) (E.faults report.new)) }
     ensures home { (name : List ℕ) → S.out store.new name ≡ false }
@@ -62,9 +59,6 @@ fn archive_by<F: Send + Drop, X: Drop, S: Store<F>, I: Source<X>, E: Sink<X>, R:
     report: &mut E,
 ) -> Status
 where
-    <S::Folder as Folder<F>>::Sealed: Drop,
-    <<S::Folder as Folder<F>>::Shelf as Shelf<F>>::File: Drop,
-    <<S::Folder as Folder<F>>::Shelf as Shelf<F>>::Sealed: Drop,
     requires home { (name : List ℕ) → S.out store.old name ≡ false }
     requires schema { IsSchema schema.now }
     ensures ran { (root : List ℕ) (faults : ℕ) (a : Option (List ℕ)) (k : ℕ) → faults ≤ S.faults store.old → IfSome (S.has store.old) (λ h. rules_of h.schema ≡ Ok schema.now)

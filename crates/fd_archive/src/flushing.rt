@@ -19,9 +19,6 @@ pub(crate) fn flush_writer<F: Send, S: Store<F>, R: Wait>(
     writer: &mut Archiver<F, <S::Folder as Folder<F>>::Shelf>,
 ) -> Result<(), FlushFault<F>>
 where
-    <S::Folder as Folder<F>>::Sealed: Drop,
-    <<S::Folder as Folder<F>>::Shelf as Shelf<F>>::File: Drop,
-    <<S::Folder as Folder<F>>::Shelf as Shelf<F>>::Sealed: Drop,
     requires at { (h : OpenDataset S.Folder) × (slice_get library.old.each number ≡ Some h) × IsSome h.pass × (writer.old.dataset ≡ h.name) × MayFlush h writer.old }
     requires board { number < length library.old.boards }
     ensures { Changes number library.old library.new (λ h g. Flushes S.Folder.has S.Folder.Shelf.kept result h writer.old g writer.new) }

@@ -31,22 +31,12 @@ const ROOM: Room = Room {
 
 /// The datasets of a run in which fields are stored: the library, and an archiver for each dataset, by the numbers of the
 /// datasets. The last datasets may have none yet.
-pub struct Keeper<F: Send, S: Store<F>>
-where
-    <S::Folder as Folder<F>>::Sealed: Drop,
-    <<S::Folder as Folder<F>>::Shelf as Shelf<F>>::File: Drop,
-    <<S::Folder as Folder<F>>::Shelf as Shelf<F>>::Sealed: Drop,
-{
+pub struct Keeper<F: Send, S: Store<F>> {
     pub(crate) library: Library<F, S>,
     pub(crate) writers: Vec<Archiver<F, <S::Folder as Folder<F>>::Shelf>>,
 }
 
-impl<F: Send, S: Store<F>> Model for Keeper<F, S>
-where
-    <S::Folder as Folder<F>>::Sealed: Drop,
-    <<S::Folder as Folder<F>>::Shelf as Shelf<F>>::File: Drop,
-    <<S::Folder as Folder<F>>::Shelf as Shelf<F>>::Sealed: Drop,
-{
+impl<F: Send, S: Store<F>> Model for Keeper<F, S> {
     ghost use Rattle.fd_archive.specs.Keeps.{IsHeldTogether, Keeping};
 
     ghost Value = { Keeping S.Folder S.Folder.Shelf };
@@ -56,12 +46,7 @@ where
     ghost invariant = { λ k. IsHeldTogether (record { library = k.library; writers = k.writers.items }) };
 }
 
-impl<F: Send, S: Store<F>> Keeper<F, S>
-where
-    <S::Folder as Folder<F>>::Sealed: Drop,
-    <<S::Folder as Folder<F>>::Shelf as Shelf<F>>::File: Drop,
-    <<S::Folder as Folder<F>>::Shelf as Shelf<F>>::Sealed: Drop,
-{
+impl<F: Send, S: Store<F>> Keeper<F, S> {
     /// No dataset is open.
     pub fn new(alloc: Global) -> Result<Keeper<F, S>, NoMemory>
         ensures { IfOk result (λ k. (k.library.each ≡ []) × (k.writers ≡ [])) }
@@ -101,7 +86,6 @@ where
     /// Puts a field into the batch of the dataset with this number.
     pub(crate) fn put(
         &mut self,
-        alloc: Global,
         number: u32,
         place: &Place,
         octets: &[u8],
@@ -111,7 +95,7 @@ where
         requires bytes { length octets.now ≤ 134217728 }
         ensures { Turns number self.old self.new (λ h w g x. (g ≡ h) × Puts S.Folder.has S.Folder.Shelf.kept result (record { key = file_key (seen_place place.now); bytes = octets.now }) h w x) }
     {
-        self.writers[number as usize].archive(alloc, place, octets)
+        self.writers[number as usize].archive(place, octets)
     }
 
     /// The number of the dataset with this text, which is opened and gets an archiver by the first call; where it has no
@@ -176,10 +160,9 @@ where
             Ok(()) => {}
             Err(fault) => return Err(unflushed(fault)),
         }
-        match self.put(alloc, number, place, octets) {
+        match self.put(number, place, octets) {
             Ok(()) => Ok(()),
             Err(ArchiveFault::Disk(fault)) => Err(KeepFault::Disk(fault)),
-            Err(ArchiveFault::NoMemory) => Err(KeepFault::NoMemory),
             Err(ArchiveFault::Unlisted) => unreachable!(),
             Err(ArchiveFault::Full { keys: _, left: _ }) => unreachable!(),
         }
@@ -214,10 +197,9 @@ where
         ensures later { S.faults store.old ≤ S.faults store.new }
     {
         let number = self.opened(alloc, store, place.dataset.as_str())?;
-        match self.put(alloc, number, place, octets) {
+        match self.put(number, place, octets) {
             Ok(()) => Ok(()),
             Err(ArchiveFault::Disk(fault)) => Err(KeepFault::Disk(fault)),
-            Err(ArchiveFault::NoMemory) => Err(KeepFault::NoMemory),
             Err(ArchiveFault::Unlisted) => unreachable!(),
             Err(ArchiveFault::Full { keys: _, left: _ }) => {
                 self.put_flushed(rt, alloc, number, place, octets)

@@ -58,9 +58,6 @@ pub(crate) fn store_message<F: Send, S: Store<F>, R: Wait>(
     store: &mut S,
 ) -> Result<(), Ended<F>>
 where
-    <S::Folder as Folder<F>>::Sealed: Drop,
-    <<S::Folder as Folder<F>>::Shelf as Shelf<F>>::File: Drop,
-    <<S::Folder as Folder<F>>::Shelf as Shelf<F>>::Sealed: Drop,
     requires schema { IsSchema schema.now }
     requires whole { IsWhole message.now }
     requires bytes { length (message_octets (sections_of message.now)) ≤ 134217728 }
@@ -100,9 +97,6 @@ pub(crate) fn store_next<F: Send, S: Store<F>, R: Wait>(
     store: &mut S,
 ) -> Result<bool, Ended<F>>
 where
-    <S::Folder as Folder<F>>::Sealed: Drop,
-    <<S::Folder as Folder<F>>::Shelf as Shelf<F>>::File: Drop,
-    <<S::Folder as Folder<F>>::Shelf as Shelf<F>>::Sealed: Drop,
     requires schema { IsSchema schema.now }
     requires out { OutAre keeper.old.library.each (S.out store.old) }
     requires fed { splitter.old.fed ≤ 68719476736 }
@@ -139,9 +133,6 @@ pub(crate) fn store_messages<F: Send, S: Store<F>, R: Wait>(
     store: &mut S,
 ) -> Result<(), Ended<F>>
 where
-    <S::Folder as Folder<F>>::Sealed: Drop,
-    <<S::Folder as Folder<F>>::Shelf as Shelf<F>>::File: Drop,
-    <<S::Folder as Folder<F>>::Shelf as Shelf<F>>::Sealed: Drop,
     requires schema { IsSchema schema.now }
     requires out { OutAre keeper.old.library.each (S.out store.old) }
     requires fed { splitter.old.fed ≤ 68719476736 }

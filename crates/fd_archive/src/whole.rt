@@ -28,9 +28,6 @@ pub(crate) fn store_all<F: Send + Drop, X: Drop, S: Store<F>, I: Source<X>, R: W
     input: &mut I,
 ) -> (Result<Counts, Halt<F>>, u32)
 where
-    <S::Folder as Folder<F>>::Sealed: Drop,
-    <<S::Folder as Folder<F>>::Shelf as Shelf<F>>::File: Drop,
-    <<S::Folder as Folder<F>>::Shelf as Shelf<F>>::Sealed: Drop,
     requires schema { IsSchema schema.now }
     requires out { OutAre keeper.library.each (S.out store.old) }
     requires begun { IsReady S.Folder.has S.Folder.Shelf.kept (S.has store.old) (S.has store.old) [] keeper }

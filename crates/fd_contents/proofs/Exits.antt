@@ -44,6 +44,7 @@ pub uses : (command : Command) → IsListing command → UsesStore command
 uses (commands.Pick wanted) is = absurd is
 uses commands.Describe is = absurd is
 uses (commands.Values decimals) is = absurd is
+uses (commands.Generate count) is = absurd is
 uses (commands.Create root) is = absurd is
 uses (commands.Archive root given) is = absurd is
 uses (commands.Retrieve root) is = absurd is
@@ -55,6 +56,7 @@ opens : (command : Command) → IsListing command → (h : Holdings) (names : Li
 opens (commands.Pick wanted) is h names octets name c = absurd is
 opens commands.Describe is h names octets name c = absurd is
 opens (commands.Values decimals) is h names octets name c = absurd is
+opens (commands.Generate count) is h names octets name c = absurd is
 opens (commands.Create root) is h names octets name c = absurd is
 opens (commands.Archive root given) is h names octets name c = absurd is
 opens (commands.Retrieve root) is h names octets name c = absurd is
@@ -66,6 +68,7 @@ early_is : (command : Command) → IsListing command → (h : Holdings) (names :
 early_is (commands.Pick wanted) is h names octets = absurd is
 early_is commands.Describe is h names octets = absurd is
 early_is (commands.Values decimals) is h names octets = absurd is
+early_is (commands.Generate count) is h names octets = absurd is
 early_is (commands.Create root) is h names octets = absurd is
 early_is (commands.Archive root given) is h names octets = absurd is
 early_is (commands.Retrieve root) is h names octets = absurd is
@@ -77,6 +80,7 @@ leaves_by : (command : Command) → IsListing command → (s : Status) (calm ful
 leaves_by (commands.Pick wanted) is s calm full input left before now stays = absurd is
 leaves_by commands.Describe is s calm full input left before now stays = absurd is
 leaves_by (commands.Values decimals) is s calm full input left before now stays = absurd is
+leaves_by (commands.Generate count) is s calm full input left before now stays = absurd is
 leaves_by (commands.Create root) is s calm full input left before now stays = absurd is
 leaves_by (commands.Archive root given) is s calm full input left before now stays = absurd is
 leaves_by (commands.Retrieve root) is s calm full input left before now stays = absurd is
@@ -89,6 +93,7 @@ pub seen_at : (command : Command) (input : Option (List ℕ)) (store : Option Ho
 seen_at (commands.Pick wanted) input store P w octets h d e = w octets h d e
 seen_at commands.Describe input store P w octets h d e = w octets h d e
 seen_at (commands.Values decimals) input store P w octets h d e = w octets h d e
+seen_at (commands.Generate count) input store P w octets h d e = subst (λ o. P o h) (sym d) (w h e)
 seen_at (commands.Create root) input store P w octets h d e = w octets h d e
 seen_at (commands.Archive root given) input store P w octets h d e = w octets h d e
 seen_at (commands.Retrieve root) input store P w octets h d e = w octets h d e

@@ -10,7 +10,7 @@ use Rattle.fd_dataset.specs.Listed.{listing}
 use Rattle.fd_io.specs.Streams.{Takes, TakesFront}
 use Rattle.fd_recovery.specs.Damages.{index_file}
 use Rattle.fd_recovery.specs.Recovered.{all_of, files_of, held}
-use Rattle.fd_segment.specs.Causes.{IsBadIndex, IsBeyond}
+use Rattle.fd_segment.specs.Causes.{IsBadIndex, IsFindDamage}
 use Rattle.fd_segment.specs.Held.{Files, Standing}
 use Rattle.fd_segment.specs.declared.fault.Damage.{Damage}
 use Rattle.fd_inventory.specs.Indexes.{IsAmongBad, Tells}

@@ -60,6 +60,7 @@ abbrev pub IsListing : Command → Type 0
 IsListing (commands.Pick wanted) = ⊥
 IsListing commands.Describe = ⊥
 IsListing (commands.Values decimals) = ⊥
+IsListing (commands.Generate count) = ⊥
 IsListing (commands.Create root) = ⊥
 IsListing (commands.Archive root given) = ⊥
 IsListing (commands.Retrieve root) = ⊥
@@ -69,6 +70,7 @@ IsListing (commands.Stats root) = Unit {0}
 
 -- of what the input and the store tell, as far as the command asks them
 abbrev pub WhereSeen : Command → Option (List ℕ) → Option Holdings → (List ℕ → Holdings → Type 0) → Type 0
+WhereSeen (commands.Generate count) input store P = (h : Holdings) → store ≡ Some h → P [] h
 WhereSeen (commands.Stats root) input store P = (h : Holdings) → store ≡ Some h → P [] h
 WhereSeen (commands.Pick wanted) input store P = (octets : List ℕ) (h : Holdings) → input ≡ Some octets → store ≡ Some h → P octets h
 WhereSeen commands.Describe input store P = (octets : List ℕ) (h : Holdings) → input ≡ Some octets → store ≡ Some h → P octets h

@@ -32,8 +32,6 @@ pub fn list<F: Send + Drop, X: Drop, S: Store<F>, I: Source<X>, K: Sink<X>, E: S
     report: &mut E,
 ) -> Status
 where
-    <S::Folder as Folder<F>>::Sealed: Drop,
-    <<S::Folder as Folder<F>>::Sealed as Sealed<F>>::Reader: Drop,
     requires home { (name : List ℕ) → S.out store.old name ≡ false }
     ensures ran { Ran (commands.List root.now) result (object (S.has store.old) (S.has store.new) (S.faults store.old) (S.faults store.new)) (object (I.left input.old) (I.left input.new) (I.faults input.old) (I.faults input.new)) (object (K.taken output.old) (K.taken output.new) (K.faults output.old) (K.faults output.new)) (object (E.taken report.old) (E.taken report.new) (E.faults report.old) (E.faults report.new)) }
     ensures home { (name : List ℕ) → S.out store.new name ≡ false }
@@ -57,8 +55,6 @@ pub fn axes<F: Send + Drop, X: Drop, S: Store<F>, I: Source<X>, K: Sink<X>, E: S
     report: &mut E,
 ) -> Status
 where
-    <S::Folder as Folder<F>>::Sealed: Drop,
-    <<S::Folder as Folder<F>>::Sealed as Sealed<F>>::Reader: Drop,
     requires home { (name : List ℕ) → S.out store.old name ≡ false }
     ensures ran { Ran (commands.Axes root.now) result (object (S.has store.old) (S.has store.new) (S.faults store.old) (S.faults store.new)) (object (I.left input.old) (I.left input.new) (I.faults input.old) (I.faults input.new)) (object (K.taken output.old) (K.taken output.new) (K.faults output.old) (K.faults output.new)) (object (E.taken report.old) (E.taken report.new) (E.faults report.old) (E.faults report.new)) }
     ensures home { (name : List ℕ) → S.out store.new name ≡ false }
@@ -80,8 +76,6 @@ pub fn stats<F: Send + Drop, X: Drop, S: Store<F>, K: Sink<X>, E: Sink<X>, R: Wa
     report: &mut E,
 ) -> Status
 where
-    <S::Folder as Folder<F>>::Sealed: Drop,
-    <<S::Folder as Folder<F>>::Sealed as Sealed<F>>::Reader: Drop,
     requires home { (name : List ℕ) → S.out store.old name ≡ false }
     ensures ran { (a : Option (List ℕ)) (k : ℕ) → Ran (commands.Stats root.now) result (object (S.has store.old) (S.has store.new) (S.faults store.old) (S.faults store.new)) (object a a k k) (object (K.taken output.old) (K.taken output.new) (K.faults output.old) (K.faults output.new)) (object (E.taken report.old) (E.taken report.new) (E.faults report.old) (E.faults report.new)) }
     ensures home { (name : List ℕ) → S.out store.new name ≡ false }
@@ -102,8 +96,6 @@ fn printed<F: Send + Drop, X: Drop, S: Store<F>, K: Sink<X>, E: Sink<X>, R: Wait
     report: &mut E,
 ) -> Status
 where
-    <S::Folder as Folder<F>>::Sealed: Drop,
-    <<S::Folder as Folder<F>>::Sealed as Sealed<F>>::Reader: Drop,
     requires home { (name : List ℕ) → S.out store.old name ≡ false }
     ensures ran { (command : Command) (before : Option Holdings) (faults : ℕ) (input : Object (List ℕ)) → Begins command lines.now before (S.has store.old) faults (S.faults store.old) input
         → Ran command result (object before (S.has store.new) faults (S.faults store.new)) input (object (K.taken output.old) (K.taken output.new) (K.faults output.old) (K.faults output.new)) (object (E.taken report.old) (E.taken report.new) (E.faults report.old) (E.faults report.new)) }

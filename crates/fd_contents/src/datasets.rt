@@ -38,7 +38,6 @@ fn opened_at<F: Send + Drop, S: Store<F>, R: Wait>(
     name: &str,
 ) -> Result<Option<Opened<F, <S::Folder as Folder<F>>::Sealed>>, Stop<F>>
 where
-    <S::Folder as Folder<F>>::Sealed: Drop,
     requires home { (n : List ℕ) → S.out store.old n ≡ false }
     ensures opened { IfOk result (λ o. IfSome o (λ r. (r.name ≡ name.now) × IfSome (S.has store.old) (λ h. IsOpenIn h r))) }
     ensures short { IfOk result (λ o. IfSome o (λ r. length r.name ≤ 255)) }
@@ -65,9 +64,8 @@ where
 
 /// What is damaged in a dataset whose lines met a damage. Where none is met any more, nothing can be said of the files, as
 /// where memory is refused.
-fn damaged<F: Send, Z: Sealed<F> + Drop>(alloc: Global, dataset: &Opened<F, Z>) -> Stop<F>
+fn damaged<F: Send, Z: Sealed<F>>(alloc: Global, dataset: &Opened<F, Z>) -> Stop<F>
 where
-    Z::Reader: Drop,
     ensures broken { (h : Holdings) → IsOpenIn h dataset.now → IsBrokenOf result h (dataset.now.name ∷ []) }
     ensures of { OfDataset result }
 {
@@ -86,13 +84,12 @@ where
 }
 
 /// What ended the lines of a dataset.
-fn halted<F: Send + Drop, Z: Sealed<F> + Drop, X>(
+fn halted<F: Send + Drop, Z: Sealed<F>, X>(
     alloc: Global,
     dataset: &Opened<F, Z>,
     fault: LinesFault<F, X>,
 ) -> Halt<F, X>
 where
-    Z::Reader: Drop,
     ensures broken { OnStop result (λ stop. (h : Holdings) → IsOpenIn h dataset.now → IsBrokenOf stop h (dataset.now.name ∷ [])) }
     ensures of { OnStop result OfDataset }
     ensures write { OnUnwritten result (IsWrite fault) }
@@ -115,8 +112,6 @@ fn print_one<F: Send + Drop, X: Drop, S: Store<F>, K: Sink<X>, R: Wait>(
     output: &mut K,
 ) -> Result<(), Halt<F, X>>
 where
-    <S::Folder as Folder<F>>::Sealed: Drop,
-    <<S::Folder as Folder<F>>::Sealed as Sealed<F>>::Reader: Drop,
     requires home { (n : List ℕ) → S.out store.old n ≡ false }
     ensures took { OnOk result (IfSome (S.has store.old) (λ h. (text : List ℕ) → text_for lines.now h name.now ≡ Some text → Takes (K.taken output.old) (K.taken output.new) text)) }
     ensures front { OnErr result (IfSome (S.has store.old) (λ h. (text : List ℕ) → text_for lines.now h name.now ≡ Some text → TakesFront (K.taken output.old) (K.taken output.new) text)) }
@@ -149,8 +144,6 @@ fn print_each<F: Send + Drop, X: Drop, S: Store<F>, K: Sink<X>, R: Wait>(
     output: &mut K,
 ) -> Result<(), Halt<F, X>>
 where
-    <S::Folder as Folder<F>>::Sealed: Drop,
-    <<S::Folder as Folder<F>>::Sealed as Sealed<F>>::Reader: Drop,
     requires home { (n : List ℕ) → S.out store.old n ≡ false }
     ensures took { OnOk result (IfSome (S.has store.old) (λ h. (text : List ℕ) → texts_for lines.now h (texts names.now) ≡ Some text → Takes (K.taken output.old) (K.taken output.new) text)) }
     ensures front { OnErr result (IfSome (S.has store.old) (λ h. (text : List ℕ) → texts_for lines.now h (texts names.now) ≡ Some text → TakesFront (K.taken output.old) (K.taken output.new) text)) }
@@ -180,8 +173,6 @@ pub(crate) fn print<F: Send + Drop, X: Drop, S: Store<F>, K: Sink<X>, R: Wait>(
     output: &mut K,
 ) -> Result<(), Halt<F, X>>
 where
-    <S::Folder as Folder<F>>::Sealed: Drop,
-    <<S::Folder as Folder<F>>::Sealed as Sealed<F>>::Reader: Drop,
     requires home { (n : List ℕ) → S.out store.old n ≡ false }
     ensures took { OnOk result (IfSome (S.has store.old) (λ h. (names : List (List ℕ)) (text : List ℕ) → AreNames h names → texts_for lines.now h names ≡ Some text → Takes (K.taken output.old) (K.taken output.new) text)) }
     ensures front { OnErr result (IfSome (S.has store.old) (λ h. (names : List (List ℕ)) (text : List ℕ) → AreNames h names → texts_for lines.now h names ≡ Some text → TakesFront (K.taken output.old) (K.taken output.new) text)) }

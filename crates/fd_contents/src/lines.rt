@@ -31,14 +31,13 @@ pub(crate) enum Lines {
 }
 
 /// Writes the lines of a dataset.
-pub(crate) fn write_lines<F: Send, Z: Sealed<F> + Drop, X, K: Sink<X>>(
+pub(crate) fn write_lines<F: Send, Z: Sealed<F>, X, K: Sink<X>>(
     alloc: Global,
     lines: &Lines,
     dataset: &Opened<F, Z>,
     sink: &mut K,
 ) -> Result<(), LinesFault<F, X>>
 where
-    Z::Reader: Drop,
     requires short { length dataset.now.name ≤ 255 }
     requires same { map listing dataset.now.shown ≡ map listing dataset.now.segments }
     ensures took { OnOk result ((h : Holdings) (text : List ℕ) → IsOpenIn h dataset.now → text_for lines.now h dataset.now.name ≡ Some text → Takes (K.taken sink.old) (K.taken sink.new) text) }
@@ -54,12 +53,11 @@ where
 }
 
 /// The damage that a look at the indexes of segments meets.
-pub(crate) fn damage_of<F: Send, Z: Sealed<F> + Drop>(
+pub(crate) fn damage_of<F: Send, Z: Sealed<F>>(
     alloc: Global,
     segments: &[Arc<Segment<F, Z>>],
 ) -> Result<Option<Damage>, Down<F>>
 where
-    Z::Reader: Drop,
     ensures { IfOk result (λ o. IfSome o (IsAmongBad (standings segments.now))) }
 {
     for i in 0..segments.len() {
@@ -73,12 +71,11 @@ where
 }
 
 /// The damage of a segment's index.
-fn damage_in<F: Send, Z: Sealed<F> + Drop>(
+fn damage_in<F: Send, Z: Sealed<F>>(
     alloc: Global,
     segment: &Segment<F, Z>,
 ) -> Result<Option<Damage>, Down<F>>
 where
-    Z::Reader: Drop,
     ensures { IfOk result (λ o. IfSome o (IsBadIndex segment.now.files.entry segment.now.files.index)) }
 {
     let mut lens = match segment.lens(alloc) {

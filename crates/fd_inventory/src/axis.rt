@@ -223,7 +223,7 @@ fn write_axes<X, K: Sink<X>>(
 /// `Write` comes only where the sink's count of faults rose, `Disk` only with the fault of a file's call in this call,
 /// `Damaged` only with an index among the snapshot's that isn't in its format. After a refusal a front of the lines was
 /// taken.
-pub fn axes<F: Send, Z: Sealed<F> + Drop, X, K: Sink<X>>(
+pub fn axes<F: Send, Z: Sealed<F>, X, K: Sink<X>>(
     alloc: Global,
     dataset: &str,
     snapshot: &Snapshot<F, Z>,
@@ -231,7 +231,6 @@ pub fn axes<F: Send, Z: Sealed<F> + Drop, X, K: Sink<X>>(
     sink: &mut K,
 ) -> Result<(), LinesFault<F, X>>
 where
-    Z::Reader: Drop,
     requires short { length dataset.now ≤ 255 }
     ensures took { OnOk result ((t : List (List Pair)) → Tells (map listing snapshot.now) t → Takes (K.taken sink.old) (K.taken sink.new) (axes_text partial.now dataset.now t)) }
     ensures front { OnErr result ((t : List (List Pair)) → Tells (map listing snapshot.now) t → TakesFront (K.taken sink.old) (K.taken sink.new) (axes_text partial.now dataset.now t)) }

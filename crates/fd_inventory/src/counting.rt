@@ -40,12 +40,11 @@ fn add_keys(alloc: Global, index: &Index, keys: &mut Keys) -> Result<(), NoMemor
 }
 
 /// The distinct keys of a snapshot's segments.
-fn keys_of<F: Send, Z: Sealed<F> + Drop>(
+fn keys_of<F: Send, Z: Sealed<F>>(
     alloc: Global,
     snapshot: &Snapshot<F, Z>,
 ) -> Result<Keys, LensFault<F>>
 where
-    Z::Reader: Drop,
     ensures keys { IfOk result (λ m. (t : List (List Pair)) → Tells (map listing snapshot.now) t → AreKeys m.entries (keys_in t)) }
     ensures damaged { IfErr result (λ e. OnDamaged e (IsAmongBad snapshot.now)) }
 {
@@ -81,7 +80,7 @@ fn plus_length(sum: u128, length: u64) -> u128
 }
 
 /// The sums of the fields and of the lengths of a snapshot's entries.
-fn sums<F: Send, Z: Sealed<F> + Drop>(snapshot: &Snapshot<F, Z>) -> (u64, u128)
+fn sums<F: Send, Z: Sealed<F>>(snapshot: &Snapshot<F, Z>) -> (u64, u128)
     ensures fields { result.0 ≡ sum_fields (map (λ s. s.files.entry) snapshot.now) }
     ensures bytes { result.1 ≡ sum_bytes (map (λ s. s.files.entry) snapshot.now) }
 {
@@ -131,14 +130,13 @@ fn line_of(
 /// `Write` comes only where the sink's count of faults rose, `Disk` only with the fault of a file's call in this call,
 /// `Damaged` only with an index among the snapshot's that isn't in its format. After a refusal a front of the line was
 /// taken.
-pub fn stats<F: Send, Z: Sealed<F> + Drop, X, K: Sink<X>>(
+pub fn stats<F: Send, Z: Sealed<F>, X, K: Sink<X>>(
     alloc: Global,
     dataset: &str,
     snapshot: &Snapshot<F, Z>,
     sink: &mut K,
 ) -> Result<(), LinesFault<F, X>>
 where
-    Z::Reader: Drop,
     ensures took { OnOk result ((t : List (List Pair)) → Tells (map listing snapshot.now) t → Takes (K.taken sink.old) (K.taken sink.new) (stats_text dataset.now (map (λ s. s.files.entry) snapshot.now) t)) }
     ensures front { OnErr result ((t : List (List Pair)) → Tells (map listing snapshot.now) t → TakesFront (K.taken sink.old) (K.taken sink.new) (stats_text dataset.now (map (λ s. s.files.entry) snapshot.now) t)) }
     ensures damaged { IfErr result (λ e. OnLines e (IsAmongBad snapshot.now)) }

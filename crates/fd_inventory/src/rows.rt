@@ -97,7 +97,6 @@ pub(crate) fn records_of<F: Send, Z: Sealed<F>>(
     segment: &Segment<F, Z>,
 ) -> Result<Index, LensFault<F>>
 where
-    Z::Reader: Drop,
     ensures records { IfOk result (IsIndexOf segment.now.files.entry segment.now.files.index) }
     ensures damaged { IfErr result (λ e. OnDamaged e (IsBadIndex segment.now.files.entry segment.now.files.index)) }
 {
@@ -106,14 +105,13 @@ where
 }
 
 /// The rows of a dataset, where its snapshot tells its table.
-pub(crate) fn rows_of<F: Send, Z: Sealed<F> + Drop>(
+pub(crate) fn rows_of<F: Send, Z: Sealed<F>>(
     alloc: Global,
     dataset: &str,
     snapshot: &Snapshot<F, Z>,
     partial: &Partial,
 ) -> Result<Rows, LensFault<F>>
 where
-    Z::Reader: Drop,
     requires { length dataset.now ≤ 255 }
     ensures rows { IfOk result (λ m. (t : List (List Pair)) → Tells (map listing snapshot.now) t → AreRows m.entries (rows dataset.now partial.now t)) }
     ensures damaged { IfErr result (λ e. OnDamaged e (IsAmongBad snapshot.now)) }

@@ -22,6 +22,7 @@ abbrev pub Seen : Command → Option (List ℕ) → List ℕ → Type 0
 Seen (commands.Pick wanted) input octets = input ≡ Some octets
 Seen commands.Describe input octets = input ≡ Some octets
 Seen (commands.Values decimals) input octets = input ≡ Some octets
+Seen (commands.Generate count) input octets = octets ≡ []
 Seen (commands.Create root) input octets = input ≡ Some octets
 Seen (commands.Archive root given) input octets = input ≡ Some octets
 Seen (commands.Retrieve root) input octets = input ≡ Some octets
@@ -44,6 +45,7 @@ module _ (P : List ℕ → Holdings → Holdings → Type 0) (input : Option (Li
   where_seen (commands.Pick wanted) uses all = absurd uses
   where_seen commands.Describe uses all = absurd uses
   where_seen (commands.Values decimals) uses all = absurd uses
+  where_seen (commands.Generate count) uses all = absurd uses
   where_seen (commands.Create root) uses all = of_input input refl all
   where_seen (commands.Archive root given) uses all = of_input input refl all
   where_seen (commands.Retrieve root) uses all = of_input input refl all

@@ -24,6 +24,7 @@ module _ (P Q : List ℕ → Holdings → Holdings → Type 0) (to : (octets : L
   where_asked (commands.Pick wanted) input store after p = of_input input p
   where_asked commands.Describe input store after p = of_input input p
   where_asked (commands.Values decimals) input store after p = of_input input p
+  where_asked (commands.Generate count) input store after p = to [] nothing_held nothing_held p
   where_asked (commands.Create root) input store after p = of_both input store after p
   where_asked (commands.Archive root given) input store after p = of_both input store after p
   where_asked (commands.Retrieve root) input store after p = of_both input store after p
@@ -50,6 +51,7 @@ module _ (P : List ℕ → Holdings → Holdings → Type 0) (all : (octets : Li
   asked_all (commands.Pick wanted) input store after = all_input input
   asked_all commands.Describe input store after = all_input input
   asked_all (commands.Values decimals) input store after = all_input input
+  asked_all (commands.Generate count) input store after = all [] nothing_held nothing_held
   asked_all (commands.Create root) input store after = all_both input store after
   asked_all (commands.Archive root given) input store after = all_both input store after
   asked_all (commands.Retrieve root) input store after = all_both input store after

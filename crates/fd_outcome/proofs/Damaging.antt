@@ -1,5 +1,5 @@
 -- A dataset in which something is broken holds nothing that is told.
-use Rattle.std.proofs.Common.{◌≡◌, ◌∙◌, ◌<◌, ◌+◌, ℕ, zero, suc, Bool, true, false, List, [], ◌∷◌, ◌++◌, length, map, Option, Some, None, refl, sym, ap, inl, inr, arith, cond}
+use Rattle.std.proofs.Common.{◌≡◌, ◌∙◌, ◌<◌, ◌≤◌, ◌+◌, ℕ, zero, suc, Bool, true, false, List, [], ◌∷◌, ◌++◌, length, map, Option, Some, None, refl, sym, ap, inl, inr, arith, cond}
 use Rattle.std.specs.Prelude.{◌⊎◌, Contains, Result, Ok, Err, nat_lt, nat_le, ◌&&◌, take}
 use Rattle.std.proofs.lemmas.List.Elements.{Contains-append_cases}
 use Rattle.std.proofs.lemmas.Bool.Decides.{nat_tests}
@@ -9,10 +9,12 @@ use Rattle.fd_disk.specs.Folders.{Contents}
 use Rattle.fd_core.specs.declared.batch.Pair.{Pair}
 use Rattle.fd_core.specs.declared.table.Entry.{Entry}
 use Rattle.fd_index.specs.Records.{Record, place_of}
+use Rattle.fd_pages.specs.Parts.{IsBadPage}
+use Rattle.fd_pages.proofs.Halving.{no_index}
 use Rattle.fd_segment.specs.Held.{batch_of, batch_told, batch_in, pairs_within, records_in, end_by}
 use Rattle.fd_segment.specs.declared.fault.Damage.{Damage}
 use Rattle.fd_segment.specs.declared.fault.Damage.TheVariants.{Absent, Length, Index, Beyond}
-use Rattle.fd_segment.specs.Causes.{IsBadIndex, IsBeyond}
+use Rattle.fd_segment.specs.Causes.{IsBadIndex, IsFindDamage}
 use Rattle.fd_recovery.specs.Damages.{damages, damages_at, damages_of, field_file, index_file}
 use Rattle.fd_recovery.specs.Recovered.{held, all_of, files_of}
 use Rattle.fd_outcome.specs.Causes.{Broken, BadTable, BadFile}
@@ -93,13 +95,26 @@ module _ (e : Entry) where
   within_none fields (Err x) key at len place lt = refl
   within_none fields (Ok rs) key at len place lt = let no : end_by e.fields_len rs ≡ false = end_false e.fields_len at len key rs (sym (place rs refl)) lt in rw no refl
 
-  beyond_told : (i f : Option (List ℕ)) (key : List ℕ) (d : Damage) → IsBeyond e i key d → batch_told e i f ≡ None
-  beyond_told None f key d h = refl
-  beyond_told (Some i) None key d h = refl
-  beyond_told (Some i) (Some f) key (Absent file) h = absurd h
-  beyond_told (Some i) (Some f) key (Length file want got) h = absurd h
-  beyond_told (Some i) (Some f) key (Index file at) h = absurd h
-  beyond_told (Some i) (Some f) key (Beyond file end len) h =
+  never_read : (fields : List ℕ) (r : Result (List Record) ℕ) → ((rs : List Record) → r ≡ Ok rs → ⊥) → pairs_within e.fields_len fields r ≡ None
+  never_read fields (Ok rs) never = absurd (never rs refl)
+  never_read fields (Err x) never = refl
+
+  -- where a page by itself isn't in the format, the index isn't
+  page_in_none : (i f : List ℕ) (at : ℕ) → IsBadPage (Some i) e.index_len at → batch_in e i f ≡ None
+  page_in_none i f at (m, under, bad) = (elim (nat_le e.index_len (length i)) as (λ b. nat_le e.index_len (length i) ≡ b → batch_in e i f ≡ None) [
+    | true ↦ λ le.
+        let whole : e.index_len ≤ length i = grind (arith, nat_tests) in
+        either_none (nat_le e.index_len (length i) && nat_le e.fields_len (length f)) _ (never_read (take e.fields_len f) (records_in e i) (no_index (Some i) e.index_len m at under whole bad))
+    | false ↦ λ short. first_false (nat_le e.index_len (length i)) (nat_le e.fields_len (length f)) _ short
+  ]) refl
+
+  find_told : (i f : Option (List ℕ)) (key : List ℕ) (d : Damage) → IsFindDamage e i key d → batch_told e i f ≡ None
+  find_told None f key d h = refl
+  find_told (Some i) None key d h = refl
+  find_told (Some i) (Some f) key (Absent file) h = absurd h
+  find_told (Some i) (Some f) key (Length file want got) h = absurd h
+  find_told (Some i) (Some f) key (Index file at) h = page_in_none i f at h.1
+  find_told (Some i) (Some f) key (Beyond file end len) h =
       let ends = h.3 in
       let is : len ≡ e.fields_len = h.1 in
       let past : len < end = h.2 in
@@ -135,10 +150,10 @@ module _ (files : FileName → Option (List ℕ)) where
     | inr later ↦ none_later (map batch_at xs) (batch_at x) (none_of_damages xs d later)
   ]
 
-  of_entry : (e : Entry) (d : Damage) → (IsBadIndex e (files (index_file e)) d ⊎ ((key : List ℕ) × IsBeyond e (files (index_file e)) key d)) → batch_at e ≡ None
+  of_entry : (e : Entry) (d : Damage) → (IsBadIndex e (files (index_file e)) d ⊎ ((key : List ℕ) × IsFindDamage e (files (index_file e)) key d)) → batch_at e ≡ None
   unfolding batch_of
   of_entry e d (inl bad) = bad_told e (files (index_file e)) (files (field_file e)) d bad
-  of_entry e d (inr (key, beyond)) = beyond_told e (files (index_file e)) (files (field_file e)) key d beyond
+  of_entry e d (inr (key, met)) = find_told e (files (index_file e)) (files (field_file e)) key d met
 
 -- Where something is broken, no table is told.
 pub damaged_held : (name : List ℕ) (v : Contents) (broken : Broken) → Stands name v broken → held name v ≡ None

@@ -8,12 +8,13 @@ use Rattle.fd_words.specs.declared.command.Command.{Command}
 use Rattle.fd_outcome.specs.declared.status.Status.{Status}
 use Rattle.fd_outcome.specs.declared.status.Status.TheVariants.{Done, Missed, Words, Refused, InputFault, OutputFault, DiskFault, NoMemory, Damaged, Limit}
 use Rattle.fd_io.specs.Streams.{Takes, TakesFront}
+use Rattle.fd_request.specs.FaultTexts.{request_wrong_text}
 use Rattle.fd_listing.specs.Lines.{blank}
 use Rattle.fd_outcome.specs.declared.refusal.Refusal.{Refusal}
 use Rattle.fd_outcome.specs.declared.refusal.Refusal.TheVariants as refusals
 use Rattle.fd_outcome.specs.Refusals.{refusal_status}
 use Rattle.fd_outcome.specs.Causes as causes
-use Rattle.fd_outcome.specs.Causes.{Cause, telling, table_full, is_schema_limit, schema_limit, schema_place, is_request_limit, request_kind, refused_so, damaged_so, limited_so}
+use Rattle.fd_outcome.specs.Causes.{Cause, telling, table_full, is_schema_limit, schema_limit, schema_place, is_request_limit, refused_so, damaged_so, limited_so}
 use Rattle.fd_outcome.specs.Told.{Told}
 use Rattle.fd_outcome.specs.Outcome.{Outcome, outcome, early}
 use Rattle.fd_outcome.specs.Objects.{Object, Failed, Failures, failures, object}
@@ -102,7 +103,7 @@ by_cause P p b q (causes.InStored text fault) = go (is_schema_limit fault.kind)
     go false = b
 by_cause P p b q (causes.InRequest fault) = go (is_request_limit fault.kind)
   where
-    go : (c : Bool) → P (if c then limited_so (request_kind fault.kind) else refused_so (codes "request " ++ decimal fault.at ++ blank (request_kind fault.kind))).status
+    go : (c : Bool) → P (if c then limited_so (request_wrong_text fault.kind) else refused_so (codes "request " ++ decimal fault.at ++ blank (request_wrong_text fault.kind))).status
     go true = q
     go false = p
 by_cause P p b q (causes.NoRule key) = p

@@ -39,6 +39,7 @@ leaves_idle : (command : Command) (s : Status) → IsIdle s → (calm full : Typ
 leaves_idle (commands.Pick wanted) s idle calm full input left h = refl
 leaves_idle commands.Describe s idle calm full input left h = refl
 leaves_idle (commands.Values decimals) s idle calm full input left h = refl
+leaves_idle (commands.Generate count) s idle calm full input left h = refl
 leaves_idle (commands.Create root) s idle calm full None left h = tt
 leaves_idle (commands.Create root) s (inl is) calm full (Some octets) left h = rw is (stays h)
 leaves_idle (commands.Create root) s (inr is) calm full (Some octets) left h = rw is (inl (stays h))

@@ -14,7 +14,7 @@ use Rattle.fd_outcome.specs.Picking.{found}
 use Rattle.fd_outcome.specs.Listed.{listed}
 use Rattle.fd_outcome.specs.Asking.{Answer, Asked, answers, asked_of, found_bytes, rules_of}
 use Rattle.fd_outcome.specs.Told.{Told}
-use Rattle.fd_outcome.specs.Outcome.{Outcome, outcome, early, output_early, answered, answered_early, retrieved, retrieved_early, picked, created, archived}
+use Rattle.fd_outcome.specs.Outcome.{Outcome, outcome, early, output_early, answered, answered_early, retrieved, retrieved_early, picked, created, archived, generated_messages}
 use Rattle.fd_outcome.specs.Objects.{failures, object}
 use Rattle.fd_outcome.specs.Ends.{Calm, troubles, no_memory}
 use Rattle.fd_outcome.specs.Ran.{Ran}
@@ -75,6 +75,7 @@ module _ (h : Holdings) (names : List (List ℕ)) (input : List ℕ) where
   within (commands.Pick wanted) = ((picked (found wanted input)).output, refl)
   within commands.Describe = ([], sym (append-nil (listed listings.Descriptions input).lines))
   within (commands.Values decimals) = ([], sym (append-nil (listed (listings.Points decimals) input).lines))
+  within (commands.Generate count) = ([], sym (append-nil (generated_messages count)))
   within (commands.Create root) = ((created h.schema input).output, refl)
   within (commands.Archive root given) = ((archived given (rules_of h.schema) input).output, refl)
   within (commands.Retrieve root) = retrieved_within (asked_of h input)

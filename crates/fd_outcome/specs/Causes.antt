@@ -10,7 +10,9 @@ use Rattle.fd_segment.specs.declared.fault.Damage.TheVariants as damages
 use Rattle.fd_key.specs.Pairs.{Pair, key_text}
 use Rattle.fd_schema.specs.Grammar as schemas
 use Rattle.fd_schema.specs.Reading.{line_of}
+use Rattle.fd_schema.specs.FaultTexts.{schema_wrong_text}
 use Rattle.fd_request.specs.Grammar as requests
+use Rattle.fd_request.specs.FaultTexts.{request_wrong_text}
 use Rattle.fd_listing.specs.Lines.{blank, line}
 use Rattle.fd_outcome.specs.declared.refusal.Refusal.{Refusal}
 use Rattle.fd_outcome.specs.declared.status.Status.{Status}
@@ -33,22 +35,9 @@ pub data Cause : Type 0 where
   -- a 2,049th dataset
   TooManyDatasets : Cause
 
--- ---- kinds
+-- ---- limits
 
--- the kind of what is wrong in a schema where this byte stands
-abbrev pub schema_kind : ℕ → schemas.Wrong → List ℕ
-schema_kind byte schemas.TooLong = codes "TooLong"
-schema_kind byte schemas.Byte = codes "Byte " ++ decimal byte
-schema_kind byte schemas.Name = codes "Name"
-schema_kind byte schemas.Value = codes "Value"
-schema_kind byte (schemas.Twice name) = codes "Twice " ++ name
-schema_kind byte schemas.Depth = codes "Depth"
-schema_kind byte schemas.NoneRequired = codes "Level"
-schema_kind byte (schemas.TooMany count) = codes "TooMany " ++ decimal count
-schema_kind byte schemas.End = codes "End"
-schema_kind byte schemas.Empty = codes "Empty"
-
--- a limit is passed
+-- what is wrong in a schema passes a limit
 abbrev pub is_schema_limit : schemas.Wrong → Bool
 is_schema_limit schemas.TooLong = true
 is_schema_limit (schemas.TooMany count) = true
@@ -61,16 +50,7 @@ is_schema_limit schemas.NoneRequired = false
 is_schema_limit schemas.End = false
 is_schema_limit schemas.Empty = false
 
-abbrev pub request_kind : requests.Wrong → List ℕ
-request_kind requests.TooLong = codes "TooLong"
-request_kind requests.Verb = codes "Verb"
-request_kind requests.Pair = codes "Pair"
-request_kind (requests.Repeated name) = codes "Repeated " ++ name
-request_kind requests.Value = codes "Value"
-request_kind requests.Range = codes "Range"
-request_kind (requests.TooMany count) = codes "TooMany " ++ decimal count
-request_kind (requests.KeyTooLong len) = codes "KeyTooLong " ++ decimal len
-
+-- the same of a request
 abbrev pub is_request_limit : requests.Wrong → Bool
 is_request_limit requests.TooLong = true
 is_request_limit (requests.TooMany count) = true
@@ -99,10 +79,10 @@ damaged_so text = record { status = statuses.Damaged; line = line (codes "damage
 
 -- `schema LINE KIND`
 abbrev pub schema_place : List ℕ → schemas.Fault → List ℕ
-schema_place text fault = codes "schema " ++ decimal (line_of text fault.at) ++ blank (schema_kind (slice_index text fault.at) fault.kind)
+schema_place text fault = codes "schema " ++ decimal (line_of text fault.at) ++ blank (schema_wrong_text (slice_index text fault.at) fault.kind)
 
 abbrev pub schema_limit : List ℕ → schemas.Fault → Telling
-schema_limit text fault = limited_so (schema_kind (slice_index text fault.at) fault.kind)
+schema_limit text fault = limited_so (schema_wrong_text (slice_index text fault.at) fault.kind)
 
 abbrev pub telling : Cause → Telling
 telling (InStream refusal) = record { status = refusal_status refusal; line = refusal_line refusal }
@@ -111,8 +91,8 @@ telling SchemaPresent = refused_so (codes "SchemaPresent")
 telling (InSchema text fault) = if is_schema_limit fault.kind then schema_limit text fault else refused_so (schema_place text fault)
 telling (InStored text fault) = if is_schema_limit fault.kind then schema_limit text fault else damaged_so (schema_place text fault)
 telling (InRequest fault) =
-    if is_request_limit fault.kind then limited_so (request_kind fault.kind)
-    else refused_so (codes "request " ++ decimal fault.at ++ blank (request_kind fault.kind))
+    if is_request_limit fault.kind then limited_so (request_wrong_text fault.kind)
+    else refused_so (codes "request " ++ decimal fault.at ++ blank (request_wrong_text fault.kind))
 telling (NoRule key) = refused_so (codes "NoRule " ++ key_text key)
 telling TooManyDatasets = limited_so (codes "TooMany 2049")
 

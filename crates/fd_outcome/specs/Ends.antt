@@ -126,6 +126,7 @@ abbrev pub Opens : Command → Holdings → List (List ℕ) → List ℕ → Lis
 Opens (commands.Pick wanted) h names input name = ⊥
 Opens commands.Describe h names input name = ⊥
 Opens (commands.Values decimals) h names input name = ⊥
+Opens (commands.Generate count) h names input name = ⊥
 Opens (commands.Create root) h names input name = ⊥
 Opens (commands.Archive root given) h names input name = AmongTaken given (rules_of h.schema) input name
 Opens (commands.Retrieve root) h names input name = AmongAsked (asked_of h input) name
@@ -138,6 +139,7 @@ abbrev pub UsesStore : Command → Type 0
 UsesStore (commands.Pick wanted) = ⊥
 UsesStore commands.Describe = ⊥
 UsesStore (commands.Values decimals) = ⊥
+UsesStore (commands.Generate count) = ⊥
 UsesStore (commands.Create root) = Unit {0}
 UsesStore (commands.Archive root given) = Unit {0}
 UsesStore (commands.Retrieve root) = Unit {0}
@@ -150,6 +152,7 @@ abbrev pub StoresFields : Command → Type 0
 StoresFields (commands.Pick wanted) = ⊥
 StoresFields commands.Describe = ⊥
 StoresFields (commands.Values decimals) = ⊥
+StoresFields (commands.Generate count) = ⊥
 StoresFields (commands.Create root) = ⊥
 StoresFields (commands.Archive root given) = Unit {0}
 StoresFields (commands.Retrieve root) = ⊥
@@ -186,6 +189,7 @@ abbrev pub WhereAsked : Command → Option (List ℕ) → Option Holdings → Op
 WhereAsked (commands.Pick wanted) input store after P = IfSome input (λ octets. P octets nothing_held nothing_held)
 WhereAsked commands.Describe input store after P = IfSome input (λ octets. P octets nothing_held nothing_held)
 WhereAsked (commands.Values decimals) input store after P = IfSome input (λ octets. P octets nothing_held nothing_held)
+WhereAsked (commands.Generate count) input store after P = P [] nothing_held nothing_held
 WhereAsked (commands.Create root) input store after P = IfSome input (λ octets. IfSome store (λ h. IfSome after (P octets h)))
 WhereAsked (commands.Archive root given) input store after P = IfSome input (λ octets. IfSome store (λ h. IfSome after (P octets h)))
 WhereAsked (commands.Retrieve root) input store after P = IfSome input (λ octets. IfSome store (λ h. IfSome after (P octets h)))
@@ -230,8 +234,9 @@ Calm command NoMemory input output report = Unit {0}
 Calm command Damaged input output report = Unit {0}
 Calm command Limit input output report = AreCalm input output ⊎ (StoresFields command × Takes report.before report.now table_full)
 
--- At 0 and 1 the input was read to its end. `stats` reads none of it.
+-- At 0 and 1 the input was read to its end. `generate` and `stats` read none of it.
 abbrev pub ReadsOut : Command → Option (List ℕ) → Option (List ℕ) → Type 0
+ReadsOut (commands.Generate count) before after = after ≡ before
 ReadsOut (commands.Stats root) before after = after ≡ before
 ReadsOut (commands.Pick wanted) before after = IfSome before (λ octets. after ≡ Some [])
 ReadsOut commands.Describe before after = IfSome before (λ octets. after ≡ Some [])
@@ -306,6 +311,7 @@ abbrev pub Leaves : Command → Status → Type 0 → Type 0 → Option (List �
 Leaves (commands.Pick wanted) s calm full input left h i = i ≡ h
 Leaves commands.Describe s calm full input left h i = i ≡ h
 Leaves (commands.Values decimals) s calm full input left h i = i ≡ h
+Leaves (commands.Generate count) s calm full input left h i = i ≡ h
 Leaves (commands.Create root) s calm full input left h i = IfSome input (λ octets. LeavesSchema s octets h i)
 Leaves (commands.Archive root given) s calm full input left h i = IfSome input (λ octets. LeavesBy s calm full (rules_of h.schema) given octets left h i)
 Leaves (commands.Retrieve root) s calm full input left h i = Stays h i

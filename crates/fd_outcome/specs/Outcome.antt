@@ -1,5 +1,6 @@
 -- What a command makes of its input and of the store: what it writes, and its status.
-use Rattle.std.specs.Prelude.{ℕ, List, [], ◌∷◌, ◌++◌, codes, nat_lt, option_map, Option, Some, None, Result, Ok, Err, if◌then◌else◌}
+use Rattle.std.specs.Prelude.{ℕ, List, [], ◌∷◌, ◌++◌, codes, map, nat_lt, option_map, Option, Some, None, Result, Ok, Err, if◌then◌else◌}
+use Rattle.std.specs.List.{concat, range_with_len}
 use Rattle.fd_sections.specs.Message.{Sections, message_octets}
 use Rattle.fd_key.specs.Pairs as keys
 use Rattle.fd_disk.specs.Folders.{Holdings, folder_at}
@@ -9,6 +10,7 @@ use Rattle.fd_schema.specs.Grammar as schemas
 use Rattle.fd_schema.specs.Grammar.{schema_of}
 use Rattle.fd_schema.specs.Rules.{Rule}
 use Rattle.fd_request.specs.Expansion.{Keyword}
+use Rattle.fd_gen.specs.Generated.{generated_octets}
 use Rattle.fd_listing.specs.Lines.{line}
 use Rattle.fd_words.specs.declared.command.Command.{Command}
 use Rattle.fd_words.specs.declared.command.Command.TheVariants as commands
@@ -52,6 +54,14 @@ listing_status (Some refusal) = refusal_status refusal
 
 abbrev pub told : Listed → Outcome
 told x = record { output = x.lines; report = refusal_lines x.refusal; status = listing_status x.refusal }
+
+-- the first so many generated messages, one after the other
+abbrev pub generated_messages : ℕ → List ℕ
+generated_messages count = concat (map generated_octets (range_with_len 0 count))
+
+-- `generate` writes them
+abbrev pub generated : ℕ → Outcome
+generated count = record { output = generated_messages count; report = []; status = Done }
 
 -- ---- over a store
 
@@ -124,6 +134,7 @@ abbrev pub outcome : Command → Holdings → List (List ℕ) → List ℕ → O
 outcome (commands.Pick wanted) h names input = Some (picked (found wanted input))
 outcome commands.Describe h names input = Some (told (listed listings.Descriptions input))
 outcome (commands.Values decimals) h names input = Some (told (listed (listings.Points decimals) input))
+outcome (commands.Generate count) h names input = Some (generated count)
 outcome (commands.Create root) h names input = Some (created h.schema input)
 outcome (commands.Archive root given) h names input = Some (archived given (rules_of h.schema) input)
 outcome (commands.Retrieve root) h names input = retrieved h (asked_of h input)
@@ -132,7 +143,7 @@ outcome (commands.Axes root) h names input = printed_of axes_text h names (rules
 outcome (commands.Stats root) h names input = stats_printed h names (rules_of h.schema)
 
 -- What the command may have written, or fronts of it, where it stops before its end: `retrieve` of what it finds and of
--- the lines of its misses; a listing of its lines; `pick`, `create` and `archive` nothing.
+-- the lines of its misses; a listing of its lines; `generate` of its messages; `pick`, `create` and `archive` nothing.
 pub record Early : Type 0 where
   pub output : List ℕ
   pub report : List ℕ
@@ -159,6 +170,7 @@ abbrev pub early : Command → Holdings → List (List ℕ) → List ℕ → Ear
 early (commands.Pick wanted) h names input = nothing_early
 early commands.Describe h names input = lines_early (listed listings.Descriptions input).lines
 early (commands.Values decimals) h names input = lines_early (listed (listings.Points decimals) input).lines
+early (commands.Generate count) h names input = lines_early (generated_messages count)
 early (commands.Create root) h names input = nothing_early
 early (commands.Archive root given) h names input = nothing_early
 early (commands.Retrieve root) h names input = retrieved_early h (asked_of h input)

@@ -2,27 +2,14 @@
 use Rattle.std.specs.Prelude.{ℕ, List, ◌++◌, codes}
 use Rattle.std.specs.Fmt.{decimal}
 use Rattle.fd_key.specs.declared.fault.KeyFault.{KeyFault}
+use Rattle.fd_key.specs.FaultTexts.{key_fault_text}
 use Rattle.fd_packing.specs.declared.fault.FieldFault.{FieldFault}
-use Rattle.fd_packing.specs.declared.fault.FieldFault.TheVariants as fields
-use Rattle.fd_listing.specs.Lines.{blank, line}
-use Rattle.fd_listing.specs.Describe.{key_fault_text}
+use Rattle.fd_packing.specs.FaultTexts.{field_fault_text}
+use Rattle.fd_listing.specs.Lines.{line}
 use Rattle.fd_outcome.specs.declared.refusal.Refusal.{Refusal}
 use Rattle.fd_outcome.specs.declared.refusal.Refusal.TheVariants as refusals
 use Rattle.fd_outcome.specs.declared.status.Status.{Status}
 use Rattle.fd_outcome.specs.declared.status.Status.TheVariants.{Refused, Limit}
-
--- the kind of a fault and its numbers
-abbrev pub field_fault_text : FieldFault → List ℕ
-field_fault_text (fields.Template template) = codes "Template " ++ decimal template
-field_fault_text (fields.BadLength said) = codes "BadLength " ++ decimal said
-field_fault_text (fields.Bits bits) = codes "Bits " ++ decimal bits
-field_fault_text (fields.ReferenceNotFinite raw) = codes "ReferenceNotFinite " ++ decimal raw
-field_fault_text (fields.TooWide need) = codes "TooWide " ++ decimal need
-field_fault_text (fields.BitMap indicator) = codes "BitMap " ++ decimal indicator
-field_fault_text (fields.MapShort need found) = codes "MapShort" ++ blank (decimal need ++ blank (decimal found))
-field_fault_text (fields.Count said found) = codes "Count" ++ blank (decimal said ++ blank (decimal found))
-field_fault_text (fields.PackedShort need found) = codes "PackedShort" ++ blank (decimal need ++ blank (decimal found))
-field_fault_text fields.NoMemory = codes "NoMemory"
 
 -- the line that tells why a message has no key
 abbrev pub refused_key_line : ℕ → KeyFault → List ℕ

@@ -16,7 +16,7 @@ use Rattle.fd_core.specs.Batches.{of_batch, newest, or_older}
 use Rattle.fd_core.specs.Table.{listed}
 use Rattle.fd_schema.specs.Rules.{Rule}
 use Rattle.fd_schema.specs.Grammar.{schema_of}
-use Rattle.fd_segment.specs.Causes.{IsBadIndex, IsBeyond}
+use Rattle.fd_segment.specs.Causes.{IsBadIndex, IsFindDamage}
 use Rattle.fd_segment.specs.declared.fault.Damage.{Damage}
 use Rattle.fd_recovery.specs.Damages.{damages, index_file}
 use Rattle.fd_recovery.specs.Recovered.{held}
@@ -54,10 +54,10 @@ pub record IsSound (h : Holdings) : Type 0 where
 
 -- ---- damage
 
--- the damage stands in a listed file, or in one of its records
+-- the damage stands in a listed file: in the file as a whole, in its index, in a page of that by itself, or in one of its records
 abbrev pub StandsIn : folders.Contents → List Entry → Damage → Type 0
 StandsIn v es d = Contains (damages v.files es) d
-    ⊎ ((e : Entry) × Contains es e × (IsBadIndex e (v.files (index_file e)) d ⊎ ((key : List ℕ) × IsBeyond e (v.files (index_file e)) key d)))
+    ⊎ ((e : Entry) × Contains es e × (IsBadIndex e (v.files (index_file e)) d ⊎ ((key : List ℕ) × IsFindDamage e (v.files (index_file e)) key d)))
 
 -- This is broken in the dataset.
 abbrev pub Stands : List ℕ → folders.Contents → Broken → Type 0

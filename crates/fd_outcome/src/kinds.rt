@@ -4,8 +4,10 @@ ghost use Rattle.std.specs.Fmt.{decimal};
 ghost use Rattle.fd_listing.specs.Lines.{blank, line};
 ghost use Rattle.fd_schema.specs.Grammar as schemas;
 ghost use Rattle.fd_schema.specs.Reading.{Names};
+ghost use Rattle.fd_schema.specs.FaultTexts.{schema_wrong_text};
 ghost use Rattle.fd_request.specs.Reading.{seen_kind};
-ghost use Rattle.fd_outcome.specs.Causes.{schema_kind, is_schema_limit, request_kind, is_request_limit};
+ghost use Rattle.fd_request.specs.FaultTexts.{request_kind_text};
+ghost use Rattle.fd_outcome.specs.Causes.{is_schema_limit, is_request_limit};
 ghost use Rattle.fd_outcome.specs.Told.{ToldOrNoMemory};
 
 use crate::report::{tell, tell_no_memory};
@@ -16,21 +18,11 @@ use fd_schema::SchemaKind;
 use std::alloc::{AllocError, Global};
 
 /// The kind of what is wrong in a schema, with its numbers.
+#[tactic(auto, using(fd_schema::proofs::Printing::named_text))]
 pub fn schema_kind(alloc: Global, kind: &SchemaKind) -> Result<String, AllocError>
-    ensures { IfOk result (λ t. (byte : ℕ) (wrong : schemas.Wrong) → Names kind.now byte wrong → string_bytes t ≡ schema_kind byte wrong) }
+    ensures { IfOk result (λ t. (byte : ℕ) (wrong : schemas.Wrong) → Names kind.now byte wrong → string_bytes t ≡ schema_wrong_text byte wrong) }
 {
-    match kind {
-        SchemaKind::TooLong => String::from_str(alloc, "TooLong"),
-        SchemaKind::Byte(byte) => format!(in alloc; "Byte {byte}"),
-        SchemaKind::Name => String::from_str(alloc, "Name"),
-        SchemaKind::Value => String::from_str(alloc, "Value"),
-        SchemaKind::Twice(name) => format!(in alloc; "Twice {name}"),
-        SchemaKind::Depth => String::from_str(alloc, "Depth"),
-        SchemaKind::Level => String::from_str(alloc, "Level"),
-        SchemaKind::TooMany { count } => format!(in alloc; "TooMany {count}"),
-        SchemaKind::End => String::from_str(alloc, "End"),
-        SchemaKind::Empty => String::from_str(alloc, "Empty"),
-    }
+    format!(in alloc; "{kind}")
 }
 
 /// Tells that a schema passes a limit.
@@ -46,18 +38,9 @@ pub fn is_schema_limit(kind: &SchemaKind) -> bool
 
 /// The kind of what is wrong in a request, with its numbers.
 pub fn request_kind(alloc: Global, kind: &RequestKind) -> Result<String, AllocError>
-    ensures { IfOk result (λ t. string_bytes t ≡ request_kind (seen_kind kind.now)) }
+    ensures { IfOk result (λ t. string_bytes t ≡ request_kind_text kind.now) }
 {
-    match kind {
-        RequestKind::TooLong => String::from_str(alloc, "TooLong"),
-        RequestKind::Verb => String::from_str(alloc, "Verb"),
-        RequestKind::Pair => String::from_str(alloc, "Pair"),
-        RequestKind::Repeated(name) => format!(in alloc; "Repeated {name}"),
-        RequestKind::Value => String::from_str(alloc, "Value"),
-        RequestKind::Range => String::from_str(alloc, "Range"),
-        RequestKind::TooMany { count } => format!(in alloc; "TooMany {count}"),
-        RequestKind::KeyTooLong { len } => format!(in alloc; "KeyTooLong {len}"),
-    }
+    format!(in alloc; "{kind}")
 }
 
 /// Tells that a request passes a limit.

@@ -1,5 +1,0 @@
-pub mod Found
-pub mod Halted
-pub mod Run
-pub mod Streams
-pub mod Creating

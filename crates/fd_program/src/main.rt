@@ -2,54 +2,78 @@
 //! given its words, its store, its input and its outputs; `main` makes the real ones.
 #![tactic(auto)]
 
-mod create;
-mod listing;
-mod pick;
-mod streams;
+ghost use Rattle.std.specs.Prelude.{◌≡◌, false, IfOk, List, ℕ, drop, map};
+ghost use Rattle.std.specs.String.{string_bytes};
+ghost use Rattle.fd_words.specs.Texts.{texts};
+
 #[cfg(test)]
 mod tests;
 mod top;
 
 use fd_bytes::NoMemory;
+use fd_disk::Store;
 use fd_disk_real::RealStore;
-use fd_io::{StdSink, StdSource};
+use fd_io::{Gate, StdSink, StdSource};
 use fd_outcome::{Status, tell_no_memory};
+use std::alloc::Global;
 use std::env;
 use std::io::ErrorKind;
 use std::process::ExitCode;
 use std::sync::Wait;
+use std::thread::Threads;
 use top::fdb;
+
+/// A gate that holds nobody back.
+struct Open;
+
+impl Gate for Open {
+    fn pass<R: Wait>(&self, _rt: &R, _lane: u32, _step: u32) {}
+}
 
 fn main(rt: HostRuntime) -> ExitCode {
     ExitCode::from(run(rt, &rt).code())
 }
 
-/// Runs the command that the words ask for, over the store in the folder that they name, and over standard input, output
-/// and error. The second handle is the runtime again, as that of what may wait.
-fn run<R: Wait>(rt: HostRuntime, waits: &R) -> Status {
+/// Runs the command that the program's words ask for, over the store in the folder that they name. The second handle is the
+/// runtime again, as that of what may wait and start threads.
+fn run<R: Threads + Wait + Sync>(rt: HostRuntime, waits: &R) -> Status {
     let mut report = StdSink::new(rt.stderr());
     let Ok(texts) = arguments(&rt) else {
         return tell_no_memory(&mut report);
     };
-    let mut words = Vec::new(rt.alloc());
-    for text in texts.iter().skip(1) {
-        if words.push(text.as_str()).is_err() {
-            return tell_no_memory(&mut report);
-        }
-    }
+    let Ok(words) = words_of(rt.alloc(), &texts) else {
+        return tell_no_memory(&mut report);
+    };
     let Ok(mut store) = RealStore::new(rt.alloc(), rt) else {
         return tell_no_memory(&mut report);
     };
+    serve(rt, waits, &words, &mut store)
+}
+
+/// Runs the command that the words ask for, over this store, and over standard input, output and error. No folder of the
+/// store is out, and none is out afterwards.
+fn serve<F: Send + Drop, S: Store<F>, R: Threads + Wait + Sync>(
+    rt: HostRuntime,
+    waits: &R,
+    words: &[&str],
+    store: &mut S,
+) -> Status
+where
+    requires home { (name : List ℕ) → S.out store.old name ≡ false }
+    ensures home { (name : List ℕ) → S.out store.new name ≡ false }
+{
     let mut input = StdSource::new(rt.stdin().lock());
     let mut output = StdSink::new(rt.stdout());
+    let mut report = StdSink::new(rt.stderr());
     fdb(
         waits,
         rt.alloc(),
-        &words,
-        &mut store,
+        words,
+        store,
         &mut input,
         &mut output,
         &mut report,
+        &Open,
     )
 }
 
@@ -69,4 +93,18 @@ fn arguments(rt: &HostRuntime) -> Result<Vec<String>, NoMemory> {
         texts.push(argument)?;
     }
     Ok(texts)
+}
+
+/// The words behind the program's own name.
+fn words_of<'a>(alloc: Global, arguments: &'a [String]) -> Result<Vec<&'a str>, NoMemory>
+    ensures { IfOk result (λ v. texts v.items ≡ drop 1 (map string_bytes arguments.entry.now)) }
+{
+    let mut words = Vec::new(alloc);
+    let [_, rest @ ..] = arguments else {
+        return Ok(words);
+    };
+    for text in rest {
+        words.push(text.as_str())?;
+    }
+    Ok(words)
 }

@@ -1,12 +1,18 @@
-// The top call over objects in memory.
+// The top call over objects in memory, and once over real files.
+ghost use Rattle.std.specs.Prelude.{◌≡◌, List, ℕ, false};
+
+use crate::Open;
 use crate::top::fdb;
+use fd_disk::Store;
 use fd_disk_mem::{MemStore, Op};
+use fd_disk_real::RealStore;
 use fd_io::{MemSink, MemSource};
 use fd_outcome::Status;
 use std::alloc::{AllocError, Global};
 use std::process::Abort;
 use std::sync::Wait;
 use std::test::Fail;
+use std::thread::Threads;
 
 /// One message of 183 octets: surface 100000 Pa, step 0.
 const FIELD: [u8; 183] = [
@@ -57,7 +63,7 @@ fn plain<'a>(words: &'a [&'a str], input: &'a [u8], piece: u32) -> Run<'a> {
 }
 
 /// The run over this store ends with this status, output and report.
-fn check_over<R: Abort + Wait>(
+fn check_over<R: Abort + Threads + Wait + Sync>(
     rt: &R,
     alloc: Global,
     store: &mut MemStore,
@@ -71,7 +77,7 @@ fn check_over<R: Abort + Wait>(
     let mut out = MemSink::new(alloc, 1000, run.fail_output)?;
     let mut lines = MemSink::new(alloc, 200, run.fail_report)?;
     let found = fdb(
-        rt, alloc, run.words, store, &mut input, &mut out, &mut lines,
+        rt, alloc, run.words, store, &mut input, &mut out, &mut lines, &Open,
     );
     assert_eq!(rt; found, status);
     assert_eq!(rt; out.taken(), output);
@@ -80,7 +86,7 @@ fn check_over<R: Abort + Wait>(
 }
 
 /// The run over an empty store ends with this status, output and report.
-fn check<R: Abort + Wait>(
+fn check<R: Abort + Threads + Wait + Sync>(
     rt: &R,
     alloc: Global,
     run: &Run<'_>,
@@ -96,7 +102,11 @@ const USAGE: &str =
     "usage: fdb pick describe values generate create archive retrieve list axes stats session trial\n";
 
 /// The words are no command.
-fn check_usage<R: Abort + Wait>(rt: &R, alloc: Global, words: &[&str]) -> Result<(), Fail> {
+fn check_usage<R: Abort + Threads + Wait + Sync>(
+    rt: &R,
+    alloc: Global,
+    words: &[&str],
+) -> Result<(), Fail> {
     check(
         rt,
         alloc,
@@ -104,6 +114,23 @@ fn check_usage<R: Abort + Wait>(rt: &R, alloc: Global, words: &[&str]) -> Result
         Status::Words,
         b"",
         USAGE,
+    )
+}
+
+#[test]
+fn generates(rt: HostRuntime) -> Result<(), Fail> {
+    let alloc = rt.alloc();
+    let one = plain(&["generate", "1"], b"unread", 7);
+    check(&rt, alloc, &one, Status::Done, &FIELD, "")?;
+    let mut failing = one;
+    failing.fail_output = &[1];
+    check(
+        &rt,
+        alloc,
+        &failing,
+        Status::OutputFault,
+        b"",
+        "output failed\n",
     )
 }
 
@@ -157,7 +184,7 @@ fn refuses_words(rt: HostRuntime) -> Result<(), Fail> {
 const WORDS: [&str; 2] = ["pick", "step=0"];
 
 /// A run over this input ends with this status and report, and with nothing on the output.
-fn check_refused<R: Abort + Wait>(
+fn check_refused<R: Abort + Threads + Wait + Sync>(
     rt: &R,
     alloc: Global,
     input: &[u8],
@@ -248,7 +275,7 @@ const ROUNDED: &str = "1 0 50.2
 ";
 
 /// The run ends with 0, this output and no report.
-fn check_listed<'a, R: Abort + Wait>(
+fn check_listed<'a, R: Abort + Threads + Wait + Sync>(
     rt: &R,
     alloc: Global,
     words: &'a [&'a str],
@@ -338,93 +365,265 @@ fn stops_listing(rt: HostRuntime) -> Result<(), Fail> {
     Ok(())
 }
 
-const SCHEMA: &str = "[class, expver, date, time [centre, type, levtype [param, step, levelist?]]]";
+/// A run over a store: its words and its input, and the status, the output and the report that it ends with.
+#[derive(Clone, Copy)]
+struct Row<'a> {
+    words: &'a [&'a str],
+    input: &'a [u8],
+    status: Status,
+    output: &'a [u8],
+    report: &'a str,
+}
 
-/// `create` over this store ends with this status and report, and with nothing on the output.
-fn check_create<R: Abort + Wait>(
+/// A run that writes this on the report, and nothing on the output.
+fn told<'a>(words: &'a [&'a str], input: &'a [u8], status: Status, report: &'a str) -> Row<'a> {
+    Row {
+        words,
+        input,
+        status,
+        output: b"",
+        report,
+    }
+}
+
+/// A run that ends with 0, and writes this on the output and the report.
+fn shown<'a>(words: &'a [&'a str], input: &'a str, output: &'a [u8], report: &'a str) -> Row<'a> {
+    Row {
+        words,
+        input: input.as_bytes(),
+        status: Status::Done,
+        output,
+        report,
+    }
+}
+
+/// Runs over this store, one after the other, end as the rows say.
+fn check_rows<R: Abort + Threads + Wait + Sync>(
     rt: &R,
     alloc: Global,
     store: &mut MemStore,
-    schema: &str,
-    status: Status,
-    report: &str,
+    rows: &[Row<'_>],
 ) -> Result<(), Fail> {
-    let run = plain(&["create", "s"], schema.as_bytes(), 10);
-    check_over(rt, alloc, store, &run, status, b"", report)
-}
-
-#[test]
-fn creates(rt: HostRuntime) -> Result<(), Fail> {
-    let alloc = rt.alloc();
-    let mut store = MemStore::new(alloc, 100, 0)?;
-    let no_level = "refused schema 1 Depth\n";
-    check_create(
-        &rt,
-        alloc,
-        &mut store,
-        "[class [param]]",
-        Status::Refused,
-        no_level,
-    )?;
-    check_create(&rt, alloc, &mut store, SCHEMA, Status::Done, "created\n")?;
-    let present = "refused SchemaPresent\n";
-    check_create(&rt, alloc, &mut store, SCHEMA, Status::Refused, present)?;
-    store.fail(alloc, "schema", Op::Read, 1)?;
-    let failed = "disk failed\n";
-    check_create(&rt, alloc, &mut store, SCHEMA, Status::DiskFault, failed)?;
+    for row in rows {
+        let run = plain(row.words, row.input, 100);
+        check_over(rt, alloc, store, &run, row.status, row.output, row.report)?;
+    }
     Ok(())
 }
 
+/// Runs over an empty store, one after the other, end as the rows say, where this read of its schema fails.
+fn check_failing<R: Abort + Threads + Wait + Sync>(
+    rt: &R,
+    alloc: Global,
+    read: u32,
+    rows: &[Row<'_>],
+) -> Result<(), Fail> {
+    let mut store = MemStore::new(alloc, 65_536, 256)?;
+    store.fail(alloc, "schema", Op::Read, read)?;
+    check_rows(rt, alloc, &mut store, rows)
+}
+
+/// The read of a schema that no test makes.
+const NEVER: u32 = 1000;
+
+const SCHEMA: &[u8] =
+    b"[class, expver, date, time [centre, type, levtype [param, step, levelist?]]]";
+
+const CREATE: [&str; 2] = ["create", "s"];
+
+const ARCHIVE: [&str; 3] = ["archive", "s", "--with=class=od,expver=0001"];
+
+const RETRIEVE: [&str; 2] = ["retrieve", "s"];
+
+const LIST: [&str; 2] = ["list", "s"];
+
+const AXES: [&str; 2] = ["axes", "s"];
+
+const STATS: [&str; 2] = ["stats", "s"];
+
+const CREATED: &str = "created\n";
+
+const FAILED: &str = "disk failed\n";
+
+/// A store is founded once, and its schema is read each time.
+#[test]
+fn creates(rt: HostRuntime) -> Result<(), Fail> {
+    let alloc = rt.alloc();
+    let depth = "refused schema 1 Depth\n";
+    let present = "refused SchemaPresent\n";
+    let rows = [
+        told(&CREATE, b"[class [param]]", Status::Refused, depth),
+        told(&CREATE, SCHEMA, Status::DiskFault, FAILED),
+        told(&CREATE, SCHEMA, Status::Done, CREATED),
+        told(&CREATE, SCHEMA, Status::Refused, present),
+    ];
+    check_failing(&rt, alloc, 2, &rows)
+}
+
+/// The request of the field, and one of a level that no field has.
 const REQUEST: &str =
+    "retrieve,class=od,expver=0001,date=20240101,time=00,centre=98,type=1,levtype=100,param=0.0.0,step=0,levelist=100000";
+
+const OTHER_LEVEL: &str =
     "retrieve,class=od,expver=0001,date=20240101,time=00,centre=98,type=1,levtype=100,param=0.0.0,step=0,levelist=5";
 
-const MISS: &str =
+const FOUND: &str = "found 1 missed 0\n";
+
+const MISSED: &str =
     "miss class=od,expver=0001,date=20240101,time=0000,centre=98,type=1,levtype=100,param=0.0.0,step=0,levelist=5
 found 0 missed 1
 ";
 
+const NONE_ARCHIVED: &str = "archived 0 datasets 0 junk 0\n";
+
+const ONE_ARCHIVED: &str = "archived 1 datasets 1 junk 0\n";
+
+/// What a store has before an archive and after an empty one: no field and no dataset.
 #[test]
-fn retrieves(rt: HostRuntime) -> Result<(), Fail> {
+fn begins_empty(rt: HostRuntime) -> Result<(), Fail> {
     let alloc = rt.alloc();
-    let mut store = MemStore::new(alloc, 100, 0)?;
-    let run = plain(&["retrieve", "s"], REQUEST.as_bytes(), 10);
     let missing = "refused SchemaMissing\n";
-    check_over(&rt, alloc, &mut store, &run, Status::Refused, b"", missing)?;
-    check_create(&rt, alloc, &mut store, SCHEMA, Status::Done, "created\n")?;
-    check_over(&rt, alloc, &mut store, &run, Status::Missed, b"", MISS)?;
-    Ok(())
+    let rows = [
+        told(&ARCHIVE, &FIELD, Status::Refused, missing),
+        told(&RETRIEVE, OTHER_LEVEL.as_bytes(), Status::Refused, missing),
+        told(&CREATE, SCHEMA, Status::Done, CREATED),
+        told(&RETRIEVE, OTHER_LEVEL.as_bytes(), Status::Missed, MISSED),
+        told(&ARCHIVE, b"", Status::Done, NONE_ARCHIVED),
+        told(&STATS, b"", Status::Done, ""),
+        told(&STATS, b"", Status::DiskFault, FAILED),
+    ];
+    check_failing(&rt, alloc, 7, &rows)
 }
 
-/// The request of the field.
-const STORED: &str =
-    "retrieve,class=od,expver=0001,date=20240101,time=00,centre=98,type=1,levtype=100,param=0.0.0,step=0,levelist=100000";
+/// The field with other values, so another message of its key.
+fn newer() -> [u8; 183] {
+    let mut octets = FIELD;
+    octets[LAST] = 43;
+    octets
+}
 
+/// A field that is archived is found, and no other.
 #[test]
 fn archives(rt: HostRuntime) -> Result<(), Fail> {
     let alloc = rt.alloc();
-    let mut store = MemStore::new(alloc, 65_536, 256)?;
-    let words = ["archive", "s", "--with=class=od,expver=0001"];
-    let older = field(alloc, 0, 1)?;
-    let newer = field(alloc, 0, 2)?;
-    let run = plain(&words, older.as_slice(), 100);
-    let missing = "refused SchemaMissing\n";
-    check_over(&rt, alloc, &mut store, &run, Status::Refused, b"", missing)?;
-    check_create(&rt, alloc, &mut store, SCHEMA, Status::Done, "created\n")?;
-    let one = "archived 1 datasets 1 junk 0\n";
-    check_over(&rt, alloc, &mut store, &run, Status::Done, b"", one)?;
-    let run = plain(&words, newer.as_slice(), 100);
-    check_over(&rt, alloc, &mut store, &run, Status::Done, b"", one)?;
-    let run = plain(&["retrieve", "s"], STORED.as_bytes(), 100);
-    let found = "found 1 missed 0\n";
-    check_over(
-        &rt,
-        alloc,
-        &mut store,
-        &run,
-        Status::Done,
-        newer.as_slice(),
-        found,
-    )?;
+    let newer = newer();
+    let rows = [
+        told(&CREATE, SCHEMA, Status::Done, CREATED),
+        told(&ARCHIVE, &FIELD, Status::Done, ONE_ARCHIVED),
+        shown(&RETRIEVE, REQUEST, &FIELD, FOUND),
+        told(&RETRIEVE, OTHER_LEVEL.as_bytes(), Status::Missed, MISSED),
+        told(&ARCHIVE, &newer, Status::Done, ONE_ARCHIVED),
+        shown(&RETRIEVE, REQUEST, &newer, FOUND),
+    ];
+    check_failing(&rt, alloc, NEVER, &rows)
+}
+
+const LISTED: &[u8] =
+    b"class=od,expver=0001,date=20240101,time=0000 centre=98,type=1,levtype=100 param=0.0.0,step=0,levelist=100000 183 1\n";
+
+const LISTED_SECOND: &[u8] =
+    b"class=od,expver=0001,date=20240101,time=0000 centre=98,type=1,levtype=100 param=0.0.0,step=0,levelist=100000 183 2\n";
+
+const SPANS: &[u8] =
+    b"class=od,expver=0001,date=20240101,time=0000 centre=98,type=1,levtype=100 levelist=100000
+class=od,expver=0001,date=20240101,time=0000 centre=98,type=1,levtype=100 param=0.0.0
+class=od,expver=0001,date=20240101,time=0000 centre=98,type=1,levtype=100 step=0
+";
+
+const ONE_FIELD: &[u8] =
+    b"class=od,expver=0001,date=20240101,time=0000 entries 1 fields 1 keys 1 bytes 183\n";
+
+const TWO_ENTRIES: &[u8] =
+    b"class=od,expver=0001,date=20240101,time=0000 entries 2 fields 2 keys 1 bytes 366\n";
+
+const ONE_MASKED: &[u8] =
+    b"class=od,expver=0001,date=20240101,time=0000 entries 1 fields 1 keys 1 bytes 366\n";
+
+const ALL: &str = "list,param=0.0.0";
+
+/// What a store tells of itself after one field, and after a newer field of its key in an entry of its own.
+#[test]
+fn tells_contents(rt: HostRuntime) -> Result<(), Fail> {
+    let alloc = rt.alloc();
+    let newer = newer();
+    let rows = [
+        told(&CREATE, SCHEMA, Status::Done, CREATED),
+        told(&ARCHIVE, &FIELD, Status::Done, ONE_ARCHIVED),
+        shown(&LIST, ALL, LISTED, ""),
+        shown(&AXES, ALL, SPANS, ""),
+        shown(&STATS, "", ONE_FIELD, ""),
+        told(&ARCHIVE, &newer, Status::Done, ONE_ARCHIVED),
+        shown(&LIST, ALL, LISTED_SECOND, ""),
+        shown(&STATS, "", TWO_ENTRIES, ""),
+        told(
+            &LIST,
+            b"list,param",
+            Status::Refused,
+            "refused request 10 Pair\n",
+        ),
+    ];
+    check_failing(&rt, alloc, NEVER, &rows)
+}
+
+/// Two fields of one key in one archive are one field of one entry, the later one.
+#[test]
+fn counts_masked_fields_once(rt: HostRuntime) -> Result<(), Fail> {
+    let alloc = rt.alloc();
+    let newer = newer();
+    let mut both = Vec::from_slice(alloc, &FIELD)?;
+    both.extend_from_slice(&newer)?;
+    let rows = [
+        told(&CREATE, SCHEMA, Status::Done, CREATED),
+        told(
+            &ARCHIVE,
+            &both,
+            Status::Done,
+            "archived 2 datasets 1 junk 0\n",
+        ),
+        shown(&RETRIEVE, REQUEST, &newer, FOUND),
+        shown(&LIST, ALL, LISTED, ""),
+        shown(&STATS, "", ONE_MASKED, ""),
+    ];
+    check_failing(&rt, alloc, NEVER, &rows)
+}
+
+/// The run over any store ends as the row says.
+fn check_in<F: Send + Drop, S: Store<F>, R: Abort + Threads + Wait + Sync>(
+    rt: &R,
+    alloc: Global,
+    store: &mut S,
+    row: &Row<'_>,
+) -> Result<(), Fail>
+where
+    requires home { (name : List ℕ) → S.out store.old name ≡ false }
+    ensures home { (name : List ℕ) → S.out store.new name ≡ false }
+{
+    let mut input = MemSource::new(alloc, row.input, 100, &[])?;
+    let mut out = MemSink::new(alloc, 1000, &[])?;
+    let mut lines = MemSink::new(alloc, 200, &[])?;
+    let found = fdb(
+        rt, alloc, row.words, store, &mut input, &mut out, &mut lines, &Open,
+    );
+    assert_eq!(rt; found, row.status);
+    assert_eq!(rt; out.taken(), row.output);
+    assert_eq!(rt; lines.taken(), row.report.as_bytes());
+    Ok(())
+}
+
+/// A field is archived and found in real files, in the folder where the test runs.
+#[test]
+fn keeps_files(rt: HostRuntime) -> Result<(), Fail> {
+    let alloc = rt.alloc();
+    let rows = [
+        told(&CREATE, SCHEMA, Status::Done, CREATED),
+        told(&ARCHIVE, &FIELD, Status::Done, ONE_ARCHIVED),
+        shown(&RETRIEVE, REQUEST, &FIELD, FOUND),
+        told(&RETRIEVE, OTHER_LEVEL.as_bytes(), Status::Missed, MISSED),
+    ];
+    let mut store = RealStore::new(alloc, rt)?;
+    for row in &rows {
+        check_in(&rt, alloc, &mut store, row)?;
+    }
     Ok(())
 }
 

@@ -3,32 +3,42 @@ ghost use Rattle.std.specs.Prelude.{◌≡◌, ◌⊎◌, ◌≤◌, false, List
 ghost use Rattle.fd_bytes.specs.Causes.{Rose};
 ghost use Rattle.fd_disk.specs.Folders.{WhereTold};
 ghost use Rattle.fd_words.specs.Texts.{texts};
-ghost use Rattle.fd_words.specs.Words.{command_of, HasFewDecimals, Stands};
+ghost use Rattle.fd_words.specs.Words.{command_of, IsWithinLimits};
 ghost use Rattle.fd_outcome.specs.Ends.{Runs, EndsUnasked, ReadsOut, Calm, Completes, Leaves};
 ghost use Rattle.fd_io.specs.Streams.{Takes};
 ghost use Rattle.fd_outcome.specs.Causes.{table_full};
 ghost use Rattle.fd_outcome.specs.Objects.{object};
 ghost use Rattle.fd_outcome.specs.Ran.{Ran};
 
-use crate::create::create;
-use crate::streams::{pick, write_list};
 use fd_archive::archive;
 use fd_contents::{axes, list, stats};
 use fd_disk::{Folder, Sealed, Shelf, Store};
-use fd_io::{Sink, Source};
+use fd_io::{Gate, Sink, Source};
 use fd_outcome::{Listing, Status, tell, tell_no_memory};
 use fd_retrieve::retrieve;
+use fd_streams::{create, generate, pick, write_list};
 use fd_words::{Command, read_command};
 use std::alloc::Global;
 use std::sync::Wait;
+use std::thread::Threads;
 
 const USAGE: &str =
     "usage: fdb pick describe values generate create archive retrieve list axes stats session trial\n";
 
 /// Runs the command that the words after the program's name ask for, over a store, an input, an output and a report, each
-/// of which may be real or an object in memory. The status tells how the run ended, and all but `Done` and `Missed` write
-/// the line that belongs to it on the report. No folder of the store is out, and none is out afterwards.
-pub fn fdb<F: Send + Drop, X: Drop, S: Store<F>, I: Source<X>, K: Sink<X>, E: Sink<X>, R: Wait>(
+/// of which may be real or an object in memory. The gate is passed by what runs in threads of its own. The status tells how
+/// the run ended, and all but `Done` and `Missed` write the line that belongs to it on the report. No folder of the store is
+/// out, and none is out afterwards.
+pub fn fdb<
+    F: Send + Drop,
+    X: Drop,
+    S: Store<F>,
+    I: Source<X>,
+    K: Sink<X>,
+    E: Sink<X>,
+    G: Gate,
+    R: Threads + Wait + Sync,
+>(
     rt: &R,
     alloc: Global,
     words: &[&str],
@@ -36,12 +46,9 @@ pub fn fdb<F: Send + Drop, X: Drop, S: Store<F>, I: Source<X>, K: Sink<X>, E: Si
     input: &mut I,
     output: &mut K,
     report: &mut E,
+    _gate: &G,
 ) -> Status
 where
-    <S::Folder as Folder<F>>::Sealed: Drop,
-    <<S::Folder as Folder<F>>::Sealed as Sealed<F>>::Reader: Drop,
-    <<S::Folder as Folder<F>>::Shelf as Shelf<F>>::File: Drop,
-    <<S::Folder as Folder<F>>::Shelf as Shelf<F>>::Sealed: Drop,
     requires home { (name : List ℕ) → S.out store.old name ≡ false }
 
     // What each status tells of the words, of the input, of the store, and of what was written: for a command, by what it
@@ -96,13 +103,8 @@ fn run<F: Send + Drop, X: Drop, S: Store<F>, I: Source<X>, K: Sink<X>, E: Sink<X
     report: &mut E,
 ) -> Status
 where
-    <S::Folder as Folder<F>>::Sealed: Drop,
-    <<S::Folder as Folder<F>>::Sealed as Sealed<F>>::Reader: Drop,
-    <<S::Folder as Folder<F>>::Shelf as Shelf<F>>::File: Drop,
-    <<S::Folder as Folder<F>>::Shelf as Shelf<F>>::Sealed: Drop,
     requires home { (name : List ℕ) → S.out store.old name ≡ false }
-    requires few { HasFewDecimals command.now }
-    requires stands { Stands command.now }
+    requires within { IsWithinLimits command.now }
     ensures ran { Ran command.now result (object (S.has store.old) (S.has store.new) (S.faults store.old) (S.faults store.new)) (object (I.left input.old) (I.left input.new) (I.faults input.old) (I.faults input.new)) (object (K.taken output.old) (K.taken output.new) (K.faults output.old) (K.faults output.new)) (object (E.taken report.old) (E.taken report.new) (E.faults report.old) (E.faults report.new)) }
     ensures home { (name : List ℕ) → S.out store.new name ≡ false }
 {
@@ -112,6 +114,7 @@ where
         Command::Values(decimals) => {
             write_list(alloc, Listing::Points(*decimals), input, output, report)
         }
+        Command::Generate(count) => generate(alloc, *count, output, report),
         Command::Create(root) => create(alloc, root, store, input, report),
         Command::Archive(root, given) => archive(rt, alloc, root, given, store, input, report),
         Command::Retrieve(root) => retrieve(rt, alloc, root, store, input, output, report),

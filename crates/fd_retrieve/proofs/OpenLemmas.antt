@@ -46,7 +46,7 @@ one_more f xs ys zs i x d so_far is inside same =
 
 -- ---- a pass that has seen all
 
-module _ {Z E : Type 0} (name : List ℕ) (ls : List Listing) (r : Result Z E) (shown : Z → List Standing) (old new : View) (first : old ≡ first_view name ls)
+module _ {Z E : Type 0} (name : List ℕ) (tells : Bool) (ls : List Listing) (r : Result Z E) (shown : Z → List Standing) (old new : View) (first : old ≡ first_view name tells ls)
     (ok : IfOk r (λ s. new ≡ record old { history = map listing (shown s) })) (seen : IfOk r (λ s. IsPrefix old.history (map listing (shown s))))
     (count : IfOk r (λ s. old.parts ≡ all_parts → old.opening + old.amount ≡ length (shown s))) where
   all_shown : (s : Z) → IsPrefix old.history (map listing (shown s)) → (old.parts ≡ all_parts → old.opening + old.amount ≡ length (shown s)) → map listing (shown s) ≡ ls
@@ -65,10 +65,10 @@ module _ {Z E : Type 0} (name : List ℕ) (ls : List Listing) (r : Result Z E) (
       go (Ok s) seen count = all_shown s seen count
       go (Err e) seen count = tt
 
-  pub seen_all : OnErr r (new ≡ old) → new ≡ first_view name ls
+  pub seen_all : OnErr r (new ≡ old) → new ≡ first_view name tells ls
   seen_all err = go r ok seen count err
     where
-      go : (q : Result Z E) → IfOk q (λ s. new ≡ record old { history = map listing (shown s) }) → IfOk q (λ s. IsPrefix old.history (map listing (shown s))) → IfOk q (λ s. old.parts ≡ all_parts → old.opening + old.amount ≡ length (shown s)) → OnErr q (new ≡ old) → new ≡ first_view name ls
+      go : (q : Result Z E) → IfOk q (λ s. new ≡ record old { history = map listing (shown s) }) → IfOk q (λ s. IsPrefix old.history (map listing (shown s))) → IfOk q (λ s. old.parts ≡ all_parts → old.opening + old.amount ≡ length (shown s)) → OnErr q (new ≡ old) → new ≡ first_view name tells ls
       go (Ok s) ok seen count err = ok ∙ ap (λ h. record old { history = h }) (all_shown s seen count) ∙ ap (λ (v : View). record v { history = ls }) first
       go (Err e) ok seen count err = err ∙ first
 
@@ -127,9 +127,9 @@ lists_again name text table es now_es doubt (Some v) same sure entries_are image
         ap (option_map (λ (f : File). listed name f.reads)) is ∙ ap (λ r. Some r) (ap (λ n. listed n f.reads) (sym same) ∙ now ∙ sym lists)
 
 -- The table that comes back lists what it listed, and nothing is in doubt.
-pub closed_all : {A : Type 0} (name : List ℕ) (xs : List (Arc Standing A)) (v : View) (before after : List Entry) (doubt : Option Entry) → v ≡ first_view name (listings xs) → entries xs ≡ before
+pub closed_all : {A : Type 0} (name : List ℕ) (tells : Bool) (xs : List (Arc Standing A)) (v : View) (before after : List Entry) (doubt : Option Entry) → v ≡ first_view name tells (listings xs) → entries xs ≡ before
     → IsPrefix (datasets.entries_of v.history) after → length after ≡ v.opening + v.amount → ((e : Entry) → doubt ≡ Some e → (l : Listing) × Contains v.doubts l × (l.entry ≡ e)) → (after ≡ before) × (doubt ≡ None)
-closed_all name xs v before after doubt first is seen count doubted =
+closed_all name tells xs v before after doubt first is seen count doubted =
     let n : v.opening ≡ length (listings xs) = ap (λ (w : View). w.opening) first in
     let none : v.amount ≡ 0 = ap (λ (w : View). w.amount) first in
     let long = length-map (listings xs) (λ (l : Listing). l.entry) in

@@ -30,7 +30,7 @@ use Rattle.fd_retrieve.specs.Ready.{Begins, IsReady, asked_at}
 use Rattle.std.specs.Prelude.{Contains, slice_get}
 use Rattle.fd_disk.specs.Folders.{Contents, folder_at}
 use Rattle.fd_schema.specs.Rules.{Texts, file_key}
-use Rattle.fd_segment.specs.Causes.{IsBadIndex, IsBeyond}
+use Rattle.fd_segment.specs.Causes.{IsBadIndex, IsFindDamage}
 use Rattle.fd_segment.specs.Held.{Standing}
 use Rattle.fd_segment.specs.declared.fault.Damage.{Damage}
 use Rattle.fd_recovery.specs.Damages.{index_file}
@@ -276,7 +276,7 @@ module _ (root : List ℕ) (before first now : Option Holdings) (sm sk sn : ℕ)
       let has = contains_mapped (λ (x : Standing). x.files) o.segments s there in
       let e = contains_of (files_of v.files) l.entries s.files (subst (λ fs. Contains fs s.files) l.files has) in
       let moved : StandsIn (files_of v.files e.0) key d = subst (λ f. StandsIn f key d) (sym e.2) stands in
-      (l.table, l.entries, l.table_is, l.lists, inr (e.0, e.1, elim moved as (λ _. IsBadIndex e.0 (v.files (index_file e.0)) d ⊎ ((k : List ℕ) × IsBeyond e.0 (v.files (index_file e.0)) k d)) [ inl bad ↦ inl bad | inr beyond ↦ inr (key, beyond) ]))
+      (l.table, l.entries, l.table_is, l.lists, inr (e.0, e.1, elim moved as (λ _. IsBadIndex e.0 (v.files (index_file e.0)) d ⊎ ((k : List ℕ) × IsFindDamage e.0 (v.files (index_file e.0)) k d)) [ inl bad ↦ inl bad | inr beyond ↦ inr (key, beyond) ]))
 
   pub damaged_ran : (long : length ps ≡ length (expand ks)) (place : Texts) (os_now : List Open) → os_now ≡ os → (Rose sk sn → Rose sm sn) → ToldDamage os_now place (Rose sk sn) result mid report.now k report.faults_now → Part → TookSome report.before mid → Out
   damaged_ran long place os_now os_is rises told part some = elim told as (λ _. Out) [

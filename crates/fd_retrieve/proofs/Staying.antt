@@ -13,7 +13,7 @@ use Rattle.fd_core.specs.declared.table.Entry.{Entry}
 use Rattle.fd_core.specs.declared.table.NotATable.{NotATable}
 use Rattle.fd_core.specs.Table.{listed}
 use Rattle.fd_segment.specs.Held.{batch_of}
-use Rattle.fd_segment.specs.Causes.{IsBadIndex, IsBeyond}
+use Rattle.fd_segment.specs.Causes.{IsBadIndex, IsFindDamage}
 use Rattle.fd_segment.specs.declared.fault.Damage.{Damage}
 use Rattle.fd_recovery.specs.Damages.{damages, damages_at, damages_of, field_file, index_file}
 use Rattle.fd_recovery.specs.Recovered.{all_of, batches_listed, files_of, held, held_by, with_firm_table}
@@ -187,7 +187,7 @@ open_before h i o stays is =
 stands_in : (v w : Contents) (es : List Entry) (d : Damage) → ((n : FileName) → w.files n ≡ v.files n) → StandsIn w es d → StandsIn v es d
 stands_in v w es d same (inl c) = inl (subst (λ ds. Contains ds d) (damages_same v.files w.files same es) c)
 stands_in v w es d same (inr (e, there, inl bad)) = inr (e, there, inl (subst (λ i. IsBadIndex e i d) (same (index_file e)) bad))
-stands_in v w es d same (inr (e, there, inr (key, beyond))) = inr (e, there, inr (key, subst (λ i. IsBeyond e i key d) (same (index_file e)) beyond))
+stands_in v w es d same (inr (e, there, inr (key, beyond))) = inr (e, there, inr (key, subst (λ i. IsFindDamage e i key d) (same (index_file e)) beyond))
 
 pub stands_before : (name : List ℕ) (v w : Contents) (b : Broken) → StaysFolder name v w → Stands name w b → Stands name v b
 stands_before name v w (BadTable fault) stays (f, is, bad) =

@@ -69,7 +69,7 @@ fn tell_miss<F: Send, X, E: Sink<X>>(
 
 /// Writes what is found for a key of a request, or tells on the report that it isn't there, and tells which. The place is
 /// that of the key.
-fn answer_one<F: Send, X, Z: Sealed<F> + Drop, K: Sink<X>, E: Sink<X>>(
+fn answer_one<F: Send, X, Z: Sealed<F>, K: Sink<X>, E: Sink<X>>(
     alloc: Global,
     request: &Request,
     number: u32,
@@ -79,7 +79,6 @@ fn answer_one<F: Send, X, Z: Sealed<F> + Drop, K: Sink<X>, E: Sink<X>>(
     report: &mut E,
 ) -> Result<bool, Halt<F, X>>
 where
-    Z::Reader: Drop,
     requires { number < length (expand request.now) }
     ensures one { IfOk result (λ is_found. (key : List keys.Pair) (t : List (List Pair)) → slice_get (expand request.now) number ≡ Some key → table_in datasets.old (seen_place place.now).dataset ≡ Some t
         → IsOne (newest t (file_key (seen_place place.now))) key is_found (K.taken output.old) (K.taken output.new) (E.taken report.old) (E.taken report.new)) }
@@ -116,7 +115,7 @@ fn one_more_if(found: u32, is_found: bool) -> u32
 
 /// Writes what is found for each key of a request, in its order, tells each miss on the report, and counts both. The places
 /// are those of the keys.
-pub(crate) fn answer_all<F: Send, X, Z: Sealed<F> + Drop, K: Sink<X>, E: Sink<X>>(
+pub(crate) fn answer_all<F: Send, X, Z: Sealed<F>, K: Sink<X>, E: Sink<X>>(
     alloc: Global,
     request: &Request,
     places: &[Place],
@@ -125,7 +124,6 @@ pub(crate) fn answer_all<F: Send, X, Z: Sealed<F> + Drop, K: Sink<X>, E: Sink<X>
     report: &mut E,
 ) -> Result<(u32, u32), Halt<F, X>>
 where
-    Z::Reader: Drop,
     requires { length places.now ≡ length (expand request.now) }
     ensures answered { IfOk result (λ r. (xs : List Answer) → answers (table_in datasets.old) (asked_of_all (expand request.now) (map seen_place places.now)) ≡ Some xs
         → IsAnswered xs (length xs) (K.taken output.old) (K.taken output.new) (E.taken report.old) (E.taken report.new) r.0 r.1) }

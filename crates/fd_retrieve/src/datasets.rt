@@ -27,10 +27,7 @@ use std::sync::Arc;
 
 /// The segments of the dataset with this number that are open for reading.
 #[derive(Drop)]
-pub(crate) struct Current<F: Send, Z: Sealed<F> + Drop>
-where
-    Z::Reader: Drop,
-{
+pub(crate) struct Current<F: Send, Z: Sealed<F>> {
     number: usize,
     lenses: Lenses<F, Z>,
 }
@@ -38,18 +35,12 @@ where
 /// Datasets that were opened. Segments of one of them are kept open for reading: of the last in which a field was looked
 /// for.
 #[derive(Drop)]
-pub(crate) struct Datasets<F: Send, Z: Sealed<F> + Drop>
-where
-    Z::Reader: Drop,
-{
+pub(crate) struct Datasets<F: Send, Z: Sealed<F>> {
     opened: Vec<Opened<F, Z>>,
     current: Option<Current<F, Z>>,
 }
 
-impl<F: Send, Z: Sealed<F> + Drop> Model for Datasets<F, Z>
-where
-    Z::Reader: Drop,
-{
+impl<F: Send, Z: Sealed<F>> Model for Datasets<F, Z> {
     ghost use Rattle.std.specs.Prelude.{List, IfSome, map, slice_get};
     ghost use Rattle.fd_dataset.specs.Listed.{listing};
     ghost use Rattle.fd_retriever.specs.Kept.{Fits};
@@ -62,10 +53,7 @@ where
     ghost invariant = { λ d. IfSome d.current (λ c. IfSome (slice_get d.opened.items c.number) (λ o. Fits c.lenses (map listing o.shown))) };
 }
 
-impl<F: Send, Z: Sealed<F> + Drop> Datasets<F, Z>
-where
-    Z::Reader: Drop,
-{
+impl<F: Send, Z: Sealed<F>> Datasets<F, Z> {
     /// These datasets, of which no segment is open for reading.
     pub(crate) fn new(opened: Vec<Opened<F, Z>>) -> Datasets<F, Z>
         ensures { result ≡ opened.items }
@@ -115,13 +103,12 @@ where
 }
 
 // The segments that are open where they are of this dataset, or else none yet.
-fn lenses_for<F: Send, Z: Sealed<F> + Drop>(
+fn lenses_for<F: Send, Z: Sealed<F>>(
     alloc: Global,
     current: Option<Current<F, Z>>,
     number: usize,
 ) -> Result<Lenses<F, Z>, NoMemory>
 where
-    Z::Reader: Drop,
     ensures { IfOk result (λ l. (ls : List Listing) → IfSome current (λ c. c.number ≡ number → Fits c.lenses ls) → Fits l ls) }
 {
     if let Some(Current { number: of, lenses }) = current {
@@ -133,10 +120,7 @@ where
 }
 
 /// The number of the first dataset with this text.
-pub(crate) fn number_of<F: Send, Z: Sealed<F> + Drop>(
-    opened: &[Opened<F, Z>],
-    name: &str,
-) -> Option<usize>
+pub(crate) fn number_of<F: Send, Z: Sealed<F>>(opened: &[Opened<F, Z>], name: &str) -> Option<usize>
     ensures { MatchOption result (is_among (names_of opened.now) name.now ≡ false) (λ n. IsFirstNamed opened.now name.now n) }
 {
     for i in 0..opened.len() {
@@ -148,13 +132,12 @@ pub(crate) fn number_of<F: Send, Z: Sealed<F> + Drop>(
 }
 
 /// The damage that a look for a key meets in a dataset's segments, from the newest on.
-pub(crate) fn damage_of<F: Send, Z: Sealed<F> + Drop>(
+pub(crate) fn damage_of<F: Send, Z: Sealed<F>>(
     alloc: Global,
     segments: &[Arc<Segment<F, Z>>],
     key: &[u8],
 ) -> Result<Option<Damage>, Down<F>>
 where
-    Z::Reader: Drop,
     ensures { IfOk result (λ o. IfSome o (IsDamaged (standings segments.now) key.now)) }
 {
     let count = segments.len();
@@ -170,13 +153,12 @@ where
 }
 
 // The damage that a look for a key meets in a segment.
-fn damage_in<F: Send, Z: Sealed<F> + Drop>(
+fn damage_in<F: Send, Z: Sealed<F>>(
     alloc: Global,
     segment: &Segment<F, Z>,
     key: &[u8],
 ) -> Result<Option<Damage>, Down<F>>
 where
-    Z::Reader: Drop,
     ensures { IfOk result (λ o. IfSome o (StandsIn segment.now.files key.now)) }
 {
     let mut lens = match segment.lens(alloc) {
@@ -185,7 +167,7 @@ where
         Err(LensFault::Fault(fault)) => return Err(Down::Fault(fault)),
         Err(LensFault::NoMemory) => return Err(Down::NoMemory),
     };
-    match lens.find(key) {
+    match lens.find(alloc, key) {
         Ok(_) => Ok(None),
         Err(LensFault::Damaged(damage)) => Ok(Some(damage)),
         Err(LensFault::Fault(fault)) => Err(Down::Fault(fault)),

@@ -24,13 +24,13 @@ use std::sync::{Arc, Wait};
 
 /// A dataset as it was when it was opened: its text, what its table listed, and the files of that.
 #[derive(Drop)]
-pub struct Opened<F: Send, Z: Sealed<F> + Drop> {
+pub struct Opened<F: Send, Z: Sealed<F>> {
     pub(crate) name: String,
     pub(crate) snapshot: Snapshot<F, Z>,
     pub(crate) segments: Vec<Arc<Segment<F, Z>>>,
 }
 
-impl<F: Send, Z: Sealed<F> + Drop> Model for Opened<F, Z> {
+impl<F: Send, Z: Sealed<F>> Model for Opened<F, Z> {
     ghost use Rattle.std.specs.Prelude.{string_bytes};
     ghost use Rattle.fd_segment.specs.Shared.{standings};
     ghost use Rattle.fd_retrieve.specs.Open.{Open};
@@ -40,7 +40,7 @@ impl<F: Send, Z: Sealed<F> + Drop> Model for Opened<F, Z> {
     ghost view = { λ o. record { name = string_bytes o.name; shown = o.snapshot; segments = standings o.segments.items } };
 }
 
-impl<F: Send, Z: Sealed<F> + Drop> Opened<F, Z> {
+impl<F: Send, Z: Sealed<F>> Opened<F, Z> {
     /// Whether the dataset has this text.
     pub(crate) fn is(&self, name: &str) -> bool
         ensures { result ≡ bytes_eq name.now self.now.name }
@@ -78,7 +78,6 @@ pub fn open<F: Send, S: Store<F>, R: Wait>(
     name: &str,
 ) -> Result<Option<Opened<F, <S::Folder as Folder<F>>::Sealed>>, OpenFault<F>>
 where
-    <S::Folder as Folder<F>>::Sealed: Drop,
     requires home { (n : List ℕ) → S.out store.old n ≡ false }
     ensures opened { IfOk result (λ o. IfSome o (λ r. (r.name ≡ name.now) × IfSome (S.has store.old) (λ h. IsOpenIn h r))) }
     ensures same { IfOk result (λ o. IfSome o (λ r. map listing r.shown ≡ map listing r.segments)) }
@@ -107,7 +106,6 @@ fn open_in<F: Send, D: Folder<F>, R: Wait>(
     name: &str,
 ) -> Result<Option<Opened<F, D::Sealed>>, OpenFault<F>>
 where
-    D::Sealed: Drop,
     requires back { D.table_out folder.old ≡ false }
     requires dataset { D.name folder.old ≡ name.now }
     ensures opened { IfOk result (λ o. IfSome o (λ r. (r.name ≡ name.now) × IfSome (D.has folder.old) (λ v. IsOpenOf v r))) }
@@ -133,7 +131,7 @@ where
 }
 
 /// What a table lists, with its segments. The table comes back and lists what it listed.
-fn taken_up<F: Send, T: Disk<F>, Z: Sealed<F> + Drop, R: Wait>(
+fn taken_up<F: Send, T: Disk<F>, Z: Sealed<F>, R: Wait>(
     rt: &R,
     alloc: Global,
     name: &str,
@@ -171,7 +169,7 @@ fn taken_up<F: Send, T: Disk<F>, Z: Sealed<F> + Drop, R: Wait>(
 }
 
 /// A snapshot of the segments that a table lists. The table comes back and lists what it listed.
-fn shown<F: Send, T: Disk<F>, Z: Sealed<F> + Drop, R: Wait>(
+fn shown<F: Send, T: Disk<F>, Z: Sealed<F>, R: Wait>(
     rt: &R,
     alloc: Global,
     toc: Toc<F, T>,
@@ -195,7 +193,7 @@ fn shown<F: Send, T: Disk<F>, Z: Sealed<F> + Drop, R: Wait>(
 }
 
 // The same segments.
-fn copied<F: Send, Z: Sealed<F> + Drop>(
+fn copied<F: Send, Z: Sealed<F>>(
     alloc: Global,
     segments: &Vec<Arc<Segment<F, Z>>>,
 ) -> Result<Vec<Arc<Segment<F, Z>>>, AllocError>

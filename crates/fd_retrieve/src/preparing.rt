@@ -26,10 +26,7 @@ use std::sync::Wait;
 
 /// A request, the places of its keys, and the datasets of the places that have tables.
 #[derive(Drop)]
-pub(crate) struct Ready<F: Send, Z: Sealed<F> + Drop>
-where
-    Z::Reader: Drop,
-{
+pub(crate) struct Ready<F: Send, Z: Sealed<F>> {
     pub(crate) request: Request,
     pub(crate) places: Vec<Place>,
     pub(crate) datasets: Datasets<F, Z>,
@@ -44,8 +41,6 @@ pub(crate) fn prepared<F: Send + Drop, X: Drop, S: Store<F>, I: Source<X>, R: Wa
     input: &mut I,
 ) -> Result<Ready<F, <S::Folder as Folder<F>>::Sealed>, Stop<F>>
 where
-    <S::Folder as Folder<F>>::Sealed: Drop,
-    <<S::Folder as Folder<F>>::Sealed as Sealed<F>>::Reader: Drop,
     requires home { (n : List ℕ) → S.out store.old n ≡ false }
     ensures prepared { IfOk result (λ r. IfSome (S.has store.old) (λ h. IfSome (I.left input.old) (λ octets. IsReady h octets r.request r.places.items r.datasets))) }
     ensures count { IfOk result (λ r. length r.places.items ≡ length (expand r.request)) }
@@ -119,7 +114,6 @@ fn open_all<F: Send + Drop, S: Store<F>, R: Wait>(
     names: &[String],
 ) -> Result<Vec<Opened<F, <S::Folder as Folder<F>>::Sealed>>, Stop<F>>
 where
-    <S::Folder as Folder<F>>::Sealed: Drop,
     requires home { (n : List ℕ) → S.out store.old n ≡ false }
     ensures opened { IfOk result (λ v. IfSome (S.has store.old) (λ h. AreOpen h (texts names.now) v.items)) }
     ensures broken { IfErr result (λ e. IfSome (S.has store.old) (λ h. IsBrokenOf e h (texts names.now))) }
@@ -147,7 +141,6 @@ fn open_more<F: Send + Drop, S: Store<F>, R: Wait>(
     name: &str,
 ) -> Result<(), Stop<F>>
 where
-    <S::Folder as Folder<F>>::Sealed: Drop,
     requires home { (n : List ℕ) → S.out store.old n ≡ false }
     ensures opened { OnOk result (IfSome (S.has store.old) (λ h. MayOpen h opened.old.items name.now opened.new.items)) }
     ensures broken { IfErr result (λ e. IfSome (S.has store.old) (λ h. IsBrokenOf e h (name.now ∷ []))) }

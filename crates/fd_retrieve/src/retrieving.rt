@@ -45,8 +45,6 @@ pub fn retrieve<
     report: &mut E,
 ) -> Status
 where
-    <S::Folder as Folder<F>>::Sealed: Drop,
-    <<S::Folder as Folder<F>>::Sealed as Sealed<F>>::Reader: Drop,
     requires home { (name : List ℕ) → S.out store.old name ≡ false }
     ensures ran { Ran (Retrieve root.now) result (object (S.has store.old) (S.has store.new) (S.faults store.old) (S.faults store.new)) (object (I.left input.old) (I.left input.new) (I.faults input.old) (I.faults input.new)) (object (K.taken output.old) (K.taken output.new) (K.faults output.old) (K.faults output.new)) (object (E.taken report.old) (E.taken report.new) (E.faults report.old) (E.faults report.new)) }
     ensures home { (name : List ℕ) → S.out store.new name ≡ false }
@@ -58,7 +56,7 @@ where
 }
 
 /// Answers what stands ready.
-fn answered<F: Send + Drop, X: Drop, S: Store<F>, Z: Sealed<F> + Drop, K: Sink<X>, E: Sink<X>>(
+fn answered<F: Send + Drop, X: Drop, S: Store<F>, Z: Sealed<F>, K: Sink<X>, E: Sink<X>>(
     alloc: Global,
     store: &mut S,
     ready: Ready<F, Z>,
@@ -66,7 +64,6 @@ fn answered<F: Send + Drop, X: Drop, S: Store<F>, Z: Sealed<F> + Drop, K: Sink<X
     report: &mut E,
 ) -> Status
 where
-    Z::Reader: Drop,
     requires count { length ready.places.items ≡ length (expand ready.request) }
     ensures ran { (root : List ℕ) (before : Option Holdings) (faults : ℕ) (input : Object (List ℕ)) → Begins before (S.has store.old) faults (S.faults store.old) input ready.request ready.places.items ready.datasets
         → Ran (Retrieve root) result (object before (S.has store.new) faults (S.faults store.new)) input (object (K.taken output.old) (K.taken output.new) (K.faults output.old) (K.faults output.new)) (object (E.taken report.old) (E.taken report.new) (E.faults report.old) (E.faults report.new)) }
@@ -115,7 +112,7 @@ fn tell_counts<X: Drop, E: Sink<X>>(
 
 /// Writes the line of the damage that a look for a field of this place meets. Where none is met any more, nothing can be
 /// said of the files, as where memory is refused.
-fn tell_damage<F: Send + Drop, X: Drop, S: Store<F>, Z: Sealed<F> + Drop, E: Sink<X>>(
+fn tell_damage<F: Send + Drop, X: Drop, S: Store<F>, Z: Sealed<F>, E: Sink<X>>(
     alloc: Global,
     store: &mut S,
     datasets: &Datasets<F, Z>,
@@ -123,7 +120,6 @@ fn tell_damage<F: Send + Drop, X: Drop, S: Store<F>, Z: Sealed<F> + Drop, E: Sin
     report: &mut E,
 ) -> Status
 where
-    Z::Reader: Drop,
     ensures told { ToldDamage datasets.now (seen_place place.now) (Rose (S.faults store.old) (S.faults store.new)) result (E.taken report.old) (E.taken report.new) (E.faults report.old) (E.faults report.new) }
     ensures has { S.has store.new ≡ S.has store.old }
     ensures out { S.out store.new ≡ S.out store.old }

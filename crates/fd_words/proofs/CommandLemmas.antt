@@ -71,6 +71,9 @@ describe_is = record { met = refl; found = refl; name_is = refl; other = refl; l
 values_is : IsCommand (codes "values") (codes "decimals" ∷ []) (shape_named (codes "values"))
 values_is = record { met = refl; found = refl; name_is = refl; other = refl; leaf = record { shape = refl; help = refl; subcommand = refl } }
 
+generate_is : IsCommand (codes "generate") [] (shape_named (codes "generate"))
+generate_is = record { met = refl; found = refl; name_is = refl; other = refl; leaf = record { shape = refl; help = refl; subcommand = refl } }
+
 create_is : IsCommand (codes "create") [] (shape_named (codes "create"))
 create_is = record { met = refl; found = refl; name_is = refl; other = refl; leaf = record { shape = refl; help = refl; subcommand = refl } }
 
@@ -90,7 +93,7 @@ stats_is : IsCommand (codes "stats") [] (shape_named (codes "stats"))
 stats_is = record { met = refl; found = refl; name_is = refl; other = refl; leaf = record { shape = refl; help = refl; subcommand = refl } }
 
 all_are : AreCommands leaves
-all_are = (pick_is, (describe_is, (values_is, (create_is, (retrieve_is, (archive_is, (list_is, (axes_is, (stats_is, tt)))))))))
+all_are = (pick_is, (describe_is, (values_is, (generate_is, (create_is, (retrieve_is, (archive_is, (list_is, (axes_is, (stats_is, tt))))))))))
 
 -- a name among them is that of one, with its options
 abbrev Named : List Leaf → Text → Type 0

@@ -1,5 +1,5 @@
 -- What the words of the command line ask for.
-use Rattle.std.specs.Prelude.{◌≤◌, IfSome, Bool, false, not, ◌==◌, ◌^◌, nat_lt, length, List, [], ◌∷◌, codes, Option, Some, None, unwrap_or, option_and_then, option_map, is_some, ◌||◌, if◌then◌else◌, Result, Ok, Err}
+use Rattle.std.specs.Prelude.{◌≤◌, ◌<◌, IfSome, Bool, false, not, ◌==◌, ◌^◌, nat_lt, length, List, [], ◌∷◌, codes, Option, Some, None, unwrap_or, option_and_then, option_map, is_some, ◌||◌, if◌then◌else◌, Result, Ok, Err}
 use Rattle.std.specs.Str.{bytes_eq}
 use Rattle.std.specs.Map.{lookup}
 use Rattle.fd_key.specs.Pairs.{Pair, text_of}
@@ -7,7 +7,7 @@ use Rattle.fd_key.specs.Canonical.{pair_of}
 use Rattle.fd_key.specs.Given.{Refusal, given_of}
 use Rattle.fd_words.specs.declared.command.Command.{Command}
 use Rattle.fd_words.specs.declared.command.Command.TheVariants as commands
-use Rattle.fd_words.specs.Numbers.{decimals_number}
+use Rattle.fd_words.specs.Numbers.{count_number, decimals_number}
 use Rattle.fd_words.specs.Reading.{Text, Said}
 use Rattle.fd_words.specs.Saying.{said}
 
@@ -50,6 +50,12 @@ abbrev pub values_of : List Text → Option Text → Option Command
 values_of [] None = Some (commands.Values None)
 values_of [] (Some text) = option_map commands.Values (decimals_number text)
 values_of (word ∷ words) decimals = None
+
+-- `generate` has a number of messages
+abbrev pub generate_of : List Text → Option Command
+generate_of [] = None
+generate_of (word ∷ []) = option_map commands.Generate (count_number word)
+generate_of (word ∷ (other ∷ words)) = None
 
 -- ---- commands over a store
 
@@ -98,6 +104,7 @@ command_said name s =
     if bytes_eq name (codes "pick") then pick_of s.alone
     else if bytes_eq name (codes "describe") then describe_of s.alone
     else if bytes_eq name (codes "values") then values_of s.alone (lookup (bytes_eq (codes "decimals")) s.options)
+    else if bytes_eq name (codes "generate") then generate_of s.alone
     else option_and_then (rooted name (given_in (lookup (bytes_eq (codes "with")) s.options))) (root_of s.alone)
 
 -- The command that the words ask for, or none where they have no form: a command's name, then its options, each at most
@@ -105,26 +112,15 @@ command_said name s =
 abbrev pub command_of : List Text → Option Command
 command_of words = option_and_then (λ p. command_said p.0 p.1) (said words)
 
--- a command asks for at most 30 decimals
-abbrev pub HasFewDecimals : Command → Type 0
-HasFewDecimals (commands.Values decimals) = IfSome decimals (λ d. d ≤ 30)
-HasFewDecimals (commands.Pick wanted) = Unit {0}
-HasFewDecimals commands.Describe = Unit {0}
-HasFewDecimals (commands.Create root) = Unit {0}
-HasFewDecimals (commands.Archive root given) = Unit {0}
-HasFewDecimals (commands.Retrieve root) = Unit {0}
-HasFewDecimals (commands.List root) = Unit {0}
-HasFewDecimals (commands.Axes root) = Unit {0}
-HasFewDecimals (commands.Stats root) = Unit {0}
-
--- the command is written
-abbrev pub Stands : Command → Type 0
-Stands (commands.Pick wanted) = Unit {0}
-Stands commands.Describe = Unit {0}
-Stands (commands.Values decimals) = Unit {0}
-Stands (commands.Create root) = Unit {0}
-Stands (commands.Archive root given) = Unit {0}
-Stands (commands.Retrieve root) = Unit {0}
-Stands (commands.List root) = Unit {0}
-Stands (commands.Axes root) = Unit {0}
-Stands (commands.Stats root) = Unit {0}
+-- a command asks for at most 30 decimals, and for 1 to 100,000 messages
+abbrev pub IsWithinLimits : Command → Type 0
+IsWithinLimits (commands.Values decimals) = IfSome decimals (λ d. d ≤ 30)
+IsWithinLimits (commands.Generate count) = (0 < count) × (count ≤ 100000)
+IsWithinLimits (commands.Pick wanted) = Unit {0}
+IsWithinLimits commands.Describe = Unit {0}
+IsWithinLimits (commands.Create root) = Unit {0}
+IsWithinLimits (commands.Archive root given) = Unit {0}
+IsWithinLimits (commands.Retrieve root) = Unit {0}
+IsWithinLimits (commands.List root) = Unit {0}
+IsWithinLimits (commands.Axes root) = Unit {0}
+IsWithinLimits (commands.Stats root) = Unit {0}

@@ -7,9 +7,9 @@ ghost use Rattle.fd_words.specs.Texts.{texts};
 ghost use Rattle.fd_words.specs.Reading.{Said, Tells};
 ghost use Rattle.fd_words.specs.Grammar.{options_of};
 ghost use Rattle.fd_words.specs.declared.command.Command.TheVariants.{Archive};
-ghost use Rattle.fd_words.specs.Words.{command_of, command_said, listing_of, rooted, wanted_pairs, pick_of, describe_of, values_of, is_root, root_of, given_in, given_read, HasFewDecimals, Stands};
+ghost use Rattle.fd_words.specs.Words.{command_of, command_said, listing_of, rooted, wanted_pairs, pick_of, describe_of, values_of, is_root, root_of, given_in, given_read, IsWithinLimits, generate_of};
 
-use crate::numbers::decimals_number;
+use crate::numbers::{count_number, decimals_number};
 use crate::parse::{alone, option_text, parse};
 use crate::root::Root;
 use crate::wanted::Wanted;
@@ -27,6 +27,8 @@ pub enum Command {
     Describe,
     /// The values of each message of a stream, exactly, or with so many decimals.
     Values(Option<u8>),
+    /// So many messages that are made up.
+    Generate(u32),
     /// To store a schema.
     Create(Root),
     /// To store the messages of a stream, with the given pairs in their keys.
@@ -44,8 +46,7 @@ pub enum Command {
 /// The command that the words ask for, or none where they have no form.
 pub fn read_command(alloc: Global, words: &[&str]) -> Result<Option<Command>, NoMemory>
     ensures command { IfOk result (λ o. o ≡ command_of (texts words.now)) }
-    ensures few { IfOk result (λ o. IfSome o HasFewDecimals) }
-    ensures stands { IfOk result (λ o. IfSome o Stands) }
+    ensures within { IfOk result (λ o. IfSome o IsWithinLimits) }
 {
     match parse(alloc, words)? {
         None => Ok(None),
@@ -63,8 +64,7 @@ fn command_named(
     own: &ArgMatches<'_>,
 ) -> Result<Option<Command>, NoMemory>
     ensures command { (s : Said) → Tells (options_of name.now) s (rows_of (found_of own.now)) → IfOk result (λ o. o ≡ command_said name.now s) }
-    ensures few { IfOk result (λ o. IfSome o HasFewDecimals) }
-    ensures stands { IfOk result (λ o. IfSome o Stands) }
+    ensures within { IfOk result (λ o. IfSome o IsWithinLimits) }
 {
     match alone(own) {
         Some(words) => command_with(alloc, name, own, words),
@@ -80,8 +80,7 @@ fn command_with(
     words: &[&str],
 ) -> Result<Option<Command>, NoMemory>
     ensures command { (s : Said) → Tells (options_of name.now) s (rows_of (found_of own.now)) → s.alone ≡ texts words.now → IfOk result (λ o. o ≡ command_said name.now s) }
-    ensures few { IfOk result (λ o. IfSome o HasFewDecimals) }
-    ensures stands { IfOk result (λ o. IfSome o Stands) }
+    ensures within { IfOk result (λ o. IfSome o IsWithinLimits) }
 {
     if name == "pick" {
         return pick_command(alloc, words);
@@ -91,6 +90,9 @@ fn command_with(
     }
     if name == "values" {
         return Ok(values_command(words, option_text(own, "decimals")));
+    }
+    if name == "generate" {
+        return Ok(generate_command(words));
     }
     match root_in(alloc, words)? {
         Some(root) => rooted(alloc, name, root, own),
@@ -106,8 +108,7 @@ fn rooted(
     own: &ArgMatches<'_>,
 ) -> Result<Option<Command>, NoMemory>
     ensures command { (s : Said) → Tells (options_of name.now) s (rows_of (found_of own.now)) → IfOk result (λ o. o ≡ rooted name.now (given_in (lookup (bytes_eq (codes "with")) s.options)) root) }
-    ensures few { IfOk result (λ o. IfSome o HasFewDecimals) }
-    ensures stands { IfOk result (λ o. IfSome o Stands) }
+    ensures within { IfOk result (λ o. IfSome o IsWithinLimits) }
 {
     if name == "create" {
         return Ok(Some(Command::Create(root)));
@@ -124,8 +125,7 @@ fn rooted(
 /// A command that lists what a store holds.
 fn listing_of(name: &str, root: Root) -> Option<Command>
     ensures command { result ≡ listing_of name.now root }
-    ensures few { IfSome result HasFewDecimals }
-    ensures stands { IfSome result Stands }
+    ensures within { IfSome result IsWithinLimits }
 {
     if name == "list" {
         return Some(Command::List(root));
@@ -146,8 +146,7 @@ fn archive_command(
     with: Option<&str>,
 ) -> Result<Option<Command>, NoMemory>
     ensures command { IfOk result (λ o. o ≡ option_map (Archive root) (given_in (option_copied with.entry))) }
-    ensures few { IfOk result (λ o. IfSome o HasFewDecimals) }
-    ensures stands { IfOk result (λ o. IfSome o Stands) }
+    ensures within { IfOk result (λ o. IfSome o IsWithinLimits) }
 {
     let text = match with {
         Some(text) => text,
@@ -202,8 +201,7 @@ fn is_root(word: &str) -> bool
 /// `pick` of one or more pairs.
 fn pick_command(alloc: Global, words: &[&str]) -> Result<Option<Command>, NoMemory>
     ensures command { IfOk result (λ o. o ≡ pick_of (texts words.now)) }
-    ensures few { IfOk result (λ o. IfSome o HasFewDecimals) }
-    ensures stands { IfOk result (λ o. IfSome o Stands) }
+    ensures within { IfOk result (λ o. IfSome o IsWithinLimits) }
 {
     if words.is_empty() {
         return Ok(None);
@@ -217,8 +215,7 @@ fn pick_command(alloc: Global, words: &[&str]) -> Result<Option<Command>, NoMemo
 /// `describe`, which has no words behind it.
 fn describe_command(words: &[&str]) -> Option<Command>
     ensures command { result ≡ describe_of (texts words.now) }
-    ensures few { IfSome result HasFewDecimals }
-    ensures stands { IfSome result Stands }
+    ensures within { IfSome result IsWithinLimits }
 {
     match words {
         [] => Some(Command::Describe),
@@ -229,8 +226,7 @@ fn describe_command(words: &[&str]) -> Option<Command>
 /// `values`, with or without a number of decimals.
 fn values_command(words: &[&str], decimals: Option<&str>) -> Option<Command>
     ensures command { result ≡ values_of (texts words.now) (option_copied decimals.entry) }
-    ensures few { IfSome result HasFewDecimals }
-    ensures stands { IfSome result Stands }
+    ensures within { IfSome result IsWithinLimits }
 {
     if !words.is_empty() {
         return None;
@@ -240,6 +236,20 @@ fn values_command(words: &[&str], decimals: Option<&str>) -> Option<Command>
     };
     match decimals_number(text.as_bytes()) {
         Some(decimals) => Some(Command::Values(decimals)),
+        None => None,
+    }
+}
+
+/// `generate` of a number of messages.
+fn generate_command(words: &[&str]) -> Option<Command>
+    ensures command { result ≡ generate_of (texts words.now) }
+    ensures within { IfSome result IsWithinLimits }
+{
+    let [word] = words else {
+        return None;
+    };
+    match count_number(word.as_bytes()) {
+        Some(count) => Some(Command::Generate(count)),
         None => None,
     }
 }

@@ -11,6 +11,3 @@ mod wanted;
 pub use command::{Command, read_command};
 pub use root::Root;
 pub use wanted::Wanted;
-
-#[cfg(test)]
-mod tests;

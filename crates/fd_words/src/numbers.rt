@@ -1,6 +1,6 @@
 // Numbers in the words of the command line.
-ghost use Rattle.std.specs.Prelude.{◌≡◌, ◌≤◌, IfSome};
-ghost use Rattle.fd_words.specs.Numbers.{number_of, decimals_number};
+ghost use Rattle.std.specs.Prelude.{◌≡◌, ◌≤◌, ◌<◌, IfSome};
+ghost use Rattle.fd_words.specs.Numbers.{count_number, number_of, decimals_number};
 
 use fd_key::{is_numeral, number_of};
 
@@ -29,5 +29,16 @@ pub(crate) fn decimals_number(text: &[u8]) -> Option<Option<u8>>
         Some(Some(number as u8))
     } else {
         None
+    }
+}
+
+/// The number of messages that a text writes, which is 1 to 100,000.
+pub(crate) fn count_number(text: &[u8]) -> Option<u32>
+    ensures number { result ≡ count_number text.now }
+    ensures few { IfSome result (λ n. (0 < n) × (n ≤ 100000)) }
+{
+    match short_number(text) {
+        Some(number @ 1..=100_000) => Some(number as u32),
+        _ => None,
     }
 }

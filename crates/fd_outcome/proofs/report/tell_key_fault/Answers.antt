@@ -8,4 +8,4 @@ use Rattle.fd_outcome.proofs.report.tell_key_fault.Goals as goal
 
 pub returns-in-Ok : goal.returns-in-Ok
 returns-in-Ok g c =
-    subst (λ (t : List ℕ). ToldOrNoMemory Refused (line (codes "refused key " ++ decimal c.args.number ++ codes " " ++ t)) c.tell_kind.result (g.E.Sink.taken c.args.report.now) (g.E.Sink.taken c.tell_kind.new.report) (g.E.Sink.faults c.args.report.now) (g.E.Sink.faults c.tell_kind.new.report)) (c.as_str.ensures.value ∙ c.in-Ok.ensures) c.tell_kind.ensures
+    subst (λ (t : List ℕ). ToldOrNoMemory Refused (line (codes "refused key " ++ decimal c.args.number ++ codes " " ++ t)) c.tell_kind.result (g.E.Sink.taken c.args.report.now) (g.E.Sink.taken c.tell_kind.new.report) (g.E.Sink.faults c.args.report.now) (g.E.Sink.faults c.tell_kind.new.report)) (c.as_str.ensures.value ∙ c.in-Ok.ensures.ok) c.tell_kind.ensures

@@ -12,6 +12,9 @@ returns-in-Describe-clause-ran g c = subst (λ command. Ran command c.write_list
 pub returns-in-Values-clause-ran : goal.returns-in-Values-clause-ran
 returns-in-Values-clause-ran g c = subst (λ command. Ran command c.write_list-in-Values.result (object (g.S.Store.has c.args.store.now) (g.S.Store.has c.args.store.now) (g.S.Store.faults c.args.store.now) (g.S.Store.faults c.args.store.now)) (object (g.I.Source.left c.args.input.now) (g.I.Source.left c.write_list-in-Values.new.input) (g.I.Source.faults c.args.input.now) (g.I.Source.faults c.write_list-in-Values.new.input)) (object (g.K.Sink.taken c.args.output.now) (g.K.Sink.taken c.write_list-in-Values.new.output) (g.K.Sink.faults c.args.output.now) (g.K.Sink.faults c.write_list-in-Values.new.output)) (object (g.E.Sink.taken c.args.report.now) (g.E.Sink.taken c.write_list-in-Values.new.report) (g.E.Sink.faults c.args.report.now) (g.E.Sink.faults c.write_list-in-Values.new.report))) (sym c.in-Values.is) (c.write_list-in-Values.ensures _ _)
 
+pub returns-in-Generate-clause-ran : goal.returns-in-Generate-clause-ran
+returns-in-Generate-clause-ran g c = subst (λ command. Ran command c.generate.result (object (g.S.Store.has c.args.store.now) (g.S.Store.has c.args.store.now) (g.S.Store.faults c.args.store.now) (g.S.Store.faults c.args.store.now)) (object (g.I.Source.left c.args.input.now) (g.I.Source.left c.args.input.now) (g.I.Source.faults c.args.input.now) (g.I.Source.faults c.args.input.now)) (object (g.K.Sink.taken c.args.output.now) (g.K.Sink.taken c.generate.new.output) (g.K.Sink.faults c.args.output.now) (g.K.Sink.faults c.generate.new.output)) (object (g.E.Sink.taken c.args.report.now) (g.E.Sink.taken c.generate.new.report) (g.E.Sink.faults c.args.report.now) (g.E.Sink.faults c.generate.new.report))) (sym c.in-Generate.is) (c.generate.ensures _ _ _ _)
+
 pub returns-in-Create-clause-ran : goal.returns-in-Create-clause-ran
 returns-in-Create-clause-ran g c = subst (λ command. Ran command c.create.result (object (g.S.Store.has c.args.store.now) (g.S.Store.has c.create.new.store) (g.S.Store.faults c.args.store.now) (g.S.Store.faults c.create.new.store)) (object (g.I.Source.left c.args.input.now) (g.I.Source.left c.create.new.input) (g.I.Source.faults c.args.input.now) (g.I.Source.faults c.create.new.input)) (object (g.K.Sink.taken c.args.output.now) (g.K.Sink.taken c.args.output.now) (g.K.Sink.faults c.args.output.now) (g.K.Sink.faults c.args.output.now)) (object (g.E.Sink.taken c.args.report.now) (g.E.Sink.taken c.create.new.report) (g.E.Sink.faults c.args.report.now) (g.E.Sink.faults c.create.new.report))) (sym c.in-Create.is) (c.create.ensures.ran _ _)
 

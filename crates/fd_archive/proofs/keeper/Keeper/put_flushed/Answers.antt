@@ -1,7 +1,6 @@
 use Rattle.std.proofs.Common.{◌≡◌, ◌∙◌, Ok, Err, ap, subst, refl, length}
 use Rattle.fd_core.specs.declared.batch.Pair.{Pair}
 use Rattle.fd_archiver.specs.declared.fault.ArchiveFault.{ArchiveFault}
-use Rattle.fd_archiver.specs.declared.fault.ArchiveFault.TheVariants as archives
 use Rattle.fd_library.specs.Open.{OpenDataset}
 use Rattle.fd_outcome.specs.Archiving.{pairs_for}
 use Rattle.fd_schema.specs.Rules.{file_key}
@@ -11,7 +10,7 @@ use Rattle.fd_archive.specs.Turns.{Flushes, IsNotFull, Puts, Turns}
 use Rattle.fd_archive.proofs.Room.{emptied_next, put_at}
 use Rattle.fd_archive.proofs.Sweeping.{may_flush}
 use Rattle.fd_archive.proofs.Sweeps.{put_refused}
-use Rattle.fd_archive.proofs.Turning.{course_at, emptied_open, flushed_went, keeps_on, keeps_stopped, names_stay, ready, was_filled, went}
+use Rattle.fd_archive.proofs.Turning.{course_at, emptied_open, flushed_went, names_stay, ready, was_filled, went}
 use Rattle.fd_archive.proofs.keeper.Keeper.put_flushed.Goals as goal
 
 pub flush-requires-clause-at : goal.flush-requires-clause-at
@@ -124,21 +123,6 @@ returns-in-Err-Disk-clause-names g c =
     names_stay has kept r.start r.now l c.put.new.self n _ u (ap (λ (d : OpenDataset g.row.S-Folder.Denot). d.name) u.how.0)
     ∙ names_stay has kept r.start r.now k l n (Flushes has kept (Ok c.in-Ok.field-0)) t (ap (λ (d : OpenDataset g.row.S-Folder.Denot). d.name) t.how.rest)
 
-pub returns-in-Err-NoMemory-clause-names : goal.returns-in-Err-NoMemory-clause-names
-returns-in-Err-NoMemory-clause-names g c =
-    let has = g.S.Folder.Folder.has in
-    let kept = g.S.Folder.Shelf.Shelf.kept in
-    let name = (seen_place c.args.place.now).dataset in
-    let p : Pair = record { key = file_key (seen_place c.args.place.now); bytes = c.args.octets.now } in
-    let n = c.args.number in
-    let k = c.args.self.now in
-    let l = c.flush.new.self in
-    let r = c.requires.at in
-    let t = c.in-Ok.ensures in
-    let u = c.in-Err-NoMemory.ensures in
-    names_stay has kept r.start r.now l c.put.new.self n _ u (ap (λ (d : OpenDataset g.row.S-Folder.Denot). d.name) u.how.0)
-    ∙ names_stay has kept r.start r.now k l n (Flushes has kept (Ok c.in-Ok.field-0)) t (ap (λ (d : OpenDataset g.row.S-Folder.Denot). d.name) t.how.rest)
-
 pub returns-in-Ok-put-clause-stores : goal.returns-in-Ok-put-clause-stores
 returns-in-Ok-put-clause-stores g c =
     let has = g.S.Folder.Folder.has in
@@ -154,20 +138,3 @@ returns-in-Ok-put-clause-stores g c =
     let w = flushed_went has kept start now n all k l (λ i. Filling) refl o.keeps (Ok c.in-Ok.field-0) t in
     let q = emptied_open has kept start now name n all k l o filled (Ok c.in-Ok.field-0) t (w.1 (was_filled has kept start now name n all k l o filled (Ok c.in-Ok.field-0) t)) in
     ready has kept start now name n all l c.put.new.self q (Ok c.in-Ok-put.field-0) p u (went has kept start now name n all l c.put.new.self q (Ok c.in-Ok-put.field-0) p u)
-
-pub returns-in-Err-NoMemory-clause-stores : goal.returns-in-Err-NoMemory-clause-stores
-returns-in-Err-NoMemory-clause-stores g c =
-    let has = g.S.Folder.Folder.has in
-    let kept = g.S.Folder.Shelf.Shelf.kept in
-    let name = (seen_place c.args.place.now).dataset in
-    let p : Pair = record { key = file_key (seen_place c.args.place.now); bytes = c.args.octets.now } in
-    let n = c.args.number in
-    let k = c.args.self.now in
-    let l = c.flush.new.self in
-    let t = c.in-Ok.ensures in
-    let u : Turns n l c.put.new.self (λ h w g x. (g ≡ h) × Puts has kept (Err archives.NoMemory) p h w x) =
-    subst (λ (e : ArchiveFault g.row.F.Denot). Turns n l c.put.new.self (λ h w g x. (g ≡ h) × Puts has kept (Err e) p h w x)) c.in-Err-NoMemory.field-0-is c.in-Err-NoMemory.ensures in
-    λ start now all o filled.
-    let w = flushed_went has kept start now n all k l (λ i. Filling) refl o.keeps (Ok c.in-Ok.field-0) t in
-    let q = emptied_open has kept start now name n all k l o filled (Ok c.in-Ok.field-0) t (w.1 (was_filled has kept start now name n all k l o filled (Ok c.in-Ok.field-0) t)) in
-    keeps_stopped has kept start now all c.put.new.self (keeps_on has kept start now name n all l c.put.new.self q (Err archives.NoMemory) p u (went has kept start now name n all l c.put.new.self q (Err archives.NoMemory) p u))

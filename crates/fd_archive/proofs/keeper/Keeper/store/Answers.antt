@@ -11,7 +11,7 @@ use Rattle.fd_archive.specs.Answers.{IsOpenAt, Refuses}
 use Rattle.fd_archive.specs.Keeps.{IsReady}
 use Rattle.fd_archive.specs.Turns.{Puts, Turns}
 use Rattle.fd_archive.proofs.Room.{put_at}
-use Rattle.fd_archive.proofs.Turning.{keeps_on, keeps_stopped, names_stay, ready, still_filled, still_open, went}
+use Rattle.fd_archive.proofs.Turning.{names_stay, ready, still_filled, still_open, went}
 use Rattle.fd_archive.proofs.keeper.Keeper.store.Goals as goal
 
 pub put-requires-clause-at : goal.put-requires-clause-at
@@ -93,25 +93,6 @@ returns-in-Ok-clause-stores g c =
     let o = opens start all r in
     ready has kept start after name n all k c.put.new.self o (Ok c.in-Ok.field-0) p u (went has kept start after name n all k c.put.new.self o (Ok c.in-Ok.field-0) p u)
 
-pub returns-in-Err-NoMemory-clause-stores : goal.returns-in-Err-NoMemory-clause-stores
-returns-in-Err-NoMemory-clause-stores g c =
-    let has = g.S.Folder.Folder.has in
-    let kept = g.S.Folder.Shelf.Shelf.kept in
-    let name = (seen_place c.args.place.now).dataset in
-    let p : Pair = record { key = file_key (seen_place c.args.place.now); bytes = c.args.octets.now } in
-    let n = c.in_ok-number.number in
-    let before = g.S.Store.has c.args.store.now in
-    let after = g.S.Store.has c.opened.new.store in
-    let k = c.opened.new.self in
-    let named : c.as_str.result.now ≡ name = search rules in
-    let opens : (start : Option Holdings) (all : List Stored) → IsReady has kept start before all c.args.self.now → IsOpenAt has kept name n start after all k =
-    λ start all r. subst (λ (m : List ℕ). IsOpenAt has kept m n start after all k) named (c.in_ok-number.ensures.opens start all r) in
-    let u : Turns n k c.put.new.self (λ h w g x. (g ≡ h) × Puts has kept (Err archives.NoMemory) p h w x) =
-    subst (λ (e : ArchiveFault g.row.F.Denot). Turns n k c.put.new.self (λ h w g x. (g ≡ h) × Puts has kept (Err e) p h w x)) c.in-Err-NoMemory.field-0-is c.in-Err-NoMemory.ensures in
-    λ start all r.
-    let o = opens start all r in
-    keeps_stopped has kept start after all c.put.new.self (keeps_on has kept start after name n all k c.put.new.self o (Err archives.NoMemory) p u (went has kept start after name n all k c.put.new.self o (Err archives.NoMemory) p u))
-
 pub returns-in-Err-Full-clause-stores : goal.returns-in-Err-Full-clause-stores
 returns-in-Err-Full-clause-stores g c =
     let has = g.S.Folder.Folder.has in
@@ -162,22 +143,6 @@ returns-in-Err-Disk-clause-out g c =
     let opens : (start : Option Holdings) (all : List Stored) → IsReady has kept start before all c.args.self.now → IsOpenAt has kept name n start after all k =
     λ start all r. subst (λ (m : List ℕ). IsOpenAt has kept m n start after all k) named (c.in_ok-number.ensures.opens start all r) in
     let u = c.in-Err-Disk.ensures in
-    λ m is. ap (among m) (names_stay has kept before after k c.put.new.self n _ u (ap (λ (d : OpenDataset g.row.S-Folder.Denot). d.name) u.how.0)) ∙ c.opened.ensures.out m is
-
-pub returns-in-Err-NoMemory-clause-out : goal.returns-in-Err-NoMemory-clause-out
-returns-in-Err-NoMemory-clause-out g c =
-    let has = g.S.Folder.Folder.has in
-    let kept = g.S.Folder.Shelf.Shelf.kept in
-    let name = (seen_place c.args.place.now).dataset in
-    let p : Pair = record { key = file_key (seen_place c.args.place.now); bytes = c.args.octets.now } in
-    let n = c.in_ok-number.number in
-    let before = g.S.Store.has c.args.store.now in
-    let after = g.S.Store.has c.opened.new.store in
-    let k = c.opened.new.self in
-    let named : c.as_str.result.now ≡ name = search rules in
-    let opens : (start : Option Holdings) (all : List Stored) → IsReady has kept start before all c.args.self.now → IsOpenAt has kept name n start after all k =
-    λ start all r. subst (λ (m : List ℕ). IsOpenAt has kept m n start after all k) named (c.in_ok-number.ensures.opens start all r) in
-    let u = c.in-Err-NoMemory.ensures in
     λ m is. ap (among m) (names_stay has kept before after k c.put.new.self n _ u (ap (λ (d : OpenDataset g.row.S-Folder.Denot). d.name) u.how.0)) ∙ c.opened.ensures.out m is
 
 pub returns-in-Err-Full-clause-out : goal.returns-in-Err-Full-clause-out

@@ -1,0 +1,16 @@
+use Rattle.std.proofs.Common.{◌≡◌, ◌≤◌}
+use Rattle.std.specs.Prelude.{vec_len}
+use Rattle.fd_streams.specs.Found.{IsWaiting}
+use Rattle.fd_streams.specs.Run.{Reads, Searched}
+use Rattle.fd_streams.proofs.picking.last_wanted.Given as goal
+
+abbrev pub invariant-loop : goal.invariant-loop
+invariant-loop g l = record {
+  searched : Reads (g.I.Source.left l.fn.input) (g.I.Source.left l.input) (Searched l.wanted l.splitter l.last);
+  waiting : IsWaiting l.splitter;
+  fed : l.splitter.fed ≡ l.total;
+  limit : l.total ≤ 68719476736;
+  turns : l.counter ≤ l.total;
+  room : vec_len l.buffer ≡ 65536;
+  calm : g.I.Source.faults l.input ≡ g.I.Source.faults l.fn.input;
+}

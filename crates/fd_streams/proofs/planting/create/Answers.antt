@@ -1,0 +1,31 @@
+use Rattle.std.proofs.Common.{◌≡◌, ◌∙◌, refl, subst, Some, ◌≤◌, arith}
+use Rattle.std.specs.Prelude.{IfSome, option_map}
+use Rattle.fd_bytes.specs.Causes.{Rose}
+use Rattle.fd_disk.specs.Causes.{OnFault}
+use Rattle.fd_streams.proofs.CreateExits.{disk_stop_at, earlier, memory_stop_at, present_at, rose_later}
+use Rattle.fd_streams.proofs.planting.create.Goals as goal
+
+pub returns-in-Err-Fault-clause-ran : goal.returns-in-Err-Fault-clause-ran
+returns-in-Err-Fault-clause-ran g c = λ a k.
+    let rose = subst (λ e. OnFault e (Rose (g.S.Store.faults c.args.store.now) (g.S.Store.faults c.enter.new.self))) c.in-Err-Fault.field-0-is c.in-Err-Fault.ensures.cause.failed in
+    disk_stop_at _ _ _ _ _ _ _ _ a k _ _ _ _ _ _ c.in-Err-Fault.ensures.has c.tell_disk_failed.ensures rose
+
+pub returns-in-Err-NoMemory-clause-ran : goal.returns-in-Err-NoMemory-clause-ran
+returns-in-Err-NoMemory-clause-ran g c = λ a k. memory_stop_at _ _ _ _ _ _ _ _ a k _ _ _ _ _ _ c.in-Err-NoMemory.ensures.has c.tell_no_memory.ensures
+
+pub returns-in-Ok-None-clause-ran : goal.returns-in-Ok-None-clause-ran
+returns-in-Ok-None-clause-ran g c = λ a k.
+    let later : g.S.Store.faults c.args.store.now ≤ g.S.Store.faults c.schema.new.self = omega (arith, c.in-Ok.ensures.cause.later, c.in-Ok-None.ensures.cause.later) in
+    earlier _ _ _ _ _ _ _ _ _ _ _ (c.in-Ok-None.ensures.has ∙ c.in-Ok.ensures.has) later (c.plant.ensures.ran a k)
+
+pub returns-in-Ok-Some-clause-ran : goal.returns-in-Ok-Some-clause-ran
+returns-in-Ok-Some-clause-ran g c = λ a k.
+    present_at _ _ _ _ _ _ _ _ a k _ _ _ _ _ _ (c.in-Ok-Some.ensures.has ∙ c.in-Ok.ensures.has) refl c.tell.ensures c.in-Ok-Some.field-0-0 (subst (λ k. IfSome k (λ s. option_map (λ v. v.items) (Some c.in-Ok-Some.field-0-0) ≡ s.schema)) c.in-Ok.ensures.has (subst (λ o. IfSome (g.S.Store.has c.enter.new.self) (λ s. option_map (λ v. v.items) o ≡ s.schema)) c.in-Ok-Some.field-0-is c.in-Ok-Some.ensures.given))
+
+pub returns-in-Err-Fault-schema-clause-ran : goal.returns-in-Err-Fault-schema-clause-ran
+returns-in-Err-Fault-schema-clause-ran g c = λ a k.
+    let rose = subst (λ e. OnFault e (Rose (g.S.Store.faults c.enter.new.self) (g.S.Store.faults c.schema.new.self))) c.in-Err-Fault-schema.field-0-is c.in-Err-Fault-schema.ensures.cause.failed in
+    disk_stop_at _ _ _ _ _ _ _ _ a k _ _ _ _ _ _ (c.in-Err-Fault-schema.ensures.has ∙ c.in-Ok.ensures.has) c.tell_disk_failed-in-Err-Fault-schema.ensures (rose_later _ _ _ c.in-Ok.ensures.cause.later rose)
+
+pub returns-clause-ran : goal.returns-clause-ran
+returns-clause-ran g c = λ a k. memory_stop_at _ _ _ _ _ _ _ _ a k _ _ _ _ _ _ (c.in-Err-NoMemory-schema.ensures.has ∙ c.in-Ok.ensures.has) c.tell_no_memory-in-Err-NoMemory-schema.ensures

@@ -1,0 +1,45 @@
+use Rattle.std.proofs.Common.{◌≡◌, ◌∙◌, sym, ap, subst, Err, Ok}
+use Rattle.std.specs.Prelude.{◌⊎◌, option_map}
+use Rattle.fd_bytes.specs.Causes.{Rose}
+use Rattle.fd_disk.specs.Folders.{planted as stores}
+use Rattle.fd_schema.specs.Grammar.{schema_of}
+use Rattle.fd_disk.specs.Causes.{OnFault, OnNoMemory}
+use Rattle.fd_schema.specs.Reading.{GivesSchema}
+use Rattle.fd_outcome.specs.Reading.{OnUnread}
+use Rattle.fd_streams.proofs.CreateExits.{RanTo, input_stop, memory_stop, bad, done, failed}
+use Rattle.fd_streams.proofs.planting.plant.Goals as goal
+
+pub returns-in-Err-Fault-clause-ran : goal.returns-in-Err-Fault-clause-ran
+returns-in-Err-Fault-clause-ran g c = λ a k. input_stop _ _ _ _ _ _ _ _ a k _ _ _ _ _ c.tell_input_failed.ensures
+    (subst (λ e. OnUnread e (Rose (g.I.Source.faults c.args.input.now) (g.I.Source.faults c.read_front.new.input))) c.in-Err-Fault.field-0-is c.in-Err-Fault.ensures.cause)
+
+pub returns-in-Err-NoMemory-clause-ran : goal.returns-in-Err-NoMemory-clause-ran
+returns-in-Err-NoMemory-clause-ran g c = λ a k. memory_stop _ _ _ _ _ _ _ _ a k _ _ _ _ _ c.tell_no_memory.ensures
+
+pub returns-in-Err-At-clause-ran : goal.returns-in-Err-At-clause-ran
+returns-in-Err-At-clause-ran g c = λ a k.
+    let first = subst (λ e. GivesSchema c.in-Ok.text.items (Err e)) c.in-Err-At.field-0-is (subst (λ t. GivesSchema t (Err c.in-Err-At.field-0)) c.deref.ensures.value c.in-Err-At.ensures) in
+    bad _ _ _ _ _ _ _ _ a k _ _ _ _ _ c.in-Ok.text.items c.in-Ok.ensures.given c.in-Ok.ensures.whole c.requires.none c.in-Ok.ensures.calm first.0 first.1.place (c.tell_schema.ensures c.in-Ok.text.items first.0 first.1)
+
+pub returns-in-Err-NoMemory-read-clause-ran : goal.returns-in-Err-NoMemory-read-clause-ran
+returns-in-Err-NoMemory-read-clause-ran g c = λ a k. memory_stop _ _ _ _ _ _ _ _ a k _ _ _ _ _ c.tell_no_memory-in-Err-NoMemory-read.ensures
+
+pub returns-in-Ok-plant-clause-ran : goal.returns-in-Ok-plant-clause-ran
+returns-in-Ok-plant-clause-ran g c = λ a k.
+    let rules = subst (λ t. schema_of t ≡ Ok c.in-Ok-read.field-0) c.deref.ensures.value c.in-Ok-read.ensures in
+    let now = c.in-Ok-plant.ensures.ok ∙ ap (λ t. option_map (stores t) (g.S.Store.has c.args.store.now)) c.deref-2.ensures.value in
+    subst (RanTo c.args.root.now (g.S.Store.has c.args.store.now) (g.S.Store.faults c.args.store.now) (g.S.Store.faults c.plant.new.self) (g.I.Source.left c.args.input.now) (g.I.Source.left c.read_front.new.input) (g.I.Source.faults c.args.input.now) (g.I.Source.faults c.read_front.new.input) a k (g.E.Sink.taken c.args.report.now) (g.E.Sink.taken c.tell.new.report) (g.E.Sink.faults c.args.report.now) (g.E.Sink.faults c.tell.new.report) c.tell.result) (sym now)
+    (done _ _ _ _ _ _ _ _ a k _ _ _ _ _ c.in-Ok.text.items c.in-Ok.ensures.given c.in-Ok.ensures.whole c.requires.none c.in-Ok.ensures.calm c.in-Ok-read.field-0 rules c.tell.ensures)
+
+pub returns-in-Err-Fault-plant-clause-ran : goal.returns-in-Err-Fault-plant-clause-ran
+returns-in-Err-Fault-plant-clause-ran g c = λ a k.
+    let rules = subst (λ t. schema_of t ≡ Ok c.in-Ok-read.field-0) c.deref.ensures.value c.in-Ok-read.ensures in
+    let now = subst (λ t. (g.S.Store.has c.plant.new.self ≡ g.S.Store.has c.args.store.now) ⊎ (g.S.Store.has c.plant.new.self ≡ option_map (stores t) (g.S.Store.has c.args.store.now))) c.deref-2.ensures.value c.in-Err-Fault-plant.ensures.err in
+    let rose = subst (λ e. OnFault e (Rose (g.S.Store.faults c.args.store.now) (g.S.Store.faults c.plant.new.self))) c.in-Err-Fault-plant.field-0-is c.in-Err-Fault-plant.ensures.cause.failed in
+    failed _ _ _ _ _ _ _ _ a k _ _ _ _ _ c.in-Ok.text.items c.in-Ok.ensures.given c.in-Ok.ensures.whole c.requires.none c.in-Ok.ensures.calm c.in-Ok-read.field-0 rules _ now c.tell_disk_failed.ensures rose
+
+pub returns-clause-ran : goal.returns-clause-ran
+returns-clause-ran g c = λ a k.
+    let same = subst (λ e. OnNoMemory e (g.S.Store.has c.plant.new.self ≡ g.S.Store.has c.args.store.now)) c.in-Err-NoMemory-plant.field-0-is c.in-Err-NoMemory-plant.ensures.refused in
+    subst (RanTo c.args.root.now (g.S.Store.has c.args.store.now) (g.S.Store.faults c.args.store.now) (g.S.Store.faults c.plant.new.self) (g.I.Source.left c.args.input.now) (g.I.Source.left c.read_front.new.input) (g.I.Source.faults c.args.input.now) (g.I.Source.faults c.read_front.new.input) a k (g.E.Sink.taken c.args.report.now) (g.E.Sink.taken c.tell_no_memory-in-Err-NoMemory-plant.new.report) (g.E.Sink.faults c.args.report.now) (g.E.Sink.faults c.tell_no_memory-in-Err-NoMemory-plant.new.report) c.tell_no_memory-in-Err-NoMemory-plant.result) (sym same)
+    (memory_stop _ _ _ _ _ _ _ _ a k _ _ _ _ _ c.tell_no_memory-in-Err-NoMemory-plant.ensures)

@@ -1,0 +1,20 @@
+use Rattle.std.proofs.Common.{◌∙◌, sym, subst}
+use Rattle.std.specs.Prelude.{slice_index, codes, ◌++◌, if◌then◌else◌}
+use Rattle.std.specs.Fmt.{decimal}
+use Rattle.fd_listing.specs.Lines.{blank, line}
+use Rattle.fd_schema.specs.Reading.{line_of}
+use Rattle.fd_schema.specs.FaultTexts.{schema_wrong_text}
+use Rattle.fd_outcome.specs.declared.status.Status.TheVariants.{Refused}
+use Rattle.fd_outcome.specs.Causes.{schema_limit, schema_place, refused_so}
+use Rattle.fd_outcome.specs.Told.{ToldOrNoMemory}
+use Rattle.fd_streams.proofs.planting.tell_schema.Goals as goal
+
+pub returns : goal.returns
+returns g c = λ text fault first.
+    let byte = slice_index text fault.at in
+    let plain = sym (c.is_schema_limit.ensures byte fault.kind first.kind_is) ∙ c.if-is_schema_limit.false in
+    let kind_is = c.as_str-else-is_schema_limit.ensures.value ∙ c.in-Ok.ensures byte fault.kind first.kind_is in
+    let told : ToldOrNoMemory Refused (line (codes "refused schema " ++ decimal (line_of text fault.at) ++ blank (schema_wrong_text byte fault.kind))) c.tell_place.result (g.E.Sink.taken c.args.report.now) (g.E.Sink.taken c.tell_place.new.report) (g.E.Sink.faults c.args.report.now) (g.E.Sink.faults c.tell_place.new.report) =
+    subst (λ n. ToldOrNoMemory Refused (line (codes "refused schema " ++ decimal n ++ blank (schema_wrong_text byte fault.kind))) c.tell_place.result (g.E.Sink.taken c.args.report.now) (g.E.Sink.taken c.tell_place.new.report) (g.E.Sink.faults c.args.report.now) (g.E.Sink.faults c.tell_place.new.report)) first.line_is
+    (subst (λ t. ToldOrNoMemory Refused (line (codes "refused schema " ++ decimal c.args.line ++ blank t)) c.tell_place.result (g.E.Sink.taken c.args.report.now) (g.E.Sink.taken c.tell_place.new.report) (g.E.Sink.faults c.args.report.now) (g.E.Sink.faults c.tell_place.new.report)) kind_is c.tell_place.ensures) in
+    subst (λ b. ToldOrNoMemory (if b then schema_limit text fault else refused_so (schema_place text fault)).status (if b then schema_limit text fault else refused_so (schema_place text fault)).line c.tell_place.result (g.E.Sink.taken c.args.report.now) (g.E.Sink.taken c.tell_place.new.report) (g.E.Sink.faults c.args.report.now) (g.E.Sink.faults c.tell_place.new.report)) (sym plain) told

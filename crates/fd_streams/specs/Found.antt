@@ -1,0 +1,73 @@
+-- What a search for the last message that is wanted finds, and how far it is.
+use Rattle.std.specs.Prelude.{◌≡◌, ◌<◌, ◌++◌, length, ℕ, List, Option, Some, None, Result, Ok, Err, true, false, Bool}
+use Rattle.fd_sections.specs.Message.{Sections, message_octets}
+use Rattle.fd_sections.specs.Progress.{Progress}
+use Rattle.fd_sections.specs.Splitting.{answer}
+use Rattle.fd_sections.specs.Stream.{first, stream}
+use Rattle.fd_key.specs.Pairs.{Pair}
+use Rattle.fd_outcome.specs.declared.refusal.Refusal.{Refusal}
+use Rattle.fd_streams.specs.declared.picking.Stop.{Stop}
+use Rattle.fd_streams.specs.declared.picking.Stop.TheVariants as stop
+use Rattle.fd_streams.specs.declared.picking.Last.{Last}
+use Rattle.fd_outcome.specs.Picking.{found_after}
+
+-- what was found last is this message
+abbrev pub IsLast : Last → Option Sections → Type 0
+IsLast last None = last.found ≡ false
+IsLast last (Some m) = (last.found ≡ true) × (last.octets.items ≡ message_octets m)
+
+-- a search that stopped so found this; a fault and want of memory say nothing of it
+abbrev pub StoppedAs : {X : Type 0} → Stop X → Result (Option Sections) Refusal → Type 0
+StoppedAs (stop.Fault fault) f = Unit {0}
+StoppedAs (stop.Refused refusal) f = f ≡ Err refusal
+StoppedAs stop.NoMemory f = Unit {0}
+
+-- what a search answers is what is found
+abbrev pub Answers : {X : Type 0} → Result Last (Stop X) → Result (Option Sections) Refusal → Type 0
+Answers (Ok last) f = (m : Option Sections) × (f ≡ Ok m) × IsLast last m
+Answers (Err e) f = StoppedAs e f
+
+abbrev pub is_fault : {X : Type 0} → Stop X → Bool
+is_fault (stop.Fault fault) = true
+is_fault (stop.Refused refusal) = false
+is_fault stop.NoMemory = false
+
+abbrev pub IsNoMemory : {X : Type 0} → Stop X → Type 0
+IsNoMemory (stop.Fault fault) = ⊥
+IsNoMemory (stop.Refused refusal) = ⊥
+IsNoMemory stop.NoMemory = Unit {0}
+
+-- a search that was so far stopped so, whatever more comes
+abbrev pub Stopped : {X : Type 0} → List Pair → Stop X → Progress → Last → Type 0
+Stopped wanted e p last = (past : Bool) (before : Option Sections) → IsLast last before → (more : List ℕ) → StoppedAs e (found_after wanted past p.given before (stream (p.rest ++ more)))
+
+-- from one state of a search to another what is found stays the same, whatever more comes
+pub record GoesOn (wanted : List Pair) (p q : Progress) (new : Last) (before : Option Sections) : Type 0 where
+  pub now : Option Sections
+  pub is_last : IsLast new now
+  pub same : (past : Bool) (more : List ℕ) → found_after wanted past p.given before (stream (p.rest ++ more)) ≡ found_after wanted past q.given now (stream (q.rest ++ more))
+
+-- no message is whole
+abbrev pub IsWaiting : Progress → Type 0
+IsWaiting p = answer p (first p.rest) ≡ Ok None
+
+-- one message was taken, or none is whole
+abbrev pub Measures : Bool → Progress → Progress → Type 0
+Measures true p q = length q.rest < length p.rest
+Measures false p q = IsWaiting q
+
+pub record Took (wanted : List Pair) (some : Bool) (p q : Progress) (old new : Last) : Type 0 where
+  pub measure : Measures some p q
+  pub fed : q.fed ≡ p.fed
+  pub goes_on : (before : Option Sections) → IsLast old before → GoesOn wanted p q new before
+
+-- all messages that are whole were taken
+pub record TookAll (wanted : List Pair) (p q : Progress) (old new : Last) : Type 0 where
+  pub waits : IsWaiting q
+  pub fed : q.fed ≡ p.fed
+  pub goes_on : (before : Option Sections) → IsLast old before → GoesOn wanted p q new before
+
+-- the octets are kept where the test passed
+abbrev pub IsConsidered : Bool → List ℕ → Last → Last → Type 0
+IsConsidered true octets old new = (new.found ≡ true) × (new.octets.items ≡ octets)
+IsConsidered false octets old new = new ≡ old

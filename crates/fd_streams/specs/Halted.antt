@@ -1,0 +1,84 @@
+-- How far a listing is, and what it wrote where it halts.
+use Rattle.std.specs.Prelude.{◌≡◌, ◌≤◌, ℕ, List, ◌++◌, Bool, true, false, Option, Some, None, IfSome, Result, Ok, Err}
+use Rattle.fd_io.specs.Streams.{Takes, TakesFront}
+use Rattle.fd_sections.specs.Progress.{Progress}
+use Rattle.fd_sections.specs.Stream.{stream}
+use Rattle.fd_outcome.specs.declared.refusal.Refusal.{Refusal}
+use Rattle.fd_outcome.specs.declared.listing.Listing.{Listing}
+use Rattle.fd_outcome.specs.declared.listing.Listing.TheVariants as listings
+use Rattle.fd_streams.specs.declared.listing.Halt.{Halt}
+use Rattle.fd_streams.specs.declared.listing.Halt.TheVariants as halts
+use Rattle.fd_streams.specs.Found.{Measures, IsWaiting}
+use Rattle.fd_outcome.specs.Listed.{Listed, before, listed_after}
+
+-- a listing asks for at most 30 decimals
+abbrev pub AreFew : Listing → Type 0
+AreFew listings.Descriptions = Unit {0}
+AreFew (listings.Points decimals) = IfSome decimals (λ d. d ≤ 30)
+
+-- ---- What was written. The output had taken a and has taken b.
+
+-- a front of all the lines
+abbrev pub IsCut : Option (List ℕ) → Option (List ℕ) → Listed → Type 0
+IsCut a b x = TakesFront a b x.lines
+
+-- all the lines, and the input is refused so
+abbrev pub IsRefused : Refusal → Option (List ℕ) → Option (List ℕ) → Listed → Type 0
+IsRefused refusal a b x = Takes a b x.lines × (x.refusal ≡ Some refusal)
+
+-- all the lines, and the input is not refused
+abbrev pub IsListed : Option (List ℕ) → Option (List ℕ) → Listed → Type 0
+IsListed a b x = Takes a b x.lines × (x.refusal ≡ None)
+
+-- what a halt tells of that, where x is all that is listed
+abbrev pub HaltedAs : {X : Type 0} → Halt X → Option (List ℕ) → Option (List ℕ) → Listed → Type 0
+HaltedAs (halts.Unread fault) a b x = IsCut a b x
+HaltedAs (halts.Unwritten fault) a b x = IsCut a b x
+HaltedAs (halts.Refused refusal) a b x = IsRefused refusal a b x
+HaltedAs halts.NoMemory a b x = IsCut a b x
+
+-- what the answer of a listing tells
+abbrev pub Comes : {A X : Type 0} → Result A (Halt X) → Option (List ℕ) → Option (List ℕ) → Listed → Type 0
+Comes (Ok done) a b x = IsListed a b x
+Comes (Err halt) a b x = HaltedAs halt a b x
+
+-- the lines of a message were written
+abbrev pub IsWritten : Result (List ℕ) Refusal → Option (List ℕ) → Option (List ℕ) → Type 0
+IsWritten (Ok lines) a b = Takes a b lines
+IsWritten (Err refusal) a b = ⊥
+
+abbrev pub is_unread : {X : Type 0} → Halt X → Bool
+is_unread (halts.Unread fault) = true
+is_unread (halts.Unwritten fault) = false
+is_unread (halts.Refused refusal) = false
+is_unread halts.NoMemory = false
+
+abbrev pub is_unwritten : {X : Type 0} → Halt X → Bool
+is_unwritten (halts.Unread fault) = false
+is_unwritten (halts.Unwritten fault) = true
+is_unwritten (halts.Refused refusal) = false
+is_unwritten halts.NoMemory = false
+
+-- ---- Going over the messages
+
+-- a listing that was so far halted so, whatever more comes
+abbrev pub Halted : {X : Type 0} → Listing → Halt X → Progress → Option (List ℕ) → Option (List ℕ) → Type 0
+Halted listing halt p a b = (past : Bool) (more : List ℕ) → HaltedAs halt a b (listed_after listing past p.given (stream (p.rest ++ more)))
+
+-- from one place to another lines were written; whatever more comes, they come before what is listed from there on
+pub record ListsOn (listing : Listing) (p q : Progress) (a b : Option (List ℕ)) : Type 0 where
+  pub lines : List ℕ
+  pub took : Takes a b lines
+  pub same : (past : Bool) (more : List ℕ) → listed_after listing past p.given (stream (p.rest ++ more)) ≡ before (Ok lines) (listed_after listing past q.given (stream (q.rest ++ more)))
+
+-- one message was listed, or none is whole
+pub record ListedOne (listing : Listing) (some : Bool) (p q : Progress) (a b : Option (List ℕ)) : Type 0 where
+  pub measure : Measures some p q
+  pub fed : q.fed ≡ p.fed
+  pub goes_on : ListsOn listing p q a b
+
+-- all messages that are whole were listed
+pub record ListedAll (listing : Listing) (p q : Progress) (a b : Option (List ℕ)) : Type 0 where
+  pub waits : IsWaiting q
+  pub fed : q.fed ≡ p.fed
+  pub goes_on : ListsOn listing p q a b

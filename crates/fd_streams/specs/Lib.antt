@@ -1,0 +1,6 @@
+pub mod Found
+pub mod Halted
+pub mod Run
+pub mod Streams
+pub mod Creating
+pub mod Generating

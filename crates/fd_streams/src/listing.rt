@@ -1,0 +1,199 @@
+// From a stream to the lines of its messages.
+ghost use Rattle.std.specs.Prelude.{◌≡◌, ◌≤◌, [], Some, Ok, IfSome, IfOk, IfErr, OnOk, true, false};
+ghost use Rattle.fd_bytes.specs.Causes.{Rose};
+ghost use Rattle.fd_io.specs.Streams.{Takes};
+ghost use Rattle.fd_sections.specs.Parts.{sections_of};
+ghost use Rattle.fd_packing.specs.Field.{field_of};
+ghost use Rattle.fd_listing.specs.Describe.{describe_text};
+ghost use Rattle.fd_outcome.specs.Listed.{field_lines, message_lines, alone, listed};
+ghost use Rattle.fd_streams.specs.Halted.{AreFew, HaltedAs, Halted, IsWritten, ListedOne, ListedAll, Comes, is_unread, is_unwritten};
+
+use fd_io::{Sink, Source};
+use fd_listing::{TextFault, ValuesFault, describe, values};
+use fd_outcome::{INPUT_LIMIT, Listing, Refusal, new_buffer, read_piece, refusal_of};
+use fd_sections::{Message, Splitter, Truncated};
+use std::alloc::Global;
+
+/// Why a listing ended before its input did.
+#[derive(Drop)]
+pub enum Halt<X> {
+    /// A read failed.
+    Unread(X),
+    /// A write failed.
+    Unwritten(X),
+    /// The input is refused.
+    Refused(Refusal),
+    /// An allocation was refused.
+    NoMemory,
+}
+
+/// Writes what a message holds.
+fn write_description<X, K: Sink<X>>(
+    alloc: Global,
+    number: u64,
+    message: &Message<'_>,
+    output: &mut K,
+) -> Result<(), Halt<X>>
+    ensures whole { OnOk result (Takes (K.taken output.old) (K.taken output.new) (describe_text number (sections_of message.now))) }
+    ensures halted { IfErr result (λ e. HaltedAs e (K.taken output.old) (K.taken output.new) (alone (Ok (describe_text number (sections_of message.now))))) }
+    ensures read { IfErr result (λ e. is_unread e ≡ false) }
+    ensures calm { OnOk result (K.faults output.new ≡ K.faults output.old) }
+    ensures quiet { IfErr result (λ e. is_unwritten e ≡ false → K.faults output.new ≡ K.faults output.old) }
+    ensures write { IfErr result (λ e. is_unwritten e ≡ true → Rose (K.faults output.old) (K.faults output.new)) }
+{
+    match describe(alloc, number, message, output) {
+        Ok(()) => Ok(()),
+        Err(TextFault::Write(fault)) => Err(Halt::Unwritten(fault)),
+        Err(TextFault::NoMemory) => Err(Halt::NoMemory),
+    }
+}
+
+/// Writes the values of a message.
+fn write_points<X, K: Sink<X>>(
+    alloc: Global,
+    number: u64,
+    message: &Message<'_>,
+    decimals: Option<u8>,
+    output: &mut K,
+) -> Result<(), Halt<X>>
+    requires { IfSome decimals (λ d. d ≤ 30) }
+    ensures whole { OnOk result (IsWritten (field_lines number decimals (field_of (sections_of message.now))) (K.taken output.old) (K.taken output.new)) }
+    ensures halted { IfErr result (λ e. HaltedAs e (K.taken output.old) (K.taken output.new) (alone (field_lines number decimals (field_of (sections_of message.now))))) }
+    ensures read { IfErr result (λ e. is_unread e ≡ false) }
+    ensures calm { OnOk result (K.faults output.new ≡ K.faults output.old) }
+    ensures quiet { IfErr result (λ e. is_unwritten e ≡ false → K.faults output.new ≡ K.faults output.old) }
+    ensures write { IfErr result (λ e. is_unwritten e ≡ true → Rose (K.faults output.old) (K.faults output.new)) }
+{
+    match values(alloc, number, message, decimals, output) {
+        Ok(()) => Ok(()),
+        Err(ValuesFault::Field(fault)) => Err(Halt::Refused(Refusal::Field { number, fault })),
+        Err(ValuesFault::Points(points)) => Err(Halt::Refused(Refusal::Points { points })),
+        Err(ValuesFault::Write(fault)) => Err(Halt::Unwritten(fault)),
+        Err(ValuesFault::NoMemory) => Err(Halt::NoMemory),
+    }
+}
+
+/// Writes the lines of a message.
+fn write_message<X, K: Sink<X>>(
+    alloc: Global,
+    listing: Listing,
+    number: u64,
+    message: &Message<'_>,
+    output: &mut K,
+) -> Result<(), Halt<X>>
+    requires { AreFew listing }
+    ensures whole { OnOk result (IsWritten (message_lines listing number (sections_of message.now)) (K.taken output.old) (K.taken output.new)) }
+    ensures halted { IfErr result (λ e. HaltedAs e (K.taken output.old) (K.taken output.new) (alone (message_lines listing number (sections_of message.now)))) }
+    ensures read { IfErr result (λ e. is_unread e ≡ false) }
+    ensures calm { OnOk result (K.faults output.new ≡ K.faults output.old) }
+    ensures quiet { IfErr result (λ e. is_unwritten e ≡ false → K.faults output.new ≡ K.faults output.old) }
+    ensures write { IfErr result (λ e. is_unwritten e ≡ true → Rose (K.faults output.old) (K.faults output.new)) }
+{
+    match listing {
+        Listing::Descriptions => write_description(alloc, number, message, output),
+        Listing::Points(decimals) => write_points(alloc, number, message, decimals, output),
+    }
+}
+
+/// Goes over one message, if one is whole, and tells whether one was.
+fn list_message<X, K: Sink<X>>(
+    alloc: Global,
+    listing: Listing,
+    splitter: &mut Splitter,
+    output: &mut K,
+) -> Result<bool, Halt<X>>
+    requires { AreFew listing }
+    ensures went { IfOk result (λ some. ListedOne listing some splitter.old splitter.new (K.taken output.old) (K.taken output.new)) }
+    ensures halted { IfErr result (λ e. Halted listing e splitter.old (K.taken output.old) (K.taken output.new)) }
+    ensures read { IfErr result (λ e. is_unread e ≡ false) }
+    ensures calm { OnOk result (K.faults output.new ≡ K.faults output.old) }
+    ensures quiet { IfErr result (λ e. is_unwritten e ≡ false → K.faults output.new ≡ K.faults output.old) }
+    ensures write { IfErr result (λ e. is_unwritten e ≡ true → Rose (K.faults output.old) (K.faults output.new)) }
+{
+    let number = splitter.given() + 1;
+    match splitter.next() {
+        Ok(None) => Ok(false),
+        Ok(Some(message)) => match write_message(alloc, listing, number, &message, output) {
+            Ok(()) => Ok(true),
+            Err(halt) => Err(halt),
+        },
+        Err(at) => Err(Halt::Refused(refusal_of(at))),
+    }
+}
+
+/// Goes over the messages that are whole.
+fn list_messages<X: Drop, K: Sink<X>>(
+    alloc: Global,
+    listing: Listing,
+    splitter: &mut Splitter,
+    output: &mut K,
+) -> Result<(), Halt<X>>
+    requires { AreFew listing }
+    ensures went { OnOk result (ListedAll listing splitter.old splitter.new (K.taken output.old) (K.taken output.new)) }
+    ensures halted { IfErr result (λ e. Halted listing e splitter.old (K.taken output.old) (K.taken output.new)) }
+    ensures read { IfErr result (λ e. is_unread e ≡ false) }
+    ensures calm { OnOk result (K.faults output.new ≡ K.faults output.old) }
+    ensures quiet { IfErr result (λ e. is_unwritten e ≡ false → K.faults output.new ≡ K.faults output.old) }
+    ensures write { IfErr result (λ e. is_unwritten e ≡ true → Rose (K.faults output.old) (K.faults output.new)) }
+{
+    'messages: loop {
+        match list_message(alloc, listing, splitter, output) {
+            Ok(true) => {}
+            Ok(false) => return Ok(()),
+            Err(halt) => return Err(halt),
+        }
+    }
+}
+
+/// Writes the lines of the messages of the input, as they come, where the input is read to its end.
+pub fn list<X: Drop, I: Source<X>, K: Sink<X>>(
+    alloc: Global,
+    listing: Listing,
+    input: &mut I,
+    output: &mut K,
+) -> Result<(), Halt<X>>
+    requires { AreFew listing }
+    ensures answer { IfSome (I.left input.old) (λ octets. Comes result (K.taken output.old) (K.taken output.new) (listed listing octets)) }
+    ensures to_end { IfSome (I.left input.old) (λ octets. OnOk result (I.left input.new ≡ Some [])) }
+    ensures calm { OnOk result ((I.faults input.new ≡ I.faults input.old) × (K.faults output.new ≡ K.faults output.old)) }
+    ensures read { IfErr result (λ e. is_unread e ≡ true → Rose (I.faults input.old) (I.faults input.new)) }
+    ensures read_quiet { IfErr result (λ e. is_unread e ≡ false → I.faults input.new ≡ I.faults input.old) }
+    ensures write { IfErr result (λ e. is_unwritten e ≡ true → Rose (K.faults output.old) (K.faults output.new)) }
+    ensures write_quiet { IfErr result (λ e. is_unwritten e ≡ false → K.faults output.new ≡ K.faults output.old) }
+{
+    let Ok(mut splitter) = Splitter::new(alloc) else {
+        return Err(Halt::NoMemory);
+    };
+    let Ok(mut buffer) = new_buffer(alloc) else {
+        return Err(Halt::NoMemory);
+    };
+    let mut total = 0u64;
+    for _ in 0..u64::MAX {
+        let n = match read_piece(input, &mut buffer, total) {
+            Ok(n) => n,
+            Err(fault) => return Err(Halt::Unread(fault)),
+        };
+        if n == 0 {
+            match splitter.finish() {
+                Ok(_) => return Ok(()),
+                Err(Truncated { number, .. }) => {
+                    return Err(Halt::Refused(Refusal::Message { number }));
+                }
+            }
+        }
+        if total == INPUT_LIMIT {
+            return Err(Halt::Refused(Refusal::Input));
+        }
+        let (octets, _) = buffer.split_at(n);
+        match splitter.feed(octets) {
+            Ok(()) => {}
+            Err(_) => return Err(Halt::NoMemory),
+        }
+        total += n as u64;
+        match list_messages(alloc, listing, &mut splitter, output) {
+            Ok(()) => {}
+            Err(halt) => return Err(halt),
+        }
+    }
+    Err(Halt::Refused(Refusal::Input))
+}

@@ -1,0 +1,65 @@
+// `generate`.
+ghost use Rattle.std.specs.Prelude.{◌≡◌, ◌≤◌, ℕ, List, Option, IfErr, OnErr, OnOk};
+ghost use Rattle.fd_bytes.specs.Causes.{Rose};
+ghost use Rattle.fd_disk.specs.Folders.{Holdings};
+ghost use Rattle.fd_io.specs.Streams.{Takes, TakesFront};
+ghost use Rattle.fd_words.specs.declared.command.Command.TheVariants.{Generate};
+ghost use Rattle.fd_outcome.specs.Objects.{object};
+ghost use Rattle.fd_outcome.specs.Outcome.{generated_messages};
+ghost use Rattle.fd_outcome.specs.Ran.{Ran};
+ghost use Rattle.fd_streams.specs.Generating.{OnUnwritten};
+
+use fd_gen::generated;
+use fd_io::{Sink, write_all};
+use fd_outcome::{Status, tell_no_memory, tell_output_failed};
+use std::alloc::Global;
+
+/// Why not all messages were written.
+#[derive(Drop)]
+pub enum Unmade<X> {
+    /// A write failed.
+    Unwritten(X),
+    /// An allocation was refused.
+    NoMemory,
+}
+
+/// Writes the first so many generated messages, one after the other.
+fn write_generated<X: Drop, K: Sink<X>>(
+    alloc: Global,
+    count: u32,
+    output: &mut K,
+) -> Result<(), Unmade<X>>
+    requires few { count ≤ 100000 }
+    ensures whole { OnOk result (Takes (K.taken output.old) (K.taken output.new) (generated_messages count)) }
+    ensures front { OnErr result (TakesFront (K.taken output.old) (K.taken output.new) (generated_messages count)) }
+    ensures calm { OnOk result (K.faults output.new ≡ K.faults output.old) }
+    ensures cause { IfErr result (λ e. OnUnwritten e (Rose (K.faults output.old) (K.faults output.new))) }
+{
+    for i in 0..count {
+        let Ok(message) = generated(alloc, i as u64) else {
+            return Err(Unmade::NoMemory);
+        };
+        if let Err(fault) = write_all(output, &message) {
+            return Err(Unmade::Unwritten(fault));
+        }
+    }
+    Ok(())
+}
+
+/// Runs `generate`: the output takes the messages, and neither input nor store is asked.
+pub fn generate<X: Drop, K: Sink<X>, E: Sink<X>>(
+    alloc: Global,
+    count: u32,
+    output: &mut K,
+    report: &mut E,
+) -> Status
+    requires few { count ≤ 100000 }
+    ensures { (has : Option Holdings) (m : ℕ) (left : Option (List ℕ)) (k : ℕ) → Ran (Generate count) result (object has has m m) (object left left k k)
+        (object (K.taken output.old) (K.taken output.new) (K.faults output.old) (K.faults output.new)) (object (E.taken report.old) (E.taken report.new) (E.faults report.old) (E.faults report.new)) }
+{
+    match write_generated(alloc, count, output) {
+        Ok(()) => Status::Done,
+        Err(Unmade::Unwritten(_)) => tell_output_failed(report),
+        Err(Unmade::NoMemory) => tell_no_memory(report),
+    }
+}

@@ -1,0 +1,163 @@
+// From a stream to its last message that has the pairs.
+ghost use Rattle.std.specs.Prelude.{◌≡◌, ◌≤◌, [], IfOk, IfSome, IfErr, OnOk, OnErr, Some, true, false};
+ghost use Rattle.fd_bytes.specs.Causes.{Rose};
+ghost use Rattle.fd_key.specs.Pairs.{has_all};
+ghost use Rattle.fd_outcome.specs.Picking.{found};
+ghost use Rattle.fd_streams.specs.Found.{IsNoMemory, Answers, is_fault, Took, TookAll, Stopped};
+ghost use Rattle.fd_key.specs.Keys.{key_of};
+ghost use Rattle.fd_sections.specs.Parts.{sections_of};
+
+use fd_bytes::NoMemory;
+use fd_io::Source;
+use fd_key::{Given, Key, KeyFault, key_of};
+use fd_outcome::{INPUT_LIMIT, Refusal, new_buffer, read_piece, refusal_of};
+use fd_sections::{Message, Splitter, Truncated};
+use fd_words::Wanted;
+use std::alloc::Global;
+
+/// Why nothing was found.
+#[derive(Drop)]
+pub enum Stop<X> {
+    Fault(X),
+    Refused(Refusal),
+    NoMemory,
+}
+
+impl<X> From<NoMemory> for Stop<X> {
+    ghost from_gives = { λ _ e. IsNoMemory e };
+
+    fn from(_: NoMemory) -> Stop<X> {
+        Stop::NoMemory
+    }
+}
+
+/// The octets of the message that was found last, if one was.
+#[derive(Drop)]
+pub struct Last {
+    pub found: bool,
+    pub octets: Vec<u8>,
+}
+
+impl Last {
+    ghost use Rattle.fd_streams.specs.Found.{IsConsidered};
+
+    /// Keeps these octets in place of those that it had, where their key has all the pairs.
+    fn consider(&mut self, wanted: &Wanted, key: &Key, octets: &[u8]) -> Result<(), NoMemory>
+        ensures { OnOk result (IsConsidered (has_all key.now wanted.now) octets.now self.old self.new) }
+    {
+        if wanted.all_in(key) {
+            self.octets.clear();
+            self.octets.extend_from_slice(octets)?;
+            self.found = true;
+        }
+        Ok(())
+    }
+}
+
+/// The key of a message, or why it has none. Want of memory stands apart.
+fn key_or_refusal(
+    alloc: Global,
+    message: &Message<'_>,
+    given: &Given,
+) -> Result<Result<Key, KeyFault>, NoMemory>
+    ensures { IfOk result (λ r. key_of (sections_of message.now) given.now ≡ r) }
+{
+    match key_of(alloc, message, given) {
+        Ok(key) => Ok(Ok(key)),
+        Err(KeyFault::NoMemory) => Err(NoMemory),
+        Err(KeyFault::Product(number)) => Ok(Err(KeyFault::Product(number))),
+        Err(KeyFault::ProductLength { said }) => Ok(Err(KeyFault::ProductLength { said })),
+        Err(KeyFault::BadDate) => Ok(Err(KeyFault::BadDate)),
+        Err(KeyFault::KeyTooLong { len }) => Ok(Err(KeyFault::KeyTooLong { len })),
+    }
+}
+
+/// Goes over one message, if one is whole, and tells whether one was.
+fn take_message<X>(
+    alloc: Global,
+    wanted: &Wanted,
+    given: &Given,
+    splitter: &mut Splitter,
+    last: &mut Last,
+) -> Result<bool, Stop<X>>
+    requires { given.now ≡ [] }
+    ensures took { IfOk result (λ some. Took wanted.now some splitter.old splitter.new last.old last.new) }
+    ensures err { IfErr result (λ e. Stopped wanted.now e splitter.old last.old) }
+    ensures no_fault { IfErr result (λ e. is_fault e ≡ false) }
+{
+    let number = splitter.given() + 1;
+    match splitter.next() {
+        Ok(None) => Ok(false),
+        Ok(Some(message)) => match key_or_refusal(alloc, &message, given)? {
+            Ok(key) => {
+                last.consider(wanted, &key, message.bytes())?;
+                Ok(true)
+            }
+            Err(fault) => Err(Stop::Refused(Refusal::Key { number, fault })),
+        },
+        Err(at) => Err(Stop::Refused(refusal_of(at))),
+    }
+}
+
+/// Goes over the messages that are whole.
+fn take_messages<X>(
+    alloc: Global,
+    wanted: &Wanted,
+    given: &Given,
+    splitter: &mut Splitter,
+    last: &mut Last,
+) -> Result<(), Stop<X>>
+    requires { given.now ≡ [] }
+    ensures ok { OnOk result (TookAll wanted.now splitter.old splitter.new last.old last.new) }
+    ensures err { IfErr result (λ e. Stopped wanted.now e splitter.old last.old) }
+    ensures no_fault { IfErr result (λ e. is_fault e ≡ false) }
+{
+    while take_message(alloc, wanted, given, splitter, last)? {}
+    Ok(())
+}
+
+/// The last message of the input whose key has all the pairs, where the input is read to its end.
+pub fn last_wanted<X: Drop, I: Source<X>>(
+    alloc: Global,
+    wanted: &Wanted,
+    given: &Given,
+    input: &mut I,
+) -> Result<Last, Stop<X>>
+    requires { given.now ≡ [] }
+    ensures answer { IfSome (I.left input.old) (λ octets. Answers result (found wanted.now octets)) }
+    ensures to_end { IfSome (I.left input.old) (λ octets. OnOk result (I.left input.new ≡ Some [])) }
+    ensures calm { OnOk result (I.faults input.new ≡ I.faults input.old) }
+    ensures quiet { IfErr result (λ e. is_fault e ≡ false → I.faults input.new ≡ I.faults input.old) }
+    ensures cause { IfErr result (λ e. is_fault e ≡ true → Rose (I.faults input.old) (I.faults input.new)) }
+{
+    let mut splitter = Splitter::new(alloc)?;
+    let mut last = Last {
+        found: false,
+        octets: Vec::new(alloc),
+    };
+    let mut buffer = new_buffer(alloc)?;
+    let mut total = 0u64;
+    for _ in 0..u64::MAX {
+        let n = match read_piece(input, &mut buffer, total) {
+            Ok(n) => n,
+            Err(fault) => return Err(Stop::Fault(fault)),
+        };
+        if n == 0 {
+            return match splitter.finish() {
+                Ok(_) => Ok(last),
+                Err(Truncated { number, .. }) => Err(Stop::Refused(Refusal::Message { number })),
+            };
+        }
+        if total == INPUT_LIMIT {
+            return Err(Stop::Refused(Refusal::Input));
+        }
+        let (octets, _) = buffer.split_at(n);
+        splitter.feed(octets)?;
+        total += n as u64;
+        match take_messages(alloc, wanted, given, &mut splitter, &mut last) {
+            Ok(()) => {}
+            Err(stop) => return Err(stop),
+        }
+    }
+    Err(Stop::Refused(Refusal::Input))
+}

@@ -1,0 +1,69 @@
+// The commands over a stream.
+ghost use Rattle.std.specs.Prelude.{◌≡◌, ℕ, Option};
+ghost use Rattle.fd_disk.specs.Folders.{Holdings};
+ghost use Rattle.fd_words.specs.declared.command.Command.TheVariants.{Pick};
+ghost use Rattle.fd_outcome.specs.Objects.{object};
+ghost use Rattle.fd_outcome.specs.Ran.{Ran};
+ghost use Rattle.fd_streams.specs.Halted.{AreFew};
+ghost use Rattle.fd_streams.specs.Streams.{listing_command};
+
+use crate::listing::{Halt, list};
+use crate::picking::{Stop, last_wanted};
+use fd_io::{Sink, Source, write_all};
+use fd_listing::none_given;
+use fd_outcome::{
+    Listing, Status, tell, tell_input_failed, tell_no_memory, tell_output_failed, tell_refusal,
+};
+use fd_words::Wanted;
+use std::alloc::Global;
+
+/// Runs `pick`.
+pub fn pick<X: Drop, I: Source<X>, K: Sink<X>, E: Sink<X>>(
+    alloc: Global,
+    wanted: &Wanted,
+    input: &mut I,
+    output: &mut K,
+    report: &mut E,
+) -> Status
+    ensures { (has : Option Holdings) (m : ℕ) → Ran (Pick wanted.now) result (object has has m m) (object (I.left input.old) (I.left input.new) (I.faults input.old) (I.faults input.new))
+        (object (K.taken output.old) (K.taken output.new) (K.faults output.old) (K.faults output.new)) (object (E.taken report.old) (E.taken report.new) (E.faults report.old) (E.faults report.new)) }
+{
+    let Ok(given) = none_given(alloc) else {
+        return tell_no_memory(report);
+    };
+    match last_wanted(alloc, wanted, &given, input) {
+        Ok(last) => {
+            if !last.found {
+                return tell(report, "found 0 missed 1\n", Status::Missed);
+            }
+            match write_all(output, &last.octets) {
+                Ok(()) => tell(report, "found 1 missed 0\n", Status::Done),
+                Err(_) => tell_output_failed(report),
+            }
+        }
+        Err(Stop::Fault(_)) => tell_input_failed(report),
+        Err(Stop::Refused(refusal)) => tell_refusal(alloc, report, refusal),
+        Err(Stop::NoMemory) => tell_no_memory(report),
+    }
+}
+
+/// Runs a command that lists its input.
+pub fn write_list<X: Drop, I: Source<X>, K: Sink<X>, E: Sink<X>>(
+    alloc: Global,
+    listing: Listing,
+    input: &mut I,
+    output: &mut K,
+    report: &mut E,
+) -> Status
+    requires { AreFew listing }
+    ensures { (has : Option Holdings) (m : ℕ) → Ran (listing_command listing) result (object has has m m) (object (I.left input.old) (I.left input.new) (I.faults input.old) (I.faults input.new))
+        (object (K.taken output.old) (K.taken output.new) (K.faults output.old) (K.faults output.new)) (object (E.taken report.old) (E.taken report.new) (E.faults report.old) (E.faults report.new)) }
+{
+    match list(alloc, listing, input, output) {
+        Ok(()) => Status::Done,
+        Err(Halt::Unread(_)) => tell_input_failed(report),
+        Err(Halt::Unwritten(_)) => tell_output_failed(report),
+        Err(Halt::Refused(refusal)) => tell_refusal(alloc, report, refusal),
+        Err(Halt::NoMemory) => tell_no_memory(report),
+    }
+}
