@@ -1,0 +1,27 @@
+//! Tests of the crates that read and write fields and texts, by their public calls.
+#![tactic(auto)]
+
+#[cfg(test)]
+mod generator;
+#[cfg(test)]
+mod io;
+#[cfg(test)]
+mod key;
+#[cfg(test)]
+mod listing;
+#[cfg(test)]
+mod packing;
+#[cfg(test)]
+mod request;
+#[cfg(test)]
+mod scaled;
+#[cfg(test)]
+mod schema;
+#[cfg(test)]
+mod script;
+#[cfg(test)]
+mod sections;
+#[cfg(test)]
+mod templates;
+#[cfg(test)]
+mod words;

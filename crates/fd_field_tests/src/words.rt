@@ -1,0 +1,98 @@
+// The words of the command line, read.
+use fd_words::{Command, read_command};
+use std::alloc::Global;
+use std::process::Abort;
+use std::test::Fail;
+
+/// What the words ask for, as a text: a command's name and its root, and how many pairs it has.
+fn said<'a>(alloc: Global, words: &'a [&'a str]) -> Result<String, Fail> {
+    match read_command(alloc, words)? {
+        None => Ok(String::from_str(alloc, "none")?),
+        Some(Command::Pick(_)) => Ok(String::from_str(alloc, "pick")?),
+        Some(Command::Describe) => Ok(String::from_str(alloc, "describe")?),
+        Some(Command::Values(None)) => Ok(String::from_str(alloc, "values")?),
+        Some(Command::Values(Some(decimals))) => Ok(format!(in alloc; "values {decimals}")?),
+        Some(Command::Generate(count)) => Ok(format!(in alloc; "generate {count}")?),
+        Some(Command::Create(root)) => rooted(alloc, "create", root.as_str()),
+        Some(Command::Archive(root, given)) => {
+            let count = given.len();
+            let root = root.as_str();
+            Ok(format!(in alloc; "archive {root} {count}")?)
+        }
+        Some(Command::Retrieve(root)) => rooted(alloc, "retrieve", root.as_str()),
+        Some(Command::List(root)) => rooted(alloc, "list", root.as_str()),
+        Some(Command::Axes(root)) => rooted(alloc, "axes", root.as_str()),
+        Some(Command::Stats(root)) => rooted(alloc, "stats", root.as_str()),
+    }
+}
+
+fn rooted(alloc: Global, name: &str, root: &str) -> Result<String, Fail> {
+    Ok(format!(in alloc; "{name} {root}")?)
+}
+
+fn check<'a>(rt: &impl Abort, alloc: Global, words: &'a [&'a str], want: &str) -> Result<(), Fail> {
+    let found = said(alloc, words)?;
+    assert_eq!(rt; found.as_str(), want);
+    Ok(())
+}
+
+#[test]
+fn reads_words(rt: HostRuntime) -> Result<(), Fail> {
+    let alloc = rt.alloc();
+    check(&rt, alloc, &["pick", "step=0", "LEVELIST=850.0"], "pick")?;
+    check(&rt, alloc, &["describe"], "describe")?;
+    check(&rt, alloc, &["values"], "values")?;
+    check(&rt, alloc, &["values", "--decimals=01"], "values 1")?;
+    check(&rt, alloc, &["values", "--decimals", "30"], "values 30")?;
+    check(&rt, alloc, &["generate", "000100000"], "generate 100000")?;
+    check(&rt, alloc, &["create", "s"], "create s")?;
+    check(&rt, alloc, &["archive", "s"], "archive s 0")?;
+    check(
+        &rt,
+        alloc,
+        &["archive", "--with=class=od", "s"],
+        "archive s 1",
+    )?;
+    check(&rt, alloc, &["retrieve", "a b"], "retrieve a b")?;
+    check(&rt, alloc, &["list", "s"], "list s")?;
+    check(&rt, alloc, &["axes", "s"], "axes s")?;
+    check(&rt, alloc, &["stats", "s"], "stats s")?;
+    Ok(())
+}
+
+#[test]
+fn refuses_words(rt: HostRuntime) -> Result<(), Fail> {
+    let alloc = rt.alloc();
+    check(&rt, alloc, &[], "none")?;
+    check(&rt, alloc, &["help"], "none")?;
+    check(&rt, alloc, &["--version"], "none")?;
+    check(&rt, alloc, &["Stats", "s"], "none")?;
+    check(&rt, alloc, &["pick"], "none")?;
+    check(&rt, alloc, &["pick", "--", "step=0"], "none")?;
+    check(&rt, alloc, &["pick", "step=0", "STEP=0"], "none")?;
+    check(&rt, alloc, &["describe", "s"], "none")?;
+    check(&rt, alloc, &["values", "1"], "none")?;
+    check(&rt, alloc, &["values", "--decimals", "31"], "none")?;
+    check(&rt, alloc, &["generate", "0"], "none")?;
+    check(&rt, alloc, &["generate", "100001"], "none")?;
+    check(&rt, alloc, &["generate", "1", "2"], "none")?;
+    check(
+        &rt,
+        alloc,
+        &["values", "--decimals=1", "--decimals=1"],
+        "none",
+    )?;
+    check(&rt, alloc, &["list", "s", "t"], "none")?;
+    check(&rt, alloc, &["axes", "--with=class=od", "s"], "none")?;
+    check(&rt, alloc, &["create"], "none")?;
+    check(&rt, alloc, &["create", ""], "none")?;
+    check(&rt, alloc, &["create", "-"], "none")?;
+    check(&rt, alloc, &["create", "s", "t"], "none")?;
+    check(&rt, alloc, &["archive", "s", "--with", "step=0"], "none")?;
+    check(&rt, alloc, &["archive", "s", "--with"], "none")?;
+    check(&rt, alloc, &["archive", "s", "--workers", "2"], "none")?;
+    check(&rt, alloc, &["retrieve", "s", "--workers", "2"], "none")?;
+    check(&rt, alloc, &["stats", "--help"], "none")?;
+    check(&rt, alloc, &["stats", "s", "--"], "none")?;
+    Ok(())
+}

@@ -1,0 +1,11 @@
+//! Tests of the crates that read and write files, by their public calls.
+#![tactic(auto)]
+
+#[cfg(test)]
+mod disk_mem;
+#[cfg(test)]
+mod disk_real;
+#[cfg(test)]
+mod index;
+#[cfg(test)]
+mod segment;

@@ -1,0 +1,14 @@
+-- Listings of which no batch is told, for the small lists of the tests.
+use Rattle.std.specs.Prelude.{List, map, Option, None, Some}
+use Rattle.fd_core.specs.declared.table.Entry.{Entry}
+use Rattle.fd_core.specs.declared.batch.Listing.{Listing}
+
+abbrev pub untold : Entry → Listing
+untold e = record { entry = e; batch = None }
+
+abbrev pub all_untold : List Entry → List Listing
+all_untold es = map untold es
+
+abbrev pub untold_doubt : Option Entry → Option Listing
+untold_doubt None = None
+untold_doubt (Some e) = Some (untold e)
