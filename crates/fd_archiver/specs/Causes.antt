@@ -6,6 +6,8 @@ use Rattle.fd_segment.specs.Held.{Standing}
 use Rattle.fd_turn.specs.Views.{View}
 use Rattle.fd_dataset.specs.Listed.{listing}
 use Rattle.fd_dataset.specs.Causes.{AreFewer}
+use Rattle.fd_dataset.specs.declared.fault.ListFault.{ListFault}
+use Rattle.fd_dataset.specs.declared.fault.ListFault.TheVariants as lists
 use Rattle.fd_archiver.specs.declared.fault.ArchiveFault.{ArchiveFault}
 use Rattle.fd_archiver.specs.declared.fault.ArchiveFault.TheVariants as archives
 use Rattle.fd_archiver.specs.declared.fault.Flush.{Flush}
@@ -30,6 +32,12 @@ abbrev pub OnUntouched : {F : Type 0} → ArchiveFault F → Type 0 → Type 0
 OnUntouched archives.Unlisted P = P
 OnUntouched (archives.Full keys left) P = P
 OnUntouched (archives.Disk f) P = Unit {0}
+
+-- the refusal of a flush whose segment wasn't listed
+abbrev pub flush_fault : {F : Type 0} → ListFault F → FlushFault F
+flush_fault (lists.Disk f) = flushes.Disk f
+flush_fault (lists.Full count) = flushes.TableFull count
+flush_fault lists.NoMemory = flushes.NoMemory
 
 abbrev pub OnFlushDisk : {F : Type 0} → FlushFault F → Type 0 → Type 0
 OnFlushDisk (flushes.Disk f) P = P

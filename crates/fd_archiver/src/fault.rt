@@ -1,4 +1,4 @@
-use fd_dataset::Receipt;
+use fd_dataset::{ListFault, Receipt};
 
 /// Why a field wasn't put into the batch.
 #[derive(Drop)]
@@ -37,4 +37,19 @@ pub enum FlushFault<F> {
     },
     /// Memory was refused.
     NoMemory,
+}
+
+impl<F> From<ListFault<F>> for FlushFault<F> {
+    ghost use Rattle.std.specs.Prelude.{◌≡◌};
+    ghost use Rattle.fd_archiver.specs.Causes.{flush_fault};
+
+    ghost from_gives = { λ fault e. e ≡ flush_fault fault };
+
+    fn from(fault: ListFault<F>) -> FlushFault<F> {
+        match fault {
+            ListFault::Disk(fault) => FlushFault::Disk(fault),
+            ListFault::Full { count } => FlushFault::TableFull { count },
+            ListFault::NoMemory => FlushFault::NoMemory,
+        }
+    }
 }

@@ -13,7 +13,7 @@ ghost use Rattle.fd_archiver.specs.Writing.{IsPending, IsReady, number_of};
 
 use crate::archiver::{Archiver, Unlisted};
 use crate::fault::{Flush, FlushFault};
-use fd_dataset::{Dataset, DatasetPass, ListFault};
+use fd_dataset::{Dataset, DatasetPass};
 use fd_disk::{Disk, Shelf};
 use std::alloc::Global;
 use std::sync::{Arc, Wait};
@@ -107,14 +107,8 @@ impl<F: Send, H: Shelf<F>> Archiver<F, H> {
         let Ok(segment) = Arc::try_clone(kept) else {
             return Err(FlushFault::NoMemory);
         };
-        match dataset.list(rt, alloc, pass, segment) {
-            Ok(receipt) => {
-                self.unlisted = Unlisted::No;
-                Ok(Flush::Listed(receipt))
-            }
-            Err(ListFault::Disk(fault)) => Err(FlushFault::Disk(fault)),
-            Err(ListFault::Full { count }) => Err(FlushFault::TableFull { count }),
-            Err(ListFault::NoMemory) => Err(FlushFault::NoMemory),
-        }
+        let receipt = dataset.list(rt, alloc, pass, segment)?;
+        self.unlisted = Unlisted::No;
+        Ok(Flush::Listed(receipt))
     }
 }

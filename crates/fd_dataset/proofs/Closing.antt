@@ -11,7 +11,9 @@ use Rattle.fd_turn.specs.Views.{Settles}
 use Rattle.fd_turn.proofs.Settling.{leaves_doubts}
 use Rattle.fd_segment.specs.Held.{Standing}
 use Rattle.fd_segment.specs.Shared.{entries, entry_of}
-use Rattle.fd_dataset.specs.Causes.{AreFewer}
+use Rattle.fd_dataset.specs.declared.fault.ListFault.{ListFault}
+use Rattle.fd_dataset.specs.declared.fault.ListFault.TheVariants as faults
+use Rattle.fd_dataset.specs.Causes.{AreFewer, DoubtsOne, LeavesDoubts}
 use Rattle.fd_dataset.specs.Listed.{entries_of, listings, listing_of, doubted_entry, doubted_listing}
 
 module _ (A : Type 0) where
@@ -41,9 +43,25 @@ regroup (inl p) = inl (inl p)
 regroup (inr (inl q)) = inl (inr q)
 regroup (inr (inr r)) = inr r
 
--- the doubts that an owner is left with, who found one segment in doubt and gives back the same one, none, or a new one
-pub refused : (A : Type 0) (lock : Lock) (found left : Option (Arc Standing A)) (a : Arc Standing A) (before after first : List Listing) → lock ≡ Owner (doubted_listing found) → Settles lock before (doubted_listing left) after
-    → (left ≡ found) ⊎ (left ≡ None) ⊎ (left ≡ Some a) → before ≡ first → AreFewer first after ⊎ (after ≡ listing_of a ∷ [])
-refused A lock found left a before after first owner settles cases is =
-    let three : (after ≡ before) ⊎ (after ≡ []) ⊎ (after ≡ listing_of a ∷ []) = leaves_doubts lock (doubted_listing found) (doubted_listing left) before after (listing_of a) owner settles (doubt_cases A left found a cases) in
-    subst (λ (z : List Listing). AreFewer z after ⊎ (after ≡ listing_of a ∷ [])) is (regroup three)
+fewer : (A : Type 0) (lock : Lock) (d : Option (Arc Standing A)) (before after : List Listing) → lock ≡ Owner (doubted_listing d) → Settles lock before (doubted_listing d) after → AreFewer before after
+fewer A lock None before after owner settles = inr (settles.sure refl)
+fewer A lock (Some a) before after owner settles = inl (settles.found (listing_of a) refl owner)
+
+same_doubts : (A : Type 0) (lock : Lock) (found left : Option (Arc Standing A)) (before after : List Listing) → lock ≡ Owner (doubted_listing found) → Settles lock before (doubted_listing left) after → left ≡ found → AreFewer before after
+same_doubts A lock found left before after owner settles same = fewer A lock found before after owner (subst (λ (d : Option (Arc Standing A)). Settles lock before (doubted_listing d) after) same settles)
+
+some_doubts : (A : Type 0) (lock : Lock) (found left : Option (Arc Standing A)) (a : Arc Standing A) (before after : List Listing) → lock ≡ Owner (doubted_listing found) → Settles lock before (doubted_listing left) after
+    → (left ≡ found) ⊎ (left ≡ None) ⊎ (left ≡ Some a) → AreFewer before after ⊎ (after ≡ listing_of a ∷ [])
+some_doubts A lock found left a before after owner settles cases =
+    regroup (leaves_doubts lock (doubted_listing found) (doubted_listing left) before after (listing_of a) owner settles (doubt_cases A left found a cases))
+
+left_by : {F : Type 0} (A : Type 0) (lock : Lock) (found left : Option (Arc Standing A)) (a : Arc Standing A) (before after : List Listing) (e : ListFault F) → lock ≡ Owner (doubted_listing found)
+    → Settles lock before (doubted_listing left) after → DoubtsOne a found left e → LeavesDoubts (listing_of a) before after e
+left_by A lock found left a before after (faults.Disk f) owner settles cases = some_doubts A lock found left a before after owner settles cases
+left_by A lock found left a before after (faults.Full count) owner settles same = same_doubts A lock found left before after owner settles same
+left_by A lock found left a before after faults.NoMemory owner settles same = same_doubts A lock found left before after owner settles same
+
+-- the doubts that an owner is left with whose listing was refused
+pub refused : {F : Type 0} (A : Type 0) (lock : Lock) (found left : Option (Arc Standing A)) (a : Arc Standing A) (before after first : List Listing) (e : ListFault F) → lock ≡ Owner (doubted_listing found)
+    → Settles lock before (doubted_listing left) after → DoubtsOne a found left e → before ≡ first → LeavesDoubts (listing_of a) first after e
+refused A lock found left a before after first e owner settles cases is = subst (λ (z : List Listing). LeavesDoubts (listing_of a) z after e) is (left_by A lock found left a before after e owner settles cases)

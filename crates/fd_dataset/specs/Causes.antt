@@ -1,5 +1,5 @@
 -- What a refused listing tells, and what it leaves.
-use Rattle.std.specs.Prelude.{◌≡◌, ◌⊎◌, ◌<◌, ◌≤◌, ◌++◌, ℕ, List, [], ◌∷◌, length, Result, Ok, Err}
+use Rattle.std.specs.Prelude.{◌≡◌, ◌⊎◌, ◌<◌, ◌≤◌, ◌++◌, ℕ, List, [], ◌∷◌, length, Option, None, Some, Result, Ok, Err}
 use mathlib.Core.List.{IsPrefix}
 use Rattle.fd_core.specs.declared.batch.Listing.{Listing}
 use Rattle.fd_dataset.specs.declared.fault.Receipt.{Receipt}
@@ -29,3 +29,15 @@ FullAt after (Ok r) = after ≤ 65535
 FullAt after (Err (faults.Disk f)) = after < 65535
 FullAt after (Err (faults.Full count)) = (count ≡ 65535) × (after ≡ 65535)
 FullAt after (Err faults.NoMemory) = after < 65535
+
+-- a refusal over a table with so many entries: `Full` exactly at 65,535
+abbrev pub FullWith : {F : Type 0} → ℕ → ListFault F → Type 0
+FullWith count (faults.Disk f) = count < 65535
+FullWith count (faults.Full told) = (told ≡ 65535) × (count ≡ 65535)
+FullWith count faults.NoMemory = count < 65535
+
+-- the segment whose entry is in doubt after a refusal: as before, and after a fault of the table also none or this one
+abbrev pub DoubtsOne : {A F : Type 0} → A → Option A → Option A → ListFault F → Type 0
+DoubtsOne one before after (faults.Disk f) = (after ≡ before) ⊎ (after ≡ None) ⊎ (after ≡ Some one)
+DoubtsOne one before after (faults.Full count) = after ≡ before
+DoubtsOne one before after faults.NoMemory = after ≡ before

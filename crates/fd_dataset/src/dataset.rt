@@ -1,4 +1,4 @@
-ghost use Rattle.std.specs.Prelude.{◌≡◌, ◌<◌, ◌≤◌, ◌+◌, ◌*◌, ◌⊎◌, ◌++◌, ℕ, List, [], ◌∷◌, length, map, Option, Some, None, Err, is_some, IfOk, IfErr, OnErr, Contains};
+ghost use Rattle.std.specs.Prelude.{◌≡◌, ◌<◌, ◌≤◌, ◌+◌, ◌*◌, ◌⊎◌, ◌++◌, ℕ, List, [], ◌∷◌, length, map, Option, Some, None, Err, is_some, IfOk, IfErr, OnOk, OnErr, Contains};
 ghost use mathlib.Core.List.{IsPrefix};
 ghost use Rattle.std.specs.Arc.{arc_value};
 ghost use Rattle.fd_core.specs.declared.batch.Listing.{Listing};
@@ -9,7 +9,7 @@ ghost use Rattle.fd_turn.specs.Views.{all_parts, donor, first_view, recipient, m
 ghost use Rattle.fd_turn.specs.Passes.{view, IsOf, IsSame};
 ghost use Rattle.fd_dataset.specs.Listed.{listing, listing_of, listings, entries_of};
 ghost use Rattle.fd_segment.specs.Shared.{AreAbout, AreOf, entries, entry_of};
-ghost use Rattle.fd_dataset.specs.Causes.{AreFewer, FullAt, IsListed, LeavesDoubts};
+ghost use Rattle.fd_dataset.specs.Causes.{AreFewer, DoubtsOne, FullAt, FullWith, IsListed, LeavesDoubts};
 
 use crate::fault::{ListFault, Receipt};
 use crate::parts::{Desk, Segments, Shown};
@@ -116,25 +116,16 @@ impl<F: Send, T: Disk<F>, Z: Sealed<F>> Dataset<F, T, Z> {
         ensures rest { view pass.new ≡ record (view pass.old) { history = (view pass.new).history; amount = (view pass.new).amount; doubts = (view pass.new).doubts } }
     {
         let desk = self.board.lock(rt, pass);
-        if desk.toc.entries().len() >= 65535 {
-            self.board.unlock(pass, desk);
-            return Err(ListFault::Full { count: 65535 });
-        }
-        let (desk, lists) = prepared(alloc, desk, &segment);
-        let Ok((shown, own)) = lists else {
-            self.board.unlock(pass, desk);
-            return Err(ListFault::NoMemory);
-        };
-        let (desk, answer) = appended(desk, own, segment);
+        let (desk, answer) = entered(alloc, desk, segment);
         match answer {
-            Ok(number) => {
+            Ok((shown, number)) => {
                 self.board.post(rt, pass, shown);
                 self.board.unlock(pass, desk);
                 Ok(Receipt { number })
             }
             Err(fault) => {
                 self.board.unlock(pass, desk);
-                Err(ListFault::Disk(fault))
+                Err(fault)
             }
         }
     }
@@ -231,6 +222,39 @@ impl<F: Send, T: Disk<F>, Z: Sealed<F>> Dataset<F, T, Z> {
 }
 
 type Lists<F, Z> = (Segments<F, Z>, Vec<Arc<Segment<F, Z>>>);
+
+// What is done under the lock: lists the segment in the table, and gives the list that is then to be shown.
+fn entered<F: Send, T: Disk<F>, Z: Sealed<F>>(
+    alloc: Global,
+    desk: Desk<F, T, Z>,
+    segment: Arc<Segment<F, Z>>,
+) -> (Desk<F, T, Z>, Result<(Segments<F, Z>, u32), ListFault<F>>)
+    requires name { (arc_value segment).dataset ≡ desk.toc.dataset }
+    requires writer { (entry_of segment).writer ≤ greatest_writer (length desk.toc.entries) }
+    ensures name { result.0.toc.dataset ≡ desk.toc.dataset }
+    ensures told { is_some (T.file result.0.toc.table) ≡ is_some (T.file desk.toc.table) }
+    ensures subject { IfOk result.1 (λ r. (arc_value r.0.shown).name ≡ desk.toc.dataset) }
+    ensures shown { IfOk result.1 (λ r. listings (arc_value r.0.shown).list.items ≡ listings desk.segments.items ++ listing_of segment ∷ []) }
+    ensures listed { IfOk result.1 (λ r. (listings result.0.segments.items ≡ listings desk.segments.items ++ listing_of segment ∷ []) × (r.1 ≡ length result.0.segments.items)) }
+    ensures sure { IfOk result.1 (λ r. result.0.doubted ≡ None) }
+    ensures refused { OnErr result.1 (result.0.segments.items ≡ desk.segments.items) }
+    ensures doubted { IfErr result.1 (DoubtsOne segment desk.doubted result.0.doubted) }
+    ensures full { IfErr result.1 (FullWith (length desk.toc.entries)) }
+    ensures room { OnOk result.1 (length desk.toc.entries < 65535) }
+{
+    if desk.toc.entries().len() >= 65535 {
+        return (desk, Err(ListFault::Full { count: 65535 }));
+    }
+    let (desk, lists) = prepared(alloc, desk, &segment);
+    let Ok((shown, own)) = lists else {
+        return (desk, Err(ListFault::NoMemory));
+    };
+    let (desk, answer) = appended(desk, own, segment);
+    match answer {
+        Ok(number) => (desk, Ok((shown, number))),
+        Err(fault) => (desk, Err(ListFault::Disk(fault))),
+    }
+}
 
 // The list with one segment more, twice, and room for its entry in the table.
 fn prepared<F: Send, T: Disk<F>, Z: Sealed<F>>(

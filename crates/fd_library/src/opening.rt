@@ -13,6 +13,7 @@ ghost use Rattle.fd_recovery.specs.Causes.{NotTooMany, OnDamaged, OnDisk, OnNotA
 ghost use Rattle.fd_recovery.specs.Damages.{IsFirst, damages};
 ghost use Rattle.fd_recovery.specs.Recovered.{WithTable, all_of, batches_listed, held};
 ghost use Rattle.fd_library.specs.Answers.{FolderFailed, HoldsAs, IsOpened, TableBroke, TableBrokeIn};
+ghost use Rattle.fd_library.specs.Open.{AreBounded, IsWhole, seat_of};
 ghost use Rattle.fd_library.specs.Stores.{KeepsFolder, KeepsTable, LooksInto};
 
 use crate::held::{FolderDataset, FolderPass, Held};
@@ -29,6 +30,36 @@ pub(crate) struct Start<F: Send, D: Folder<F>> {
     pub(crate) pass: FolderPass<F, D>,
     pub(crate) opening: u32,
     pub(crate) last: u32,
+}
+
+impl<F: Send, D: Folder<F>> Start<F, D> {
+    // The dataset, and what is kept of it beside: its folder and its pass. No archiver was asked for.
+    fn held(self, name: String, folder: D) -> (FolderDataset<F, D>, Held<F, D>)
+        requires name { D.name folder ≡ string_bytes name }
+        requires out { D.table_out folder ≡ true }
+        requires last { D.last_writer folder ≤ self.last }
+        requires bounded { AreBounded self.opening self.last 0 0 }
+        requires whole { IsWhole (string_bytes name) (seat_of self.pass) }
+        ensures dataset { result.0 ≡ self.dataset }
+        ensures held { result.1 ≡ record { name = string_bytes name; folder = folder; pass = Some (seat_of self.pass); opening = self.opening; last = self.last; given = 0; lent = 0 } }
+    {
+        let Start {
+            dataset,
+            pass,
+            opening,
+            last,
+        } = self;
+        let held = Held {
+            name,
+            folder,
+            pass: Some(pass),
+            opening,
+            last,
+            given: 0,
+            lent: 0,
+        };
+        (dataset, held)
+    }
 }
 
 /// Opens the dataset of this folder, whose table isn't out; where there is none it is made first, if that is asked for.
@@ -226,25 +257,7 @@ where
         }
     };
     match begun(alloc, recovered) {
-        Ok(
-            Start {
-                dataset,
-                pass,
-                opening,
-                last,
-            },
-        ) => {
-            let held = Held {
-                name,
-                folder,
-                pass: Some(pass),
-                opening,
-                last,
-                given: 0,
-                lent: 0,
-            };
-            Ok(Some((dataset, held)))
-        }
+        Ok(start) => Ok(Some(start.held(name, folder))),
         Err(toc) => {
             folder.give_table(toc.into_table());
             store.give_folder(folder);

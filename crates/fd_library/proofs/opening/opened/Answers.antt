@@ -1,12 +1,13 @@
-use Rattle.std.proofs.Common.{rules, ◌≡◌, ◌∙◌, ap, refl, List, ℕ, Ok, Some, is_some, IfSome, map, length, option_map, string_bytes}
+use Rattle.std.proofs.Common.{rules, ◌≡◌, ◌∙◌, ap, refl, sym, subst, List, ℕ, Ok, Some, is_some, IfSome, map, length, option_map, string_bytes}
 use Rattle.fd_disk.specs.Folders.{SameBut, WhereTold, folder_at, with_table, without_table}
 use Rattle.fd_segment.specs.Held.{batch_of}
-use Rattle.fd_turn.specs.Passes.{view}
+use Rattle.fd_turn.specs.Passes.{BoardId, view}
 use Rattle.fd_turn.specs.Views.{first_view}
 use Rattle.fd_dataset.specs.Listed.{listings}
 use Rattle.fd_recovery.specs.Recovered.{all_of, batches_listed, held}
 use Rattle.fd_segment.specs.Shared.{entries, standings}
-use Rattle.fd_library.specs.Open.{seat_of}
+use Rattle.fd_library.specs.Open.{OpenDataset, seat_of}
+use Rattle.fd_library.specs.Answers.{HoldsAs, IsOpened}
 use Rattle.fd_library.specs.Stores.{KeepsTable}
 use Rattle.fd_library.proofs.Holding.{as_many_listed, folder_cause, holds_as, looks_back, writers_listed}
 use Rattle.fd_library.proofs.opening.opened.Goals as goal
@@ -28,18 +29,22 @@ returns-in-Ok-begun-clause-opened g c =
     let text : toc.dataset ≡ name = search rules in
     let entries : entries xs ≡ toc.entries = search rules in
     let tells = is_some (g.S.Folder.Table.Disk.file toc.table) in
-    let pass : view c.in-Ok-begun.field-0.pass ≡ first_view toc.dataset tells (listings xs) = search rules in
-    let opening : c.in-Ok-begun.field-0.opening ≡ length toc.entries = search rules in
+    let pass : view c.in-Ok-begun.start.pass ≡ first_view toc.dataset tells (listings xs) = search rules in
+    let opening : c.in-Ok-begun.start.opening ≡ length toc.entries = search rules in
     let known = pass ∙ ap (λ (n : List ℕ). first_view n tells (listings xs)) text in
-    record {
+    let kept : OpenDataset g.row.S-Folder.Denot = record { name = name; folder = c.taken_up.new.folder; pass = Some (seat_of c.in-Ok-begun.start.pass); opening = c.in-Ok-begun.start.opening; last = c.in-Ok-begun.start.last; given = 0; lent = 0 } in
+    let is : c.held.result.1 ≡ kept = search rules in
+    let board : c.held.result.0 ≡ c.in-Ok-begun.start.dataset = search rules in
+    let begun : IsOpened name c.in-Ok-begun.start.dataset kept = record {
       history = listings xs;
       told = tells;
       name_is = refl;
       pass = λ j. Some (record { board = c.in-Ok-begun.ensures.own j; view = known j });
       opening = opening ∙ as_many_listed xs toc.entries entries;
       asked = (refl, refl);
-      writers = writers_listed c.in-Ok-begun.field-0.last xs toc.entries entries c.in-Ok-begun.ensures.writers;
-    }
+      writers = writers_listed c.in-Ok-begun.start.last xs toc.entries entries c.in-Ok-begun.ensures.writers;
+    } in
+    subst (λ (b : BoardId). IsOpened name b c.held.result.1) (sym board) (subst (IsOpened name c.in-Ok-begun.start.dataset) (sym is) begun)
 
 pub returns-in-Ok-begun-clause-holds : goal.returns-in-Ok-begun-clause-holds
 returns-in-Ok-begun-clause-holds g c =
@@ -50,15 +55,17 @@ returns-in-Ok-begun-clause-holds g c =
     let text : toc.dataset ≡ name = search rules in
     let entries : entries xs ≡ toc.entries = search rules in
     let tells = is_some (g.S.Folder.Table.Disk.file toc.table) in
-    let pass : view c.in-Ok-begun.field-0.pass ≡ first_view toc.dataset tells (listings xs) = search rules in
+    let pass : view c.in-Ok-begun.start.pass ≡ first_view toc.dataset tells (listings xs) = search rules in
     let known = pass ∙ ap (λ (n : List ℕ). first_view n tells (listings xs)) text in
     let first : has c.in-Ok.folder ≡ option_map (λ s. folder_at s name) (g.S.Store.has c.args.store.now) = search rules in
     let later : has c.taken_up.new.folder ≡ option_map without_table (has c.in-Ok.folder) = search rules in
     let files : IfSome (has c.in-Ok.folder) (λ v. batches_listed v.files (Ok toc.entries) ≡ held name v) = search rules in
     let told : IfSome (has c.in-Ok.folder) (λ v. all_of (map (λ s. batch_of s.files) (standings xs)) ≡ held name v) = search rules in
-    holds_as has
-    (record { name = name; folder = c.taken_up.new.folder; pass = Some (seat_of c.in-Ok-begun.field-0.pass); opening = c.in-Ok-begun.field-0.opening; last = c.in-Ok-begun.field-0.last; given = 0; lent = 0 })
-    (g.S.Store.has c.args.store.now) (has c.in-Ok.folder) name xs toc.entries c.in-Ok-begun.field-0.dataset tells refl (λ j. Some (record { board = c.in-Ok-begun.ensures.own j; view = known j })) first later entries files told
+    let kept : OpenDataset g.row.S-Folder.Denot = record { name = name; folder = c.taken_up.new.folder; pass = Some (seat_of c.in-Ok-begun.start.pass); opening = c.in-Ok-begun.start.opening; last = c.in-Ok-begun.start.last; given = 0; lent = 0 } in
+    let is : c.held.result.1 ≡ kept = search rules in
+    subst (λ (h : OpenDataset g.row.S-Folder.Denot). IfSome (g.S.Store.has c.args.store.now) (λ s. HoldsAs has s h)) (sym is)
+    (holds_as has kept
+    (g.S.Store.has c.args.store.now) (has c.in-Ok.folder) name xs toc.entries c.in-Ok-begun.start.dataset tells refl (λ j. Some (record { board = c.in-Ok-begun.ensures.own j; view = known j })) first later entries files told)
 
 pub returns-in-Err-begun-clause-store_err : goal.returns-in-Err-begun-clause-store_err
 returns-in-Err-begun-clause-store_err g c =
