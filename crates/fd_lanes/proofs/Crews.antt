@@ -1,10 +1,11 @@
 -- From what each job did to what all lanes did.
-use Rattle.std.proofs.Common.{◌≡◌, ◌<◌, ◌≤◌, ◌+◌, ◌-◌, ◌^◌, ◌⊎◌, inl, inr, ℕ, zero, suc, List, [], ◌∷◌, ◌++◌, map, take, drop, get_or, length, sym, refl, ap, ◌∙◌, subst, arith, length-append, append_assoc, Option, Some, None, Vec, All, true}
-use Rattle.std.specs.Prelude.{Contains}
+use Rattle.std.proofs.Common.{◌≡◌, ◌<◌, ◌≤◌, ◌+◌, ◌-◌, ◌^◌, ◌⊎◌, inl, inr, ℕ, zero, suc, List, [], ◌∷◌, ◌++◌, map, take, drop, get_or, length, sym, refl, ap, ◌∙◌, subst, arith, length-append, append_assoc, Bool, Option, Some, None, Vec, All, true}
+use Rattle.std.specs.Prelude.{Contains, slice_get}
 use Rattle.std.specs.Option.{option_to_list}
 use Rattle.std.proofs.lemmas.List.{length-map}
 use Rattle.std.proofs.lemmas.List.Elements.{All-head, All-tail, All-push}
 use mathlib.Core.List.{IsPrefix, append-nil, map-append}
+use Rattle.fd_disk.specs.declared.folders.FileName.{FileName}
 use Rattle.fd_core.specs.declared.batch.Pair.{Pair}
 use Rattle.fd_core.specs.declared.batch.Listing.{Listing}
 use Rattle.fd_core.specs.Table.{greatest_writer}
@@ -25,10 +26,12 @@ use Rattle.fd_lanes.specs.Tables.{AlikeTables, StandsFor}
 use Rattle.fd_lanes.specs.Acts.{Act, ArePlaces, LanesFit, acts_of, all_acts, left_after, places_at}
 use Rattle.fd_lanes.specs.Walks.{beginning, receipts, walked}
 use Rattle.fd_lanes.specs.Legal.{IsListedIn, IsFullIn, IsAnsweredIn, IsDamagedIn, WalksIn, AllWalkIn, all_receipts, AllSound, IsDoubt, IsLegal, IsRunOf}
-use Rattle.fd_lanes.specs.Fits.{Keeps}
-use Rattle.fd_lanes.specs.Jobs.{HasRoom, IsFresh, IsReady, MayBegin, Ran, RanAt, RanJob, TookIn, all_amounts_of, all_doubts_of, all_parts_of, archivers_of, ends_of, writers_of}
+use Rattle.fd_lanes.specs.Fits.{AreKept, Keeps}
+use Rattle.fd_lanes.specs.Jobs.{AreKeptFrom, HasRoom, IsFresh, IsKeptByOne, IsReady, MayBegin, Ran, RanAt, RanJob, TookIn, all_amounts_of, all_doubts_of, all_parts_of, archivers_of, ends_of, owners_of, writers_of}
 use Rattle.fd_lanes.proofs.Histories.{prefix_self, prefix_trans, prefix_length, listed_longer, full_longer, answered_longer, damaged_longer}
-use Rattle.fd_lanes.proofs.Legality.{legal}
+use Rattle.fd_lanes.proofs.Keeping.{kept_by}
+use Rattle.fd_lanes.proofs.Legality.{each_number, legal}
+use Rattle.fd_lanes.proofs.Receipts.{number_in}
 use Rattle.fd_lanes.proofs.Running.{keeps_on, writer_fits}
 use Rattle.fd_lanes.proofs.Walking.{in_either, walks_map}
 
@@ -41,6 +44,11 @@ contains_in : {A : Type 0} (xs : List A) (x : A) (k : ℕ) → k < length xs →
 contains_in [] x k lt is = absurd (omega arith)
 contains_in (y ∷ xs) x zero lt is = inl is
 contains_in (y ∷ xs) x (suc k) lt is = inr (contains_in xs x k (omega arith) is)
+
+inside_at : {A : Type 0} (xs : List A) (k : ℕ) (x : A) → slice_get xs k ≡ Some x → k < length xs
+inside_at [] k x h = absurd (cc h)
+inside_at (y ∷ ys) zero x h = omega arith
+inside_at (y ∷ ys) (suc k) x h = let r = inside_at ys k x h in omega arith
 
 -- a pass that is split off is the same before and after other splits
 pub recipient_same : (v w : View) → v.history ≡ w.history → v.opening ≡ w.opening → v.subject ≡ w.subject → v.told ≡ w.told → recipient v ≡ recipient w
@@ -137,31 +145,33 @@ module _ (F H X Y : Type 0) where
       subst (λ (t : List ℕ). LanesFit rules messages t places lanes) (sym (ap (λ (x : View). x.subject) (ready k d lt).fresh ∙ subject)) fit)
 
   -- after the runs each pass is of the board, and free
-  pub all_back : (z : BoardId) (rules : List Rule) (messages : List (List ℕ)) (places : List Texts) (lanes : List Lane) (js ks ws : List (Job (Writing H) (Pass X Y) (List Kept) (End F))) → ws ≡ ks → length js ≡ length lanes → length ks ≡ length js
-      → ((i : ℕ) (e : Job (Writing H) (Pass X Y) (List Kept) (End F)) → i < length js → RanAt z rules messages places lanes i (get_or js i e) (get_or ks i e))
+  pub all_back : (kept : H → Option (FileName → Option (List ℕ))) (z : BoardId) (rules : List Rule) (messages : List (List ℕ)) (places : List Texts) (lanes : List Lane) (js ks ws : List (Job (Writing H) (Pass X Y) (List Kept) (End F))) → ws ≡ ks → length js ≡ length lanes → length ks ≡ length js
+      → ((i : ℕ) (e : Job (Writing H) (Pass X Y) (List Kept) (End F)) → i < length js → RanAt kept z rules messages places lanes i (get_or js i e) (get_or ks i e))
       → All (λ (j : Job (Writing H) (Pass X Y) (List Kept) (End F)). IsOf z j.pass × ((view j.pass).lock ≡ Free)) ws
-  all_back z rules messages places [] js ks ws same long long' ran = subst (All (λ (j : Job (Writing H) (Pass X Y) (List Kept) (End F)). IsOf z j.pass × ((view j.pass).lock ≡ Free))) (sym same) (λ k d lt. absurd (omega arith))
-  all_back z rules messages places (l ∷ lanes) js ks ws same long long' ran = subst (All (λ (j : Job (Writing H) (Pass X Y) (List Kept) (End F)). IsOf z j.pass × ((view j.pass).lock ≡ Free))) (sym same) (λ k d lt. let r = (ran k d (omega arith)).ran l in (r.own, r.keeps.free))
+  all_back kept z rules messages places [] js ks ws same long long' ran = subst (All (λ (j : Job (Writing H) (Pass X Y) (List Kept) (End F)). IsOf z j.pass × ((view j.pass).lock ≡ Free))) (sym same) (λ k d lt. absurd (omega arith))
+  all_back kept z rules messages places (l ∷ lanes) js ks ws same long long' ran = subst (All (λ (j : Job (Writing H) (Pass X Y) (List Kept) (End F)). IsOf z j.pass × ((view j.pass).lock ≡ Free))) (sym same) (λ k d lt. let r = (ran k d (omega arith)).ran l in (r.own, r.keeps.free))
 
-  pub record AllRan (z : BoardId) (v : View) (hs : List Listing) (script : List (List Act)) (js ks : List (Job (Writing H) (Pass X Y) (List Kept) (End F))) : Type 0 where
+  pub record AllRan (kept : H → Option (FileName → Option (List ℕ))) (z : BoardId) (v : View) (hs : List Listing) (script : List (List Act)) (js ks : List (Job (Writing H) (Pass X Y) (List Kept) (End F))) : Type 0 where
     pub walks : AllWalkIn hs (length v.history) (writers_of (archivers_of js)) script (ends_of ks)
     pub amounts : all_amounts_of ks ≡ length (all_receipts (length v.history) script (ends_of ks))
     pub parts : all_parts_of ks ≡ length js
     pub writers : writers_of (archivers_of ks) ≡ writers_of (archivers_of js)
+    pub owners : owners_of (archivers_of ks) ≡ owners_of (archivers_of js)
     pub doubts : (l : Listing) → IsIn (all_doubts_of ks) l → IsDoubt l (length v.history) script (ends_of ks)
+    pub files : (r : ℕ × List Pair) (l : Listing) → IsIn (all_receipts (length v.history) script (ends_of ks)) r → slice_get hs (r.0 - 1) ≡ Some l → IsKeptByOne kept (archivers_of ks) l
 
-  pub all_ran : (z : BoardId) (v : View) (hs : List Listing) (rules : List Rule) (messages : List (List ℕ)) (places : List Texts) (lanes : List Lane) (js ks : List (Job (Writing H) (Pass X Y) (List Kept) (End F))) → v.amount ≡ 0 → v.parts ≡ 1 → length js ≡ length lanes → length ks ≡ length js → All (IsReady z v) js
-      → ((i : ℕ) (e : Job (Writing H) (Pass X Y) (List Kept) (End F)) → i < length js → RanAt z rules messages places lanes i (get_or js i e) (get_or ks i e)) → All (λ (j : Job (Writing H) (Pass X Y) (List Kept) (End F)). IsPrefix (view j.pass).history hs) ks
-      → AllRan z v hs (all_acts rules messages places lanes) js ks
-  all_ran z v hs rules messages places [] [] [] none one long long' ready ran seen = record { walks = tt; amounts = refl; parts = refl; writers = refl; doubts = λ l i. i }
-  all_ran z v hs rules messages places [] [] (k ∷ ks) none one long long' ready ran seen = absurd (omega arith)
-  all_ran z v hs rules messages places [] (j ∷ js) ks none one long long' ready ran seen = absurd (omega arith)
-  all_ran z v hs rules messages places (a ∷ lanes) [] ks none one long long' ready ran seen = absurd (omega arith)
-  all_ran z v hs rules messages places (a ∷ lanes) (j ∷ js) [] none one long long' ready ran seen = absurd (omega arith)
-  all_ran z v hs rules messages places (a ∷ lanes) (j ∷ js) (k ∷ ks) none one long long' ready ran seen =
-      let rest = all_ran z v hs rules messages (left_after places a.steps) lanes js ks none one (omega arith) (omega arith) (All-tail (IsReady z v) j js ready) (λ i e lt. record { ran = λ d. (ran (suc i) e (omega arith)).ran d }) (All-tail (λ (x : Job (Writing H) (Pass X Y) (List Kept) (End F)). IsPrefix (view x.pass).history hs) k ks seen) in
+  pub all_ran : (kept : H → Option (FileName → Option (List ℕ))) (z : BoardId) (v : View) (hs : List Listing) (rules : List Rule) (messages : List (List ℕ)) (places : List Texts) (lanes : List Lane) (js ks : List (Job (Writing H) (Pass X Y) (List Kept) (End F))) → v.amount ≡ 0 → v.parts ≡ 1 → length js ≡ length lanes → length ks ≡ length js → All (IsReady z v) js
+      → ((i : ℕ) (e : Job (Writing H) (Pass X Y) (List Kept) (End F)) → i < length js → RanAt kept z rules messages places lanes i (get_or js i e) (get_or ks i e)) → All (λ (j : Job (Writing H) (Pass X Y) (List Kept) (End F)). IsPrefix (view j.pass).history hs) ks
+      → AllRan kept z v hs (all_acts rules messages places lanes) js ks
+  all_ran kept z v hs rules messages places [] [] [] none one long long' ready ran seen = record { walks = tt; amounts = refl; parts = refl; writers = refl; owners = refl; doubts = λ l i. i; files = λ r l i at. absurd i }
+  all_ran kept z v hs rules messages places [] [] (k ∷ ks) none one long long' ready ran seen = absurd (omega arith)
+  all_ran kept z v hs rules messages places [] (j ∷ js) ks none one long long' ready ran seen = absurd (omega arith)
+  all_ran kept z v hs rules messages places (a ∷ lanes) [] ks none one long long' ready ran seen = absurd (omega arith)
+  all_ran kept z v hs rules messages places (a ∷ lanes) (j ∷ js) [] none one long long' ready ran seen = absurd (omega arith)
+  all_ran kept z v hs rules messages places (a ∷ lanes) (j ∷ js) (k ∷ ks) none one long long' ready ran seen =
+      let rest = all_ran kept z v hs rules messages (left_after places a.steps) lanes js ks none one (omega arith) (omega arith) (All-tail (IsReady z v) j js ready) (λ i e lt. record { ran = λ d. (ran (suc i) e (omega arith)).ran d }) (All-tail (λ (x : Job (Writing H) (Pass X Y) (List Kept) (End F)). IsPrefix (view x.pass).history hs) k ks seen) in
       let acts : List Act = acts_of rules messages places a.steps in
-      let r : RanJob z acts j k = (ran 0 j (omega arith)).ran a in
+      let r : RanJob kept z acts j k = (ran 0 j (omega arith)).ran a in
       let p : IsPrefix (view k.pass).history hs = seen 0 k (omega arith) in
       let fresh : view j.pass ≡ v = (ready 0 j (omega arith)).fresh in
       let w : ℕ = j.archiver.writer in
@@ -181,6 +191,8 @@ module _ (F H X Y : Type 0) where
         amounts = omega arith;
         parts = omega arith;
         writers = (let rw' = r.writer in let rr = rest.writers in cc (rw', rr));
+        owners = (let rw' = r.writer in let rd = r.dataset in let rt = r.told in let rr = rest.owners in cc (rw', rd, rt, rr));
+        files = λ m l i at. its m l (λ q. rest.files m l q at) at (subst (λ (n : ℕ). AreKept kept k.archiver (view k.pass).history (receipts (beginning n) acts k.ends.items)) long_is r.listed) p (in_either (receipts (beginning b) acts k.ends.items) (all_receipts b (all_acts rules messages (left_after places a.steps) lanes) (ends_of ks)) m i);
         doubts = λ l i. go l (λ q. rest.doubts l q) (subst (λ (n : ℕ). (m : Listing) → IsIn (view k.pass).doubts m → ((walked (beginning n) acts k.ends.items).faulted ≡ true) × StandsFor m (walked (beginning n) acts k.ends.items).pending) long_is r.doubts l) (in_either (view k.pass).doubts (all_doubts_of ks) l i);
       }
     where
@@ -189,6 +201,12 @@ module _ (F H X Y : Type 0) where
           → IsIn (view k.pass).doubts l ⊎ IsIn (all_doubts_of ks) l → IsDoubt l (length v.history) (all_acts rules messages places (a ∷ lanes)) (ends_of (k ∷ ks))
       go l later here (inl q) = inl (here q)
       go l later here (inr q) = inr (later q)
+
+      its : (m : ℕ × List Pair) (l : Listing) → (IsIn (all_receipts (length v.history) (all_acts rules messages (left_after places a.steps) lanes) (ends_of ks)) m → IsKeptByOne kept (archivers_of ks) l) → slice_get hs (m.0 - 1) ≡ Some l
+          → AreKept kept k.archiver (view k.pass).history (receipts (beginning (length v.history)) (acts_of rules messages places a.steps) k.ends.items) → IsPrefix (view k.pass).history hs
+          → IsIn (receipts (beginning (length v.history)) (acts_of rules messages places a.steps) k.ends.items) m ⊎ IsIn (all_receipts (length v.history) (all_acts rules messages (left_after places a.steps) lanes) (ends_of ks)) m → IsKeptByOne kept (archivers_of (k ∷ ks)) l
+      its m l later at here seen (inl q) = inl (kept_by F H kept k.archiver (view k.pass).history hs m.1 m.0 l seen (here m q) at)
+      its m l later at here seen (inr q) = inr (later q)
 
   -- what is known of the pass at each call
   pub record Passed (z : BoardId) (v0 v1 v2 v3 v4 : View) (before : ℕ) (xs : List (Writing H)) (js ks : List (Job (Writing H) (Pass X Y) (List Kept) (End F))) : Type 0 where
@@ -210,15 +228,15 @@ module _ (F H X Y : Type 0) where
     pub few4 : length v4.history ≤ 65535
     pub rest4 : v4 ≡ record v3 { history = v4.history; doubts = v4.doubts }
 
-  pub finish : (z : BoardId) (v0 v1 v2 v3 v4 : View) (before : ℕ) (rules : List Rule) (messages : List (List ℕ)) (places : List Texts) (lanes : List Lane) (xs : List (Writing H)) (js ks : List (Job (Writing H) (Pass X Y) (List Kept) (End F)))
+  pub finish : (kept : H → Option (FileName → Option (List ℕ))) (z : BoardId) (v0 v1 v2 v3 v4 : View) (before : ℕ) (rules : List Rule) (messages : List (List ℕ)) (places : List Texts) (lanes : List Lane) (xs : List (Writing H)) (js ks : List (Job (Writing H) (Pass X Y) (List Kept) (End F)))
       → Passed z v0 v1 v2 v3 v4 before xs js ks → Differ (writers_of xs) → length xs ≡ length lanes → length ks ≡ length js
-      → ((i : ℕ) (e : Job (Writing H) (Pass X Y) (List Kept) (End F)) → i < length js → RanAt z rules messages places lanes i (get_or js i e) (get_or ks i e))
-      → Ran v0 v4 before (all_acts rules messages places lanes) (ends_of ks) × (writers_of (archivers_of ks) ≡ writers_of xs)
-  finish z v0 v1 v2 v3 v4 before rules messages places lanes xs js ks p differ long long' ran =
+      → ((i : ℕ) (e : Job (Writing H) (Pass X Y) (List Kept) (End F)) → i < length js → RanAt kept z rules messages places lanes i (get_or js i e) (get_or ks i e))
+      → Ran v0 v4 before (all_acts rules messages places lanes) (ends_of ks) × (writers_of (archivers_of ks) ≡ writers_of xs) × (owners_of (archivers_of ks) ≡ owners_of xs) × AreKeptFrom kept (archivers_of ks) before v4.history
+  finish kept z v0 v1 v2 v3 v4 before rules messages places lanes xs js ks p differ long long' ran =
       let script : List (List Act) = all_acts rules messages places lanes in
       let n : length xs ≡ length js = ap length (sym p.archivers) ∙ length-map js (λ j. j.archiver) in
       let each : All (λ (j : Job (Writing H) (Pass X Y) (List Kept) (End F)). IsPrefix (view j.pass).history v4.history) ks = λ k d lt. prefix_trans (view (get_or ks k d).pass).history v3.history v4.history (p.took.each k d lt) p.seen4 in
-      let g = all_ran z (recipient v1) v4.history rules messages places lanes js ks refl refl (omega arith) long' p.ready ran each in
+      let g = all_ran kept z (recipient v1) v4.history rules messages places lanes js ks refl refl (omega arith) long' p.ready ran each in
       let rs : ℕ = length (all_receipts (length v1.history) script (ends_of ks)) in
       let amounts : all_amounts_of ks ≡ rs = g.amounts in
       let parts = g.parts in
@@ -258,6 +276,12 @@ module _ (F H X Y : Type 0) where
           doubts = λ l c. subst (λ (b : ℕ). IsDoubt l b script (ends_of ks)) (sym b1) (g.doubts l (go p.fewer4 doubts3 l (contains_in v4.doubts l c.0 c.1 c.2)));
         },
         g.writers ∙ ap (λ (ys : List (Writing H)). writers_of ys) p.archivers,
+        g.owners ∙ ap (λ (ys : List (Writing H)). owners_of ys) p.archivers,
+        λ i l low at.
+            let lt = inside_at v4.history i l at in
+            let place : i ≡ i + 1 - 1 = omega arith in
+            let r = number_in (all_receipts (length v1.history) script (ends_of ks)) (i + 1) (each_number F v4.history (length v1.history) (writers_of (archivers_of js)) script (ends_of ks) differ' g.walks total (i + 1) (omega arith) (omega arith)) in
+            g.files (i + 1, r.0) l r.1 (subst (λ (m : ℕ). slice_get v4.history m ≡ Some l) place at),
       )
     where
       go : AreFewer v3.doubts v4.doubts → v3.doubts ≡ all_doubts_of ks → (l : Listing) → IsIn v4.doubts l → IsIn (all_doubts_of ks) l

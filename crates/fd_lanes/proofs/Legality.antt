@@ -149,6 +149,14 @@ listed_there rs b n front long once z p i low high =
     let here : suc b + (z - 1 - b) ≡ z = omega arith in
     slice_past front (picks rs b n) (z - 1 - b) (z - 1) place ∙ (picks_at rs b n (z - 1 - b) (omega arith) ∙ ap (λ (x : List Pair). Some x) (ap (pick rs) here ∙ pick_is rs z p once i))
 
+-- each number behind b is that of a receipt
+pub each_number : (F : Type 0) (hs : List Listing) (b : ℕ) (ws : List ℕ) (script : List (List Act)) (ends : List (List (End F))) → Differ ws → AllWalkIn hs b ws script ends → length hs ≡ b + length (all_receipts b script ends)
+    → (z : ℕ) → b < z → z ≤ length hs → IsIn (numbers_in (all_receipts b script ends)) z
+each_number F hs b ws script ends differ walks count z low high =
+    let rs = all_receipts b script ends in
+    let many : length (numbers_in rs) ≡ length rs = length-map rs (λ r. r.0) in
+    all_of_them (numbers_in rs) b (length rs) z many (all_differ F hs b ws script ends differ walks) (λ y i. let p = number_in rs y i in let s = all_say F hs b ws script ends (y, p.0) walks p.1 in let le = s.inside in (s.new, omega arith)) low (omega arith)
+
 -- The lanes' ends are legal, over the table that was there and the batches that they listed
 pub legal : (F : Type 0) (hs : List Listing) (b : ℕ) (ws : List ℕ) (script : List (List Act)) (ends : List (List (End F))) (whole : List (List Pair)) → Differ ws → AllWalkIn hs b ws script ends
     → length hs ≡ b + length (all_receipts b script ends) → length hs ≤ 65535 → Tells hs whole

@@ -5,6 +5,7 @@ mod Receipts
 mod Legality
 mod Stepping
 mod Rooms
+mod Keeping
 mod Running
 mod Placing
 mod Rows

@@ -1,5 +1,6 @@
 -- Walks of a lane, one step after another.
-use Rattle.std.proofs.Common.{◌≡◌, ◌<◌, ◌≤◌, ◌+◌, ◌-◌, ℕ, zero, suc, List, [], ◌∷◌, ◌++◌, map, length, sym, refl, ap, ◌∙◌, subst, arith, length-append, Option, Some, None, ◌⊎◌, inl, inr}
+use Rattle.std.proofs.Common.{◌≡◌, ◌<◌, ◌≤◌, ◌+◌, ◌-◌, ℕ, zero, suc, List, [], ◌∷◌, ◌++◌, map, length, sym, refl, ap, ◌∙◌, subst, arith, length-append, append_assoc, Option, Some, None, ◌⊎◌, inl, inr}
+use mathlib.Core.List.{append-nil}
 use Rattle.fd_core.specs.declared.batch.Pair.{Pair}
 use Rattle.fd_numbers.specs.Numbers.{IsIn, Differ}
 use Rattle.fd_lanes.specs.Acts.{Act, Put, Flush, Get}
@@ -56,6 +57,13 @@ module _ (F : Type 0) (P : List Pair → ℕ → Type 0) (Q : Type 0) (R : ℕ �
       let one = length-append (receipt s x) (receipts (after s t x) (steps ++ step ∷ []) (es ++ e ∷ [])) in
       let two = length-append (receipt s x) (receipts (after s t x) steps es) in
       omega arith
+
+  pub receipts_are : (s : Stand) (steps : List Act) (es : List (End F)) (step : Act) (e : End F) → Walks P Q R D s steps es → receipts s (steps ++ step ∷ []) (es ++ e ∷ []) ≡ receipts s steps es ++ receipt (walked s steps es) e
+  receipts_are s [] [] step e w = append-nil (receipt s e)
+  receipts_are s [] (x ∷ es) step e w = absurd w
+  receipts_are s (t ∷ steps) [] step e w = absurd w
+  receipts_are s (t ∷ steps) (x ∷ es) step e w =
+      ap (λ (rs : List (ℕ × List Pair)). receipt s x ++ rs) (receipts_are (after s t x) steps es step e w.1) ∙ sym (append_assoc (receipt s x) (receipts (after s t x) steps es) (receipt (walked (after s t x) steps es) e))
 
   pub as_many : (s : Stand) (steps : List Act) (es : List (End F)) → Walks P Q R D s steps es → length es ≡ length steps
   as_many s [] [] w = refl

@@ -1,8 +1,9 @@
 -- What a job has before it runs, what a run leaves of it, and what joining all passes makes of one.
-use Rattle.std.specs.Prelude.{◌≡◌, ◌≤◌, ◌<◌, ◌+◌, ◌-◌, ◌^◌, ◌++◌, ℕ, List, [], ◌∷◌, map, take, length, All, slice_index_or, Contains, true}
+use Rattle.std.specs.Prelude.{◌≡◌, ◌≤◌, ◌<◌, ◌+◌, ◌-◌, ◌^◌, ◌++◌, ◌⊎◌, ℕ, Bool, List, [], ◌∷◌, map, take, length, All, slice_get, slice_index_or, Contains, Option, Some, IsSome, true}
 use Rattle.std.specs.Vec.{vec_capacity}
 use Rattle.std.specs.declared.vec.Vec.{Vec}
 use mathlib.Core.List.{IsPrefix}
+use Rattle.fd_disk.specs.declared.folders.FileName.{FileName}
 use Rattle.fd_core.specs.declared.batch.Pair.{Pair}
 use Rattle.fd_core.specs.declared.batch.Listing.{Listing}
 use Rattle.fd_core.specs.Table.{greatest_writer}
@@ -10,7 +11,9 @@ use Rattle.fd_turn.specs.declared.view.Lock.TheVariants.{Free}
 use Rattle.fd_turn.specs.declared.board.Pass.{Pass}
 use Rattle.fd_turn.specs.Views.{View}
 use Rattle.fd_turn.specs.Passes.{BoardId, view, IsOf}
-use Rattle.fd_archiver.specs.Writing.{IsPending, Writing}
+use Rattle.fd_segment.specs.Held.{Standing, batch_of}
+use Rattle.fd_dataset.specs.Listed.{listing}
+use Rattle.fd_archiver.specs.Writing.{IsKept, IsPending, Writing}
 use Rattle.fd_retriever.specs.Kept.{Kept}
 use Rattle.fd_retriever.specs.Answers.{Tells}
 use Rattle.fd_schema.specs.Rules.{Rule, Texts}
@@ -23,7 +26,7 @@ use Rattle.fd_numbers.specs.Numbers.{IsIn}
 use Rattle.fd_lanes.specs.Tables.{AlikeTables, StandsFor}
 use Rattle.fd_lanes.specs.Walks.{beginning, receipts, walked}
 use Rattle.fd_lanes.specs.Legal.{WalksIn, IsLegal, IsDoubt, AllSound}
-use Rattle.fd_lanes.specs.Fits.{Keeps, StaysOf}
+use Rattle.fd_lanes.specs.Fits.{AreKept, Keeps, StaysOf}
 
 -- room for the ends of a lane
 pub record HasRoom {F A : Type 0} (v : Vec (End F) A) : Type 0 where
@@ -47,6 +50,30 @@ pub record MayBegin {H : Type 0} (text : List ℕ) (entries : ℕ) (w : Writing 
 
 abbrev pub writers_of : {H : Type 0} → List (Writing H) → List ℕ
 writers_of xs = map (λ (a : Writing _). a.writer) xs
+
+-- whose archivers they are: the writer, the dataset's text, and whether the shelf tells what it keeps
+abbrev pub owners_of : {H : Type 0} → List (Writing H) → List (ℕ × List ℕ × Bool)
+owners_of xs = map (λ (a : Writing _). (a.writer, a.dataset, a.told)) xs
+
+-- what the shelves of archivers keep
+module _ {H : Type 0} (kept : H → Option (FileName → Option (List ℕ))) where
+  -- The listing is that of a segment of this archiver, both of whose files its shelf keeps; where the shelf tells, they stand
+  -- for a batch.
+  pub record IsKeptBy (w : Writing H) (l : Listing) : Type 0 where
+    pub segment : Standing
+    pub is : l ≡ listing segment
+    pub by : segment.files.entry.writer ≡ w.writer
+    pub files : IsKept (kept w.shelf) segment
+    pub batch : w.told ≡ true → IsSome (batch_of segment.files)
+
+  -- one of these archivers keeps it so
+  abbrev pub IsKeptByOne : List (Writing H) → Listing → Type 0
+  IsKeptByOne [] l = ⊥
+  IsKeptByOne (w ∷ ws) l = IsKeptBy w l ⊎ IsKeptByOne ws l
+
+  -- each listing of the history from this place on is kept by one of these archivers
+  abbrev pub AreKeptFrom : List (Writing H) → ℕ → List Listing → Type 0
+  AreKeptFrom ws before history = (i : ℕ) (l : Listing) → before ≤ i → slice_get history i ≡ Some l → IsKeptByOne ws l
 
 module _ {F H X Y : Type 0} where
   -- the archivers of jobs, and their ends
@@ -73,19 +100,21 @@ module _ {F H X Y : Type 0} where
     pub room : HasRoom j.ends
 
   -- a run of these steps leaves this of the job
-  pub record RanJob (z : BoardId) (acts : List Act) (j k : Job (Writing H) (Pass X Y) (List Kept) (End F)) : Type 0 where
+  pub record RanJob (kept : H → Option (FileName → Option (List ℕ))) (z : BoardId) (acts : List Act) (j k : Job (Writing H) (Pass X Y) (List Kept) (End F)) : Type 0 where
     pub own : IsOf z k.pass
     pub keeps : Keeps (view j.pass) (view k.pass)
     pub writer : k.archiver.writer ≡ j.archiver.writer
     pub dataset : k.archiver.dataset ≡ j.archiver.dataset
+    pub told : k.archiver.told ≡ j.archiver.told
     pub walks : WalksIn (view k.pass).history j.archiver.writer (beginning (length (view j.pass).history)) acts k.ends.items
     pub pending : IsPending k.archiver (walked (beginning (length (view j.pass).history)) acts k.ends.items).pending
     pub amount : (view k.pass).amount ≡ (view j.pass).amount + length (receipts (beginning (length (view j.pass).history)) acts k.ends.items)
+    pub listed : AreKept kept k.archiver (view k.pass).history (receipts (beginning (length (view j.pass).history)) acts k.ends.items)
     pub doubts : (l : Listing) → IsIn (view k.pass).doubts l → ((walked (beginning (length (view j.pass).history)) acts k.ends.items).faulted ≡ true) × StandsFor l (walked (beginning (length (view j.pass).history)) acts k.ends.items).pending
 
   -- the same of the job and the lane at one place
-  pub record RanAt (z : BoardId) (rules : List Rule) (messages : List (List ℕ)) (places : List Texts) (lanes : List Lane) (i : ℕ) (j k : Job (Writing H) (Pass X Y) (List Kept) (End F)) : Type 0 where
-    pub ran : (d : Lane) → RanJob z (acts_of rules messages (places_at places lanes i) (slice_index_or lanes i d).steps) j k
+  pub record RanAt (kept : H → Option (FileName → Option (List ℕ))) (z : BoardId) (rules : List Rule) (messages : List (List ℕ)) (places : List Texts) (lanes : List Lane) (i : ℕ) (j k : Job (Writing H) (Pass X Y) (List Kept) (End F)) : Type 0 where
+    pub ran : (d : Lane) → RanJob kept z (acts_of rules messages (places_at places lanes i) (slice_index_or lanes i d).steps) j k
 
   abbrev pub all_parts_of : List (Job (Writing H) (Pass X Y) (List Kept) (End F)) → ℕ
   all_parts_of [] = 0

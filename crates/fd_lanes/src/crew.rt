@@ -12,7 +12,7 @@ ghost use Rattle.fd_lanes.specs.Acts.{ArePlaces, LanesFit, all_acts};
 ghost use Rattle.fd_lanes.specs.Legal.{IsRunOf};
 ghost use Rattle.fd_numbers.specs.Numbers.{Differ};
 ghost use Rattle.fd_lanes.specs.Fits.{Keeps};
-ghost use Rattle.fd_lanes.specs.Jobs.{archivers_of, ends_of, IsFresh, IsReady, IsRoom, MayBegin, RanAt, Ran, TookIn, writers_of};
+ghost use Rattle.fd_lanes.specs.Jobs.{archivers_of, AreKeptFrom, ends_of, IsFresh, IsReady, IsRoom, MayBegin, owners_of, RanAt, Ran, TookIn, writers_of};
 
 use crate::end::{End, Ends};
 use crate::lane::{Job, LaneJob, LaneRoom, Room};
@@ -150,7 +150,7 @@ where
     requires short { All (λ l. length l.steps ≤ 4096) lanes.now }
     requires steps { LanesFit schema.now messages.now (view job.old.pass).subject (map seen_place places.now) lanes.now }
     requires fresh { IsFresh dataset.now job.old }
-    ensures ran { RanAt dataset.now schema.now messages.now (map seen_place places.now) lanes.now i job.old job.new }
+    ensures ran { RanAt H.kept dataset.now schema.now messages.now (map seen_place places.now) lanes.now i job.old job.new }
 {
     let own = places_at(lanes, i, places);
     let number = i as u32 + 1;
@@ -178,7 +178,7 @@ where
     requires fresh { All (IsFresh dataset.now) jobs.old }
     requires steps { All (λ j. LanesFit schema.now messages.now (view j.pass).subject (map seen_place places.now) lanes.now) jobs.old }
     ensures long { length jobs.new ≡ length jobs.old }
-    ensures ran { (i : ℕ) (e : _) → i < length jobs.old → RanAt dataset.now schema.now messages.now (map seen_place places.now) lanes.now i (slice_index_or jobs.old i e) (slice_index_or jobs.new i e) }
+    ensures ran { (i : ℕ) (e : _) → i < length jobs.old → RanAt H.kept dataset.now schema.now messages.now (map seen_place places.now) lanes.now i (slice_index_or jobs.old i e) (slice_index_or jobs.new i e) }
 {
     thread::for_each_mut(
         rt,
@@ -186,7 +186,7 @@ where
         8,
         &|i: usize, job: &mut LaneJob<F, T, H>|
             requires { (i < length lanes.now) × (length lanes.now ≤ 8) × All (λ l. length l.steps ≤ 4096) lanes.now × LanesFit schema.now messages.now (view job.old.pass).subject (map seen_place places.now) lanes.now × IsFresh dataset.now job.old }
-            ensures { RanAt dataset.entry.now schema.entry.now messages.entry.now (map seen_place places.entry.now) lanes.entry.now i job.old job.new }
+            ensures { RanAt H.kept dataset.entry.now schema.entry.now messages.entry.now (map seen_place places.entry.now) lanes.entry.now i job.old job.new }
         {
             run_at(
                 rt, alloc, gate, lanes, schema, messages, places, dataset, i, job,
@@ -263,6 +263,8 @@ where
     ensures own { IsSame pass.old pass.new }
     ensures ran { Ran (view pass.old) (view pass.new) (length (view pass.old).history) (all_acts schema.now messages.now (map seen_place places.now) lanes.now) result.1.items }
     ensures writers { writers_of result.0.items ≡ writers_of archivers.items }
+    ensures owners { owners_of result.0.items ≡ owners_of archivers.items }
+    ensures files { AreKeptFrom H.kept result.0.items (length (view pass.old).history) (view pass.new).history }
 {
     let mut jobs = sent_out(dataset, pass, archivers, rooms, jobs);
     run_all(
@@ -311,7 +313,10 @@ where
     ensures ran { IfOk result (λ o. Ran (view crew.pass) (view o.crew.pass) o.transcript.before (all_acts schema.now messages.now (map seen_place places.now) script.now.lanes) o.transcript.lanes) }
     ensures legal { IfOk result (λ o. (t : List (List Pair)) → Tells (view o.crew.pass).history t → IsRunOf schema.now messages.now script.now.lanes o.transcript.before t o.transcript.lanes) }
     ensures writers { IfOk result (λ o. writers_of o.crew.archivers.items ≡ writers_of crew.archivers.items) }
+    ensures owners { IfOk result (λ o. owners_of o.crew.archivers.items ≡ owners_of crew.archivers.items) }
+    ensures files { IfOk result (λ o. AreKeptFrom H.kept o.crew.archivers.items o.transcript.before (view o.crew.pass).history) }
     ensures own_err { IfErr result (λ e. IsSame crew.pass e.0.pass × Keeps (view crew.pass) (view e.0.pass)) }
+    ensures calm_err { IfErr result (λ e. ((view e.0.pass).amount ≡ (view crew.pass).amount) × ((view e.0.pass).doubts ≡ (view crew.pass).doubts)) }
     ensures archivers_err { IfErr result (λ e. e.0.archivers ≡ crew.archivers) }
 {
     let Crew {

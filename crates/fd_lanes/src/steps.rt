@@ -12,7 +12,8 @@ ghost use Rattle.fd_retriever.specs.Kept as opened;
 ghost use Rattle.fd_lanes.specs.Acts as acts;
 ghost use Rattle.fd_lanes.specs.Acts.{AllFitting, Fitting, act_of, acts_of, asked_keys};
 ghost use Rattle.fd_lanes.specs.Walks.{Stand};
-ghost use Rattle.fd_lanes.specs.Fits.{Fits, GotAs, IsRoomy, Keeps, Moves, StaysOf};
+ghost use Rattle.fd_core.specs.declared.batch.Listing.{Listing};
+ghost use Rattle.fd_lanes.specs.Fits.{Fits, GotAs, IsRoomy, Keeps, KeepsOn, Moves, StaysOf};
 ghost use Rattle.fd_lanes.specs.Jobs.{HasRoom, MayBegin, RanJob};
 
 use crate::end::End;
@@ -44,6 +45,7 @@ where
     requires room { IsRoomy archiver.old }
     ensures stays { StaysOf archiver.old archiver.new }
     ensures moves { (v : View) (s : Stand) → Fits archiver.old v s → Moves archiver.old archiver.new v v s (acts.Put (record { key = file_key (seen_place place.now); bytes = bytes.now })) result }
+    ensures kept { (history : List Listing) → KeepsOn H.kept archiver.old archiver.new history result }
 {
     match archiver.archive(place, bytes) {
         Ok(()) => End::PutOk,
@@ -71,6 +73,7 @@ where
     ensures keeps { Keeps (view pass.old) (view pass.new) }
     ensures stays { StaysOf archiver.old archiver.new }
     ensures moves { (s : Stand) → Fits archiver.old (view pass.old) s → Moves archiver.old archiver.new (view pass.old) (view pass.new) s acts.Flush result }
+    ensures kept { KeepsOn H.kept archiver.old archiver.new (view pass.new).history result }
 {
     match archiver.flush(rt, alloc, dataset, pass) {
         Ok(Flush::Nothing) => End::Nothing,
@@ -144,6 +147,7 @@ where
     ensures fits { opened.Fits job.new.lenses (view job.new.pass).history }
     ensures ends { job.new.ends ≡ job.old.ends }
     ensures moves { (s : Stand) → Fits job.old.archiver (view job.old.pass) s → Moves job.old.archiver job.new.archiver (view job.old.pass) (view job.new.pass) s (act_of schema.now messages.now (map seen_place places.now) step.now) result }
+    ensures kept { KeepsOn H.kept job.old.archiver job.new.archiver (view job.new.pass).history result }
 {
     every_later_snapshot();
     match step {
@@ -187,7 +191,7 @@ where
     requires few { length steps.now ≤ 4096 }
     requires steps { AllFitting schema.now messages.now (view job.old.pass).subject (map seen_place places.now) steps.now }
     requires room { HasRoom job.old.ends }
-    ensures ran { RanJob dataset.now (acts_of schema.now messages.now (map seen_place places.now) steps.now) job.old job.new }
+    ensures ran { RanJob H.kept dataset.now (acts_of schema.now messages.now (map seen_place places.now) steps.now) job.old job.new }
 {
     every_snapshot();
     let mut rest = places;

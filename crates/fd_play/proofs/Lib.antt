@@ -1,0 +1,6 @@
+mod Staffing
+mod Handing
+mod Crewing
+mod Telling
+mod Lasting
+mod Opening

@@ -1,0 +1,108 @@
+-- What a run of a script leaves of its dataset, and of the store.
+use Rattle.std.specs.Prelude.{◌≡◌, ◌⊎◌, ◌≤◌, ◌<◌, ◌++◌, ℕ, List, [], ◌∷◌, All, length, Option, Some, None, IfSome, Result, Ok, Err, is_some}
+use Rattle.fd_disk.specs.declared.file.File.{File}
+use Rattle.fd_disk.specs.declared.folders.FileName.{FileName}
+use Rattle.fd_disk.specs.Folders.{Contents, Holdings, SameBut, WhereTold, folder_at}
+use Rattle.fd_disk.specs.Images.{IsImage}
+use Rattle.fd_core.specs.declared.batch.Pair.{Pair}
+use Rattle.fd_core.specs.declared.batch.Listing.{Listing}
+use Rattle.fd_core.specs.declared.table.Entry.{Entry}
+use Rattle.fd_core.specs.declared.table.NotATable.{NotATable}
+use Rattle.fd_core.specs.Table.{listed}
+use Rattle.fd_schema.specs.Rules.{Rule, Texts}
+use Rattle.fd_numbers.specs.Numbers.{Differ}
+use Rattle.fd_turn.specs.Views.{View}
+use Rattle.fd_turn.specs.Passes.{BoardId}
+use Rattle.fd_archiver.specs.Writing.{Writing}
+use Rattle.fd_recovery.specs.declared.fault.OpenFault.{OpenFault}
+use Rattle.fd_recovery.specs.declared.fault.OpenFault.TheVariants as faults
+use Rattle.fd_recovery.specs.Damages.{IsFirst, damages}
+use Rattle.fd_recovery.specs.Recovered.{WithTable, batches_listed}
+use Rattle.fd_library.specs.Open.{OpenDataset, OpenDatasets}
+use Rattle.fd_library.specs.Stores.{held_of, held_with}
+use Rattle.fd_script.specs.declared.script.Lane.{Lane}
+use Rattle.fd_script.specs.Scripts.{Scripted}
+use Rattle.fd_lanes.specs.declared.end.End.{End}
+use Rattle.fd_lanes.specs.Acts.{ArePlaces, all_acts}
+use Rattle.fd_lanes.specs.Jobs.{AreKeptFrom, Ran, owners_of, writers_of}
+use Rattle.fd_lanes.specs.Legal.{AllSound, IsDoubt, Legal}
+use Rattle.fd_lanes.specs.Tables.{AlikeTables}
+use Rattle.fd_play.specs.Staff.{HandsBack, IsSole, IsStaff}
+
+-- Why a dataset wasn't opened: what is broken in it stands there. A fault and want of memory say nothing of it.
+abbrev pub IsUnopened : {F : Type 0} → List ℕ → OpenFault F → Holdings → Type 0
+IsUnopened name (faults.Disk f) h = Unit {0}
+IsUnopened name (faults.NotATable at want found) h = WithTable (folder_at h name).table (λ f. listed name f.reads ≡ Err (record { at = at; want = want; found = found }))
+IsUnopened name (faults.Damaged d) h = WithTable (folder_at h name).table (λ f. (es : List Entry) × (listed name f.reads ≡ Ok es) × IsFirst d (damages (folder_at h name).files es))
+IsUnopened name (faults.TooMany count) h = ⊥
+IsUnopened name faults.NoMemory h = Unit {0}
+
+-- each dataset holds what it held, and the schema is as it was
+pub record HoldsSame (h i : Holdings) : Type 0 where
+  pub schema : i.schema ≡ h.schema
+  pub each : (name : List ℕ) → held_of i name ≡ held_of h name
+
+-- These files hold the batches, by alike, where these are listed.
+abbrev pub HoldBatches : (FileName → Option (List ℕ)) → Result (List Entry) NotATable → List (List Pair) → Type 0
+HoldBatches files es t = (u : List (List Pair)) × (batches_listed files es ≡ Some u) × AlikeTables u t
+
+-- The table's bytes list the batches, and behind them one entry more: that of what a lane has pending of which a flush
+-- failed since its last listed one.
+pub record HasOneMore (name : List ℕ) (files : FileName → Option (List ℕ)) (c : List ℕ) (t : List (List Pair)) (IsDoubted : Listing → Type 0) : Type 0 where
+  pub entries : List Entry
+  pub more : Listing
+  pub lists : listed name c ≡ Ok (entries ++ more.entry ∷ [])
+  pub holds : HoldBatches files (Ok entries) t
+  pub doubted : IsDoubted more
+
+module _ {F : Type 0} where
+  -- The lanes of a script ran over a dataset that held these batches: how their steps ended is legal, and each image of the
+  -- table that the store has now lists the batches that were there and those that were listed, or one in doubt behind them.
+  pub record PlayedOver (rules : List Rule) (messages : List (List ℕ)) (s : Scripted) (before : ℕ) (ends : List (List (End F))) (t : List (List Pair)) (i : Holdings) : Type 0 where
+    pub before_is : before ≡ length t
+    pub flushed : List (List Pair)
+    pub legal : Legal rules messages t flushed s.lanes ends
+    pub sound : AllSound ends
+    pub table : File
+    pub table_is : (folder_at i s.dataset).table ≡ Some table
+    pub reads : IsImage table table.reads
+    pub images : (c : List ℕ) → IsImage table c → HoldBatches (folder_at i s.dataset).files (listed s.dataset c) (t ++ flushed)
+        ⊎ HasOneMore s.dataset (folder_at i s.dataset).files c (t ++ flushed) (λ l. IsDoubt l before (all_acts rules messages legal.places s.lanes) ends)
+
+  -- The lanes of a script ran over a store that held h and holds i. The schema and the other datasets are as they were.
+  pub record Played (rules : List Rule) (messages : List (List ℕ)) (s : Scripted) (before : ℕ) (ends : List (List (End F))) (h i : Holdings) : Type 0 where
+    pub others : SameBut s.dataset h i
+    pub over : (t : List (List Pair)) → held_of h s.dataset ≡ Some t → PlayedOver rules messages s before ends t i
+
+-- The lanes ran over an open dataset, which then went back to the store with its archivers.
+pub record PlayedOpen {F D H : Type 0} (has : D → Option Contents) (kept : H → Option (FileName → Option (List ℕ))) (rules : List Rule) (messages : List (List ℕ)) (s : Scripted) (before : ℕ) (ends : List (List (End F))) (b : BoardId) (h : OpenDataset D) (old new : Option Holdings) : Type 0 where
+  pub last : OpenDataset D
+  pub first : View
+  pub pass : View
+  pub was : h.pass ≡ Some (record { board = b; view = first })
+  pub pass_is : last.pass ≡ Some (record { board = b; view = pass })
+  pub name : last.name ≡ h.name
+  pub same : has last.folder ≡ has h.folder
+  pub staff : List (Writing H)
+  pub begun : All (IsStaff has h) staff
+  pub differ : Differ (writers_of staff)
+  pub archivers : List (Writing H)
+  pub owners : owners_of archivers ≡ owners_of staff
+  pub places : List Texts
+  pub are_places : ArePlaces rules messages s.lanes places
+  pub ran : Ran first pass before (all_acts rules messages places s.lanes) ends
+  pub files : AreKeptFrom kept archivers before pass.history
+  pub back : WhereTold old new (HandsBack has kept last archivers)
+
+-- a fault or want of memory
+abbrev pub IsPlain : {F : Type 0} → OpenFault F → Type 0
+IsPlain (faults.Disk f) = Unit {0}
+IsPlain (faults.NotATable at want found) = ⊥
+IsPlain (faults.Damaged d) = ⊥
+IsPlain (faults.TooMany count) = ⊥
+IsPlain faults.NoMemory = Unit {0}
+
+-- An open dataset went back to the store, which holds of it what it held, and all else as it was.
+pub record HoldsOpened {D : Type 0} (has : D → Option Contents) (h : OpenDataset D) (s t : Holdings) : Type 0 where
+  pub schema : t.schema ≡ s.schema
+  pub each : (name : List ℕ) → held_of t name ≡ held_with has (h ∷ []) s name
