@@ -14,7 +14,7 @@ use Rattle.fd_sections.specs.Stream.{Stream, First, Takes, Refuses, Unmarked, Pa
 use Rattle.fd_sections.proofs.Pieces.{stream-ends, stream-cut}
 use Rattle.fd_key.specs.Pairs.{Pair}
 use Rattle.fd_schema.specs.Rules.{Rule}
-use Rattle.fd_outcome.specs.declared.refusal.Refusal.TheVariants.{Message, Input}
+use Rattle.fd_outcome.specs.declared.refusal.Refusal.TheVariants.{Cut, Input}
 use Rattle.fd_archive.specs.declared.storing.Ended.{Ended}
 use Rattle.fd_archive.specs.declared.storing.Ended.TheVariants as ends
 use Rattle.fd_outcome.specs.Limits.{input_limit}
@@ -122,9 +122,9 @@ module _ (rules : List Rule) (given : List Pair) where
       ∙ ap (λ (x : Stream). behind a (taken_after rules given false (datasets_in a) p.given p.skipped x)) (stream-ends p.rest u.0)
       ∙ last a None (p.skipped + gap p.rest) k count
 
-  cut_short : (p : Progress) (t : Truncated) (f : First) → Err t ≡ finished p f → (h : ℕ) × (w : ℕ) × (f ≡ Partial h w) × (t.number ≡ p.given + 1)
+  cut_short : (p : Progress) (t : Truncated) (f : First) → Err t ≡ finished p f → (h : ℕ) × (w : ℕ) × (f ≡ Partial h w) × (t ≡ record { number = p.given + 1; have = h; want = w })
   cut_short p t Unmarked e = absurd cc
-  cut_short p t (Partial h w) e = let k : t ≡ record { number = p.given + 1; have = h; want = w } = cc in (h, w, refl, ap (λ (x : Truncated). x.number) k)
+  cut_short p t (Partial h w) e = let k : t ≡ record { number = p.given + 1; have = h; want = w } = cc in (h, w, refl, k)
   cut_short p t (Refuses bad) e = absurd cc
   cut_short p t (Takes m r) e = absurd cc
 
@@ -138,14 +138,14 @@ module _ (rules : List Rule) (given : List Pair) where
   module _ {F : Type 0} where
     -- a message was cut
     pub taken_cut : (name : List ℕ) (p : Progress) (a : List Stored) (octets seen : List ℕ) (t : Truncated) → Seen rules given p a seen → octets ≡ seen ++ [] → p.fed ≤ input_limit → Err t ≡ finished p (first p.rest)
-        → EndsAfter {F = F} name (ends.Refused (Message t.number)) a (taken rules given octets)
+        → EndsAfter {F = F} name (ends.Refused (Cut t)) a (taken rules given octets)
     taken_cut name p a octets seen t s all le e =
         let u = cut_short p t (first p.rest) e in
-        let n : p.given + 0 + 1 ≡ t.number = omega (arith, u.3) in
+        let n : p.given + 0 + 1 ≡ p.given + 1 = omega arith in
         record {
-          rest = ended (Some (InStream (Message (p.given + 0 + 1)))) (p.skipped + gap p.rest);
+          rest = ended (Some (InStream (Cut (record { number = p.given + 0 + 1; have = u.0; want = u.1 })))) (p.skipped + gap p.rest);
           is = at_end p a octets seen s all le ∙ ap (λ (x : Stream). behind a (taken_after rules given false (datasets_in a) p.given p.skipped x)) (stream-cut p.rest u.0 u.1 u.2);
-          ends = (refl, ap (λ (k : ℕ). Some (InStream (Message k))) n);
+          ends = (refl, ap (λ (k : ℕ). Some (InStream (Cut (record { number = k; have = u.0; want = u.1 })))) n ∙ ap (λ (x : Truncated). Some (InStream (Cut x))) (sym u.3));
         }
 
     -- the input is longer than an input may be

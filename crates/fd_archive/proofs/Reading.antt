@@ -12,7 +12,7 @@ use Rattle.fd_sections.specs.Stream.{first, first_at}
 use Rattle.fd_key.specs.Pairs.{Pair}
 use Rattle.fd_schema.specs.Rules.{Rule}
 use Rattle.fd_library.specs.Open.{AreDistinct, OpenDataset, among, names_of}
-use Rattle.fd_outcome.specs.declared.refusal.Refusal.TheVariants.{Message, Input}
+use Rattle.fd_outcome.specs.declared.refusal.Refusal.TheVariants.{Cut, Input}
 use Rattle.fd_outcome.specs.Limits.{input_limit}
 use Rattle.fd_outcome.specs.Archiving.{Stored, Taken, datasets_in, taken, taken_of}
 use Rattle.fd_outcome.proofs.InputLemmas.{gives_nothing}
@@ -181,12 +181,12 @@ module _ {D H : Type 0} (has : D → Option Contents) (kept : H → Option (File
           taken_whole rules given p m.all octets seen counts.junk s (all ∙ ap (λ (y : List ℕ). seen ++ y) (none_left mid rest x end)) le waits junk);
     }
 
-    pub ended_cut : {F : Type 0} (halt : Halt F) → IsAtEnd mid → p.fed ≤ input_limit → (t : Truncated) × (halt ≡ halts.Ended (ends.Refused (Message t.number))) × (Err t ≡ finished p (first p.rest)) → (after : Text) → InputStored has kept rules given left after start_has before k (Err halt)
+    pub ended_cut : {F : Type 0} (halt : Halt F) → IsAtEnd mid → p.fed ≤ input_limit → (t : Truncated) × (halt ≡ halts.Ended (ends.Refused (Cut t))) × (Err t ≡ finished p (first p.rest)) → (after : Text) → InputStored has kept rules given left after start_has before k (Err halt)
     ended_cut halt end le (t, is, cut) after = rw is (record {
       name = [];
       all = m.all;
       stays = (m.going.ready.keeps, m.going.ready.met);
-      ends = read_so left mid (Seen rules given p m.all) (λ octets. EndsAfter [] (ends.Refused (Message t.number)) m.all (taken rules given octets)) m.reads (λ octets seen rest x all s.
+      ends = read_so left mid (Seen rules given p m.all) (λ octets. EndsAfter [] (ends.Refused (Cut t)) m.all (taken rules given octets)) m.reads (λ octets seen rest x all s.
           taken_cut rules given [] p m.all octets seen t s (all ∙ ap (λ (y : List ℕ). seen ++ y) (none_left mid rest x end)) le cut);
     })
 

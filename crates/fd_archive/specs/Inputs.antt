@@ -8,7 +8,7 @@ use Rattle.fd_sections.specs.Splitting.{finished}
 use Rattle.fd_sections.specs.Stream.{first}
 use Rattle.fd_key.specs.Pairs.{Pair}
 use Rattle.fd_schema.specs.Rules.{Rule}
-use Rattle.fd_outcome.specs.declared.refusal.Refusal.TheVariants.{Message}
+use Rattle.fd_outcome.specs.declared.refusal.Refusal.TheVariants.{Cut}
 use Rattle.fd_outcome.specs.Archiving.{Stored, datasets_in, taken, taken_of}
 use Rattle.fd_archive.specs.declared.archiving.Counts.{Counts}
 use Rattle.fd_archive.specs.declared.archiving.Halt.{Halt}
@@ -32,7 +32,7 @@ is_unread (halts.Ended ended) = false
 -- what the splitter counted, or the message that is cut
 abbrev pub EndsOf : {F : Type 0} → Result Counts (Halt F) → Progress → Type 0
 EndsOf (Ok counts) p = (counts.messages ≡ p.given) × (Ok counts.junk ≡ finished p (first p.rest))
-EndsOf (Err halt) p = (t : Truncated) × (halt ≡ halts.Ended (ends.Refused (Message t.number))) × (Err t ≡ finished p (first p.rest))
+EndsOf (Err halt) p = (t : Truncated) × (halt ≡ halts.Ended (ends.Refused (Cut t))) × (Err t ≡ finished p (first p.rest))
 
 module _ {D H : Type 0} (has : D → Option Contents) (kept : H → Option (FileName → Option (List ℕ))) (rules : List Rule) (given : List Pair) where
   -- the messages that are whole in what was read so far are stored

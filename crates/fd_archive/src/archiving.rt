@@ -18,7 +18,7 @@ use fd_io::Source;
 use fd_key::Given;
 use fd_outcome::{INPUT_LIMIT, Refusal, new_buffer, read_piece};
 use fd_schema::Schema;
-use fd_sections::{Splitter, Truncated};
+use fd_sections::Splitter;
 use std::alloc::Global;
 use std::sync::Wait;
 
@@ -48,9 +48,7 @@ fn end_of<F>(splitter: Splitter) -> Result<Counts, Halt<F>>
     let messages = splitter.given();
     match splitter.finish() {
         Ok(junk) => Ok(Counts { messages, junk }),
-        Err(Truncated { number, .. }) => {
-            Err(Halt::Ended(Ended::Refused(Refusal::Message { number })))
-        }
+        Err(cut) => Err(Halt::Ended(Ended::Refused(Refusal::Cut(cut)))),
     }
 }
 

@@ -63,7 +63,7 @@ IsListing (commands.Values decimals) = ⊥
 IsListing (commands.Generate count) = ⊥
 IsListing (commands.Create root) = ⊥
 IsListing (commands.Archive root given) = ⊥
-IsListing (commands.Retrieve root) = ⊥
+IsListing (commands.Retrieve root workers) = ⊥
 IsListing (commands.List root) = Unit {0}
 IsListing (commands.Axes root) = Unit {0}
 IsListing (commands.Stats root) = Unit {0}
@@ -77,7 +77,7 @@ WhereSeen commands.Describe input store P = (octets : List ℕ) (h : Holdings) �
 WhereSeen (commands.Values decimals) input store P = (octets : List ℕ) (h : Holdings) → input ≡ Some octets → store ≡ Some h → P octets h
 WhereSeen (commands.Create root) input store P = (octets : List ℕ) (h : Holdings) → input ≡ Some octets → store ≡ Some h → P octets h
 WhereSeen (commands.Archive root given) input store P = (octets : List ℕ) (h : Holdings) → input ≡ Some octets → store ≡ Some h → P octets h
-WhereSeen (commands.Retrieve root) input store P = (octets : List ℕ) (h : Holdings) → input ≡ Some octets → store ≡ Some h → P octets h
+WhereSeen (commands.Retrieve root workers) input store P = (octets : List ℕ) (h : Holdings) → input ≡ Some octets → store ≡ Some h → P octets h
 WhereSeen (commands.List root) input store P = (octets : List ℕ) (h : Holdings) → input ≡ Some octets → store ≡ Some h → P octets h
 WhereSeen (commands.Axes root) input store P = (octets : List ℕ) (h : Holdings) → input ≡ Some octets → store ≡ Some h → P octets h
 

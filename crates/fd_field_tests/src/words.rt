@@ -19,7 +19,10 @@ fn said<'a>(alloc: Global, words: &'a [&'a str]) -> Result<String, Fail> {
             let root = root.as_str();
             Ok(format!(in alloc; "archive {root} {count}")?)
         }
-        Some(Command::Retrieve(root)) => rooted(alloc, "retrieve", root.as_str()),
+        Some(Command::Retrieve(root, workers)) => {
+            let root = root.as_str();
+            Ok(format!(in alloc; "retrieve {root} {workers}")?)
+        }
         Some(Command::List(root)) => rooted(alloc, "list", root.as_str()),
         Some(Command::Axes(root)) => rooted(alloc, "axes", root.as_str()),
         Some(Command::Stats(root)) => rooted(alloc, "stats", root.as_str()),
@@ -53,7 +56,19 @@ fn reads_words(rt: HostRuntime) -> Result<(), Fail> {
         &["archive", "--with=class=od", "s"],
         "archive s 1",
     )?;
-    check(&rt, alloc, &["retrieve", "a b"], "retrieve a b")?;
+    check(&rt, alloc, &["retrieve", "a b"], "retrieve a b 1")?;
+    check(
+        &rt,
+        alloc,
+        &["retrieve", "s", "--workers", "8"],
+        "retrieve s 8",
+    )?;
+    check(
+        &rt,
+        alloc,
+        &["retrieve", "--workers=04", "s"],
+        "retrieve s 4",
+    )?;
     check(&rt, alloc, &["list", "s"], "list s")?;
     check(&rt, alloc, &["axes", "s"], "axes s")?;
     check(&rt, alloc, &["stats", "s"], "stats s")?;
@@ -91,7 +106,9 @@ fn refuses_words(rt: HostRuntime) -> Result<(), Fail> {
     check(&rt, alloc, &["archive", "s", "--with", "step=0"], "none")?;
     check(&rt, alloc, &["archive", "s", "--with"], "none")?;
     check(&rt, alloc, &["archive", "s", "--workers", "2"], "none")?;
-    check(&rt, alloc, &["retrieve", "s", "--workers", "2"], "none")?;
+    check(&rt, alloc, &["retrieve", "s", "--workers", "0"], "none")?;
+    check(&rt, alloc, &["retrieve", "s", "--workers=9"], "none")?;
+    check(&rt, alloc, &["retrieve", "s", "--workers"], "none")?;
     check(&rt, alloc, &["stats", "--help"], "none")?;
     check(&rt, alloc, &["stats", "s", "--"], "none")?;
     Ok(())

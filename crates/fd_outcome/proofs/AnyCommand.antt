@@ -25,7 +25,7 @@ Seen (commands.Values decimals) input octets = input ≡ Some octets
 Seen (commands.Generate count) input octets = octets ≡ []
 Seen (commands.Create root) input octets = input ≡ Some octets
 Seen (commands.Archive root given) input octets = input ≡ Some octets
-Seen (commands.Retrieve root) input octets = input ≡ Some octets
+Seen (commands.Retrieve root workers) input octets = input ≡ Some octets
 Seen (commands.List root) input octets = input ≡ Some octets
 Seen (commands.Axes root) input octets = input ≡ Some octets
 Seen (commands.Stats root) input octets = octets ≡ []
@@ -48,7 +48,7 @@ module _ (P : List ℕ → Holdings → Holdings → Type 0) (input : Option (Li
   where_seen (commands.Generate count) uses all = absurd uses
   where_seen (commands.Create root) uses all = of_input input refl all
   where_seen (commands.Archive root given) uses all = of_input input refl all
-  where_seen (commands.Retrieve root) uses all = of_input input refl all
+  where_seen (commands.Retrieve root workers) uses all = of_input input refl all
   where_seen (commands.List root) uses all = of_input input refl all
   where_seen (commands.Axes root) uses all = of_input input refl all
   where_seen (commands.Stats root) uses all = of_store [] store after refl refl (λ h i. all [] h i refl)

@@ -27,7 +27,7 @@ module _ (P Q : List ℕ → Holdings → Holdings → Type 0) (to : (octets : L
   where_asked (commands.Generate count) input store after p = to [] nothing_held nothing_held p
   where_asked (commands.Create root) input store after p = of_both input store after p
   where_asked (commands.Archive root given) input store after p = of_both input store after p
-  where_asked (commands.Retrieve root) input store after p = of_both input store after p
+  where_asked (commands.Retrieve root workers) input store after p = of_both input store after p
   where_asked (commands.List root) input store after p = of_both input store after p
   where_asked (commands.Axes root) input store after p = of_both input store after p
   where_asked (commands.Stats root) input store after p = of_store [] store after p
@@ -54,7 +54,7 @@ module _ (P : List ℕ → Holdings → Holdings → Type 0) (all : (octets : Li
   asked_all (commands.Generate count) input store after = all [] nothing_held nothing_held
   asked_all (commands.Create root) input store after = all_both input store after
   asked_all (commands.Archive root given) input store after = all_both input store after
-  asked_all (commands.Retrieve root) input store after = all_both input store after
+  asked_all (commands.Retrieve root workers) input store after = all_both input store after
   asked_all (commands.List root) input store after = all_both input store after
   asked_all (commands.Axes root) input store after = all_both input store after
   asked_all (commands.Stats root) input store after = all_store [] store after

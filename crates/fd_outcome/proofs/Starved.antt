@@ -78,7 +78,7 @@ module _ (h : Holdings) (names : List (List ℕ)) (input : List ℕ) where
   within (commands.Generate count) = ([], sym (append-nil (generated_messages count)))
   within (commands.Create root) = ((created h.schema input).output, refl)
   within (commands.Archive root given) = ((archived given (rules_of h.schema) input).output, refl)
-  within (commands.Retrieve root) = retrieved_within (asked_of h input)
+  within (commands.Retrieve root workers) = retrieved_within (asked_of h input)
   within (commands.List root) = whole_early (outcome (commands.List root) h names input)
   within (commands.Axes root) = whole_early (outcome (commands.Axes root) h names input)
   within (commands.Stats root) = whole_early (outcome (commands.Stats root) h names input)

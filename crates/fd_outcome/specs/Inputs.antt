@@ -3,15 +3,16 @@ use Rattle.std.specs.Prelude.{ℕ, ◌+◌, Bool, true, false, List, length, tak
 use Rattle.fd_sections.specs.declared.bad.Bad.TheVariants as bads
 use Rattle.fd_sections.specs.Stream.{Stream, End, Whole, Cut, Bad_end, stream}
 use Rattle.fd_outcome.specs.declared.refusal.Refusal.{Refusal}
+use Rattle.fd_outcome.specs.declared.refusal.Refusal.TheVariants as refusals
 use Rattle.fd_outcome.specs.declared.refusal.Refusal.TheVariants.{Message, TooLong, Input}
 use Rattle.fd_outcome.specs.Limits.{input_limit}
 
 -- Why the end of a stream of n messages is refused, if it is.
 abbrev pub refused_end : ℕ → End → Option Refusal
 refused_end n Whole = None
-refused_end n (Cut have want) = Some (Message (n + 1))
+refused_end n (Cut have want) = Some (refusals.Cut (record { number = n + 1; have = have; want = want }))
 refused_end n (Bad_end (bads.TooLong len)) = Some (TooLong len)
-refused_end n (Bad_end bad) = Some (Message (n + 1))
+refused_end n (Bad_end bad) = Some (Message (record { number = n + 1; bad = bad }))
 
 -- The same, of octets after which more come than an input may have.
 abbrev pub refused_past : ℕ → End → Option Refusal

@@ -1,6 +1,9 @@
 -- Why a stream is refused, and the line that tells it.
 use Rattle.std.specs.Prelude.{ℕ, List, ◌++◌, codes}
 use Rattle.std.specs.Fmt.{decimal}
+use Rattle.fd_sections.specs.declared.refusal.BadAt.{BadAt}
+use Rattle.fd_sections.specs.declared.refusal.Truncated.{Truncated}
+use Rattle.fd_sections.specs.FaultTexts.{bad_at_text, truncated_text}
 use Rattle.fd_key.specs.declared.fault.KeyFault.{KeyFault}
 use Rattle.fd_key.specs.FaultTexts.{key_fault_text}
 use Rattle.fd_packing.specs.declared.fault.FieldFault.{FieldFault}
@@ -10,6 +13,14 @@ use Rattle.fd_outcome.specs.declared.refusal.Refusal.{Refusal}
 use Rattle.fd_outcome.specs.declared.refusal.Refusal.TheVariants as refusals
 use Rattle.fd_outcome.specs.declared.status.Status.{Status}
 use Rattle.fd_outcome.specs.declared.status.Status.TheVariants.{Refused, Limit}
+
+-- the line that tells which octets are no message, and why
+abbrev pub refused_message_line : BadAt → List ℕ
+refused_message_line at = line (codes "refused message " ++ bad_at_text at)
+
+-- the line that tells which message is cut, how many octets it has, and how many it wants
+abbrev pub cut_message_line : Truncated → List ℕ
+cut_message_line cut = line (codes "refused message " ++ truncated_text cut)
 
 -- the line that tells why a message has no key
 abbrev pub refused_key_line : ℕ → KeyFault → List ℕ
@@ -21,7 +32,8 @@ refused_field_line n fault = line (codes "refused field " ++ decimal n ++ codes 
 
 -- the line that tells why the input is refused
 abbrev pub refusal_line : Refusal → List ℕ
-refusal_line (refusals.Message n) = line (codes "refused message " ++ decimal n)
+refusal_line (refusals.Message at) = refused_message_line at
+refusal_line (refusals.Cut cut) = cut_message_line cut
 refusal_line (refusals.Key n fault) = refused_key_line n fault
 refusal_line (refusals.Field n fault) = refused_field_line n fault
 refusal_line (refusals.TooLong len) = line (codes "limit TooLong " ++ decimal len)
@@ -29,7 +41,8 @@ refusal_line (refusals.Points points) = line (codes "limit Points " ++ decimal p
 refusal_line refusals.Input = line (codes "limit Input 68719476736")
 
 abbrev pub refusal_status : Refusal → Status
-refusal_status (refusals.Message n) = Refused
+refusal_status (refusals.Message at) = Refused
+refusal_status (refusals.Cut cut) = Refused
 refusal_status (refusals.Key n fault) = Refused
 refusal_status (refusals.Field n fault) = Refused
 refusal_status (refusals.TooLong len) = Limit

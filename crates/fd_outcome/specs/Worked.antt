@@ -106,8 +106,8 @@ pub record Rows : Type 0 where
   -- the files stand for one batch of one pair
   pub table : table_at store dataset ≡ Some ((pair field ∷ []) ∷ [])
   -- `retrieve` of the field, and of a level that isn't stored
-  pub retrieved_one : outcome (Retrieve []) store names (request (codes "100000")) ≡ Some (record { output = field; report = line (codes "found 1 missed 0"); status = Done })
-  pub missed_one : outcome (Retrieve []) store names (request (codes "5")) ≡ Some (record {
+  pub retrieved_one : outcome (Retrieve [] 1) store names (request (codes "100000")) ≡ Some (record { output = field; report = line (codes "found 1 missed 0"); status = Done })
+  pub missed_one : outcome (Retrieve [] 1) store names (request (codes "5")) ≡ Some (record {
     output = [];
     report = line (codes "miss class=od,expver=0001,date=20240101,time=0000,centre=98,type=1,levtype=100,param=0.0.0,step=0,levelist=5") ++ line (codes "found 0 missed 1");
     status = Missed;

@@ -4,13 +4,15 @@ ghost use Rattle.fd_outcome.specs.Inputs.{refused};
 
 use fd_key::KeyFault;
 use fd_packing::FieldFault;
-use fd_sections::{Bad, BadAt};
+use fd_sections::{Bad, BadAt, Truncated};
 
 /// Why the input is refused. Messages count from 1.
 #[derive(Clone, Copy, Debug, PartialEq, Eq)]
 pub enum Refusal {
-    /// The message of this number is no GRIB 2 message, or is cut.
-    Message { number: u64 },
+    /// The message of this number is no GRIB 2 message, for this reason.
+    Message(BadAt),
+    /// The input ends inside a message.
+    Cut(Truncated),
     /// The message of this number has no key, for this reason.
     Key { number: u64, fault: KeyFault },
     /// The field of the message of this number is not read, for this reason.
@@ -29,6 +31,6 @@ pub fn refusal_of(at: BadAt) -> Refusal
 {
     match at.bad {
         Bad::TooLong { len } => Refusal::TooLong { len },
-        _ => Refusal::Message { number: at.number },
+        _ => Refusal::Message(at),
     }
 }

@@ -2,7 +2,7 @@
 ghost use Rattle.std.specs.Prelude.{◌++◌, codes};
 ghost use Rattle.std.specs.Fmt.{decimal};
 ghost use Rattle.fd_listing.specs.Lines.{line};
-ghost use Rattle.fd_outcome.specs.Refusals.{refusal_line, refusal_status, refused_key_line, refused_field_line};
+ghost use Rattle.fd_outcome.specs.Refusals.{refusal_line, refusal_status, refused_message_line, cut_message_line, refused_key_line, refused_field_line};
 ghost use Rattle.fd_outcome.specs.Ends.{disk_failed, input_failed, output_failed};
 ghost use Rattle.fd_outcome.specs.Told.{Told, ToldOrNoMemory};
 
@@ -11,6 +11,7 @@ use crate::status::Status;
 use fd_io::{Sink, write_all};
 use fd_key::KeyFault;
 use fd_packing::FieldFault;
+use fd_sections::{BadAt, Truncated};
 use std::alloc::Global;
 
 /// Writes the text that goes with a status. Where it can't be written, the status is that of a failed output.
@@ -49,6 +50,26 @@ pub fn tell_disk_failed<X: Drop, E: Sink<X>>(report: &mut E) -> Status
     ensures { Told Status.DiskFault disk_failed result (E.taken report.old) (E.taken report.new) (E.faults report.old) (E.faults report.new) }
 {
     tell(report, "disk failed\n", Status::DiskFault)
+}
+
+/// Writes the line of octets that are no message.
+fn tell_message_fault<X: Drop, E: Sink<X>>(alloc: Global, report: &mut E, at: BadAt) -> Status
+    ensures { ToldOrNoMemory Status.Refused (refused_message_line at) result (E.taken report.old) (E.taken report.new) (E.faults report.old) (E.faults report.new) }
+{
+    match format!(in alloc; "refused message {at}\n") {
+        Ok(line) => tell(report, line.as_str(), Status::Refused),
+        Err(_) => tell_no_memory(report),
+    }
+}
+
+/// Writes the line of a message that is cut.
+fn tell_cut<X: Drop, E: Sink<X>>(alloc: Global, report: &mut E, cut: Truncated) -> Status
+    ensures { ToldOrNoMemory Status.Refused (cut_message_line cut) result (E.taken report.old) (E.taken report.new) (E.faults report.old) (E.faults report.new) }
+{
+    match format!(in alloc; "refused message {cut}\n") {
+        Ok(line) => tell(report, line.as_str(), Status::Refused),
+        Err(_) => tell_no_memory(report),
+    }
 }
 
 /// Writes the line of a message that has no key.
@@ -118,9 +139,8 @@ pub fn tell_refusal<X: Drop, E: Sink<X>>(alloc: Global, report: &mut E, refusal:
     ensures { ToldOrNoMemory (refusal_status refusal) (refusal_line refusal) result (E.taken report.old) (E.taken report.new) (E.faults report.old) (E.faults report.new) }
 {
     match refusal {
-        Refusal::Message { number } => {
-            tell_number(alloc, report, "refused message ", number, Status::Refused)
-        }
+        Refusal::Message(at) => tell_message_fault(alloc, report, at),
+        Refusal::Cut(cut) => tell_cut(alloc, report, cut),
         Refusal::Key { number, fault } => tell_key_fault(alloc, report, number, fault),
         Refusal::Field { number, fault } => tell_field_fault(alloc, report, number, fault),
         Refusal::TooLong { len } => {

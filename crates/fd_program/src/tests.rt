@@ -6,11 +6,13 @@ use crate::top::fdb;
 use fd_disk::Store;
 use fd_disk_mem::{MemStore, Op};
 use fd_disk_real::RealStore;
-use fd_io::{MemSink, MemSource};
+use fd_gen::generated;
+use fd_io::{Gate, MemSink, MemSource};
 use fd_outcome::Status;
 use std::alloc::{AllocError, Global};
 use std::process::Abort;
 use std::sync::Wait;
+use std::sync::atomic::{AtomicU64, Ordering};
 use std::test::Fail;
 use std::thread::Threads;
 
@@ -72,12 +74,26 @@ fn check_over<R: Abort + Threads + Wait + Sync>(
     output: &[u8],
     report: &str,
 ) -> Result<(), Fail> {
+    check_held(rt, alloc, store, run, &Open, status, output, report)
+}
+
+/// The same, where this gate holds the workers.
+fn check_held<G: Gate, R: Abort + Threads + Wait + Sync>(
+    rt: &R,
+    alloc: Global,
+    store: &mut MemStore,
+    run: &Run<'_>,
+    gate: &G,
+    status: Status,
+    output: &[u8],
+    report: &str,
+) -> Result<(), Fail> {
     let piece = run.piece.max(1);
     let mut input = MemSource::new(alloc, run.input, piece, run.fail_reads)?;
-    let mut out = MemSink::new(alloc, 1000, run.fail_output)?;
+    let mut out = MemSink::new(alloc, 80_000, run.fail_output)?;
     let mut lines = MemSink::new(alloc, 200, run.fail_report)?;
     let found = fdb(
-        rt, alloc, run.words, store, &mut input, &mut out, &mut lines, &Open,
+        rt, alloc, run.words, store, &mut input, &mut out, &mut lines, gate,
     );
     assert_eq!(rt; found, status);
     assert_eq!(rt; out.taken(), output);
@@ -209,7 +225,12 @@ fn refuses_input(rt: HostRuntime) -> Result<(), Fail> {
         "refused key 2 Product 1\n",
     )?;
     let (cut, _) = FIELD.split_at(175);
-    check_refused(&rt, alloc, cut, Status::Refused, "refused message 1\n")?;
+    let lacking = "refused message 1 Truncated 175 183\n";
+    check_refused(&rt, alloc, cut, Status::Refused, lacking)?;
+    let mut early = FIELD;
+    early[41] = 4;
+    let section = "refused message 1 Section 3 4\n";
+    check_refused(&rt, alloc, &early, Status::Refused, section)?;
     let mut long = FIELD;
     long[12] = 8;
     check_refused(
@@ -435,6 +456,8 @@ const ARCHIVE: [&str; 3] = ["archive", "s", "--with=class=od,expver=0001"];
 
 const RETRIEVE: [&str; 2] = ["retrieve", "s"];
 
+const BY_TWO: [&str; 4] = ["retrieve", "--workers", "2", "s"];
+
 const LIST: [&str; 2] = ["list", "s"];
 
 const AXES: [&str; 2] = ["axes", "s"];
@@ -511,7 +534,8 @@ fn archives(rt: HostRuntime) -> Result<(), Fail> {
         told(&CREATE, SCHEMA, Status::Done, CREATED),
         told(&ARCHIVE, &FIELD, Status::Done, ONE_ARCHIVED),
         shown(&RETRIEVE, REQUEST, &FIELD, FOUND),
-        told(&RETRIEVE, OTHER_LEVEL.as_bytes(), Status::Missed, MISSED),
+        shown(&BY_TWO, REQUEST, &FIELD, FOUND),
+        told(&BY_TWO, OTHER_LEVEL.as_bytes(), Status::Missed, MISSED),
         told(&ARCHIVE, &newer, Status::Done, ONE_ARCHIVED),
         shown(&RETRIEVE, REQUEST, &newer, FOUND),
     ];
@@ -585,6 +609,101 @@ fn counts_masked_fields_once(rt: HostRuntime) -> Result<(), Fail> {
         shown(&STATS, "", ONE_MASKED, ""),
     ];
     check_failing(&rt, alloc, NEVER, &rows)
+}
+
+/// Holds the first pass of the first and of the second worker until both have come, and counts those that waited in vain.
+#[derive(Drop)]
+struct Meeting {
+    come: AtomicU64,
+    waited: AtomicU64,
+}
+
+impl Gate for Meeting {
+    fn pass<R: Wait>(&self, _rt: &R, lane: u32, step: u32) {
+        if step == 1 && lane <= 2 {
+            self.come.fetch_add(1, Ordering::SeqCst);
+            if !have_met(&self.come) {
+                self.waited.fetch_add(1, Ordering::SeqCst);
+            }
+        }
+    }
+}
+
+/// Waits until two have come, and tells whether they have.
+fn have_met(come: &AtomicU64) -> bool {
+    for _ in 0..100_000_000u32 {
+        if come.load(Ordering::SeqCst) >= 2 {
+            return true;
+        }
+    }
+    false
+}
+
+/// The generated messages of these numbers, one after the other.
+fn generated_from(alloc: Global, from: u64, to: u64) -> Result<Vec<u8>, Fail> {
+    let mut stream = Vec::new(alloc);
+    for number in from..to.min(1000) {
+        stream.extend_from_slice(&generated(alloc, number)?)?;
+    }
+    Ok(stream)
+}
+
+/// Two parameters, seven steps and all levels that are generated.
+const MANY: &str =
+    "retrieve,class=od,expver=0001,date=20240101,time=00,centre=98,type=1,levtype=100,param=0.0.0/0.2.2,step=0/to/36/by/6,levelist=100000/92500/85000/70000/60000/50000/40000/30000/25000/20000/15000/10000/5000";
+
+const BY_FOUR: [&str; 3] = ["retrieve", "s", "--workers=4"];
+
+/// A store in which the first 400 generated messages are archived.
+fn filled<R: Abort + Threads + Wait + Sync>(rt: &R, alloc: Global) -> Result<MemStore, Fail> {
+    let mut store = MemStore::new(alloc, 131_072, 2048)?;
+    let stream = generated_from(alloc, 0, 400)?;
+    let all = "archived 400 datasets 1 junk 0\n";
+    let rows = [
+        told(&CREATE, SCHEMA, Status::Done, CREATED),
+        told(&ARCHIVE, &stream, Status::Done, all),
+    ];
+    check_rows(rt, alloc, &mut store, &rows)?;
+    Ok(store)
+}
+
+/// What many keys find, in their order.
+fn found_by_many(alloc: Global) -> Result<Vec<u8>, Fail> {
+    let mut wanted = generated_from(alloc, 0, 91)?;
+    wanted.extend_from_slice(&generated_from(alloc, 260, 351)?)?;
+    Ok(wanted)
+}
+
+/// Two have met, and nobody waited in vain.
+fn check_met<R: Abort>(rt: &R, gate: &Meeting) {
+    assert_eq!(rt; gate.come.load(Ordering::SeqCst), 2);
+    assert_eq!(rt; gate.waited.load(Ordering::SeqCst), 0);
+}
+
+/// Four workers, of which two look for keys at the same time, find what one finds, in the order of the request.
+#[test]
+fn four_workers_find_in_the_order_of_the_request(rt: HostRuntime) -> Result<(), Fail> {
+    let alloc = rt.alloc();
+    let mut store = filled(&rt, alloc)?;
+    let wanted = found_by_many(alloc)?;
+    let gate = Meeting {
+        come: AtomicU64::new(0),
+        waited: AtomicU64::new(0),
+    };
+    let run = plain(&BY_FOUR, MANY.as_bytes(), 100);
+    let counts = "found 182 missed 0\n";
+    check_held(
+        &rt,
+        alloc,
+        &mut store,
+        &run,
+        &gate,
+        Status::Done,
+        &wanted,
+        counts,
+    )?;
+    check_met(&rt, &gate);
+    Ok(())
 }
 
 /// The run over any store ends as the row says.

@@ -46,7 +46,7 @@ pub fn fdb<
     input: &mut I,
     output: &mut K,
     report: &mut E,
-    _gate: &G,
+    gate: &G,
 ) -> Status
 where
     requires home { (name : List ℕ) → S.out store.old name ≡ false }
@@ -86,14 +86,23 @@ where
     ensures disk_fault { result ≡ Status.DiskFault → Rose (S.faults store.old) (S.faults store.new) }
 {
     match read_command(alloc, words) {
-        Ok(Some(command)) => run(rt, alloc, &command, store, input, output, report),
+        Ok(Some(command)) => run(rt, alloc, &command, store, input, output, report, gate),
         Ok(None) => tell(report, USAGE, Status::Words),
         Err(_) => tell_no_memory(report),
     }
 }
 
 /// Runs a command.
-fn run<F: Send + Drop, X: Drop, S: Store<F>, I: Source<X>, K: Sink<X>, E: Sink<X>, R: Wait>(
+fn run<
+    F: Send + Drop,
+    X: Drop,
+    S: Store<F>,
+    I: Source<X>,
+    K: Sink<X>,
+    E: Sink<X>,
+    G: Gate,
+    R: Threads + Wait + Sync,
+>(
     rt: &R,
     alloc: Global,
     command: &Command,
@@ -101,6 +110,7 @@ fn run<F: Send + Drop, X: Drop, S: Store<F>, I: Source<X>, K: Sink<X>, E: Sink<X
     input: &mut I,
     output: &mut K,
     report: &mut E,
+    gate: &G,
 ) -> Status
 where
     requires home { (name : List ℕ) → S.out store.old name ≡ false }
@@ -117,7 +127,11 @@ where
         Command::Generate(count) => generate(alloc, *count, output, report),
         Command::Create(root) => create(alloc, root, store, input, report),
         Command::Archive(root, given) => archive(rt, alloc, root, given, store, input, report),
-        Command::Retrieve(root) => retrieve(rt, alloc, root, store, input, output, report),
+        Command::Retrieve(root, workers) => {
+            retrieve(
+                rt, alloc, root, *workers, store, input, output, report, gate,
+            )
+        }
         Command::List(root) => list(rt, alloc, root, store, input, output, report),
         Command::Axes(root) => axes(rt, alloc, root, store, input, output, report),
         Command::Stats(root) => stats(rt, alloc, root, store, output, report),

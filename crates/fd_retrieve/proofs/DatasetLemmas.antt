@@ -14,9 +14,8 @@ use Rattle.fd_core.specs.declared.batch.Pair.{Pair}
 use Rattle.fd_core.specs.Batches.{newest}
 use Rattle.fd_dataset.specs.Listed.{listing}
 use Rattle.fd_recovery.specs.Recovered.{all_of}
-use Rattle.fd_retriever.specs.declared.fault.Got.TheVariants.{Miss}
-use Rattle.fd_retriever.specs.Answers.{IsAnswer, Tells}
-use Rattle.fd_retriever.specs.Kept.{Fits, Kept}
+use Rattle.fd_retriever.specs.Answers.{Tells}
+use Rattle.fd_retriever.specs.Kept.{AreThose, Kept}
 use Rattle.fd_retrieve.proofs.Staying.{some_is}
 use Rattle.fd_outcome.specs.Asking.{is_among}
 use Rattle.fd_retrieve.specs.Open.{IsFirstNamed, Open, names_of, table_in, table_of}
@@ -67,15 +66,12 @@ segment_at (y ∷ ys) (suc i) x lt is = let later = segment_at ys i x (omega (ar
 
 -- ---- what is found in a dataset
 
-closed_table : (os : List Open) (d : List ℕ) → is_among (names_of os) d ≡ false → table_in os d ≡ Some []
+pub closed_table : (os : List Open) (d : List ℕ) → is_among (names_of os) d ≡ false → table_in os d ≡ Some []
 closed_table [] d out = refl
 closed_table (o ∷ os) d out = elim (is_or_not (bytes_eq d o.name)) [
   | inl same ↦ absurd (cc (sym (ap (λ b. b || is_among (names_of os) d) same) ∙ out))
   | inr differs ↦ ap (λ b. if b then table_of o else table_in os d) differs ∙ closed_table os d (sym (ap (λ b. b || is_among (names_of os) d) differs) ∙ out)
 ]
-
-pub missed_table : (os : List Open) (d key : List ℕ) (t : List (List Pair)) (a : Option (List ℕ)) → is_among (names_of os) d ≡ false → table_in os d ≡ Some t → IsAnswer (newest t key) a a Miss
-missed_table os d key t a out is = let none : t ≡ [] = some_is t [] (sym is ∙ closed_table os d out) in subst (λ x. IsAnswer (newest x key) a a Miss) (sym none) refl
 
 pub get_within : {A : Type 0} (xs : List A) (i : ℕ) (x : A) → slice_get xs i ≡ Some x → i < length xs
 get_within [] i x is = absurd cc
@@ -85,10 +81,10 @@ get_within (y ∷ ys) (suc i) x is = let later = get_within ys i x is in omega (
 pub same_get : {A : Type 0} (xs : List A) (i : ℕ) (x d : A) → slice_get xs i ≡ Some x → d ≡ get_or xs i d → x ≡ d
 same_get xs i x d at is = some_is x d (sym at ∙ at_get xs i d (get_within xs i x at) is)
 
-pub fits_of : {A : Type 0} (current : Option A) (number : A → ℕ) (lenses : A → List Kept) (os : List Open) (n : ℕ) (o : Open) → IfSome current (λ c. IfSome (slice_get os (number c)) (λ p. Fits (lenses c) (map listing p.shown))) → slice_get os n ≡ Some o
-    → IfSome current (λ c. number c ≡ n → Fits (lenses c) (map listing o.shown))
-fits_of None number lenses os n o fits at = tt
-fits_of (Some c) number lenses os n o fits at = λ e. subst (λ q. IfSome q (λ p. Fits (lenses c) (map listing p.shown))) (ap (slice_get os) e ∙ at) fits
+pub those_of : {A : Type 0} (current : Option A) (number : A → ℕ) (lenses : A → List Kept) (os : List Open) (n : ℕ) (o : Open) → IfSome current (λ c. IfSome (slice_get os (number c)) (λ p. AreThose (lenses c) p.shown)) → slice_get os n ≡ Some o
+    → IfSome current (λ c. number c ≡ n → AreThose (lenses c) o.shown)
+those_of None number lenses os n o those at = tt
+those_of (Some c) number lenses os n o those at = λ e. subst (λ q. IfSome q (λ p. AreThose (lenses c) p.shown)) (ap (slice_get os) e ∙ at) those
 
 all_told : (bs : List (Option (List Pair))) (t : List (List Pair)) → all_of bs ≡ Some t → bs ≡ map (λ b. Some b) t
 all_told [] t e = ap (map (λ b. Some b)) (some_is [] t e)
@@ -101,14 +97,6 @@ all_told (Some b ∷ bs) t e = go (all_of bs) (λ more is. all_told bs more is) 
 
 pub tells_of : (os : List Open) (d : List ℕ) (o : Open) (t : List (List Pair)) → table_in os d ≡ table_of o → table_in os d ≡ Some t → Tells (map listing o.shown) t
 tells_of os d o t is told = all_told (map (λ l. l.batch) (map listing o.shown)) t (sym is ∙ told)
-
-pub ok_told : {A B E : Type 0} (r : Result A E) (P : B → Type 0) (Q : B → Type 0) (R : A → B → Type 0) → ((t : B) → Q t → P t) → IfOk r (λ a. (t : B) → P t → R a t) → IfOk r (λ a. (t : B) → Q t → R a t)
-ok_told (Ok a) P Q R f k = λ t q. k t (f t q)
-ok_told (Err e) P Q R f k = tt
-
-pub err_told : {A B E : Type 0} (r : Result A E) (P : B → Type 0) (Q : B → Type 0) (R : B → Type 0) → ((t : B) → Q t → P t) → IfErr r (λ e. (t : B) → P t → R t) → IfErr r (λ e. (t : B) → Q t → R t)
-err_told (Ok a) P Q R f k = tt
-err_told (Err e) P Q R f k = λ t q. k t (f t q)
 
 -- ---- among lists
 

@@ -5,6 +5,8 @@ pub mod DatasetLemmas
 pub mod ReadyLemmas
 pub mod RequestLemmas
 pub mod AnsweringLemmas
+pub mod LocatingLemmas
+pub mod CopiedLemmas
 pub mod PrepareLemmas
 pub mod RetrieveExits
 pub mod StopExits

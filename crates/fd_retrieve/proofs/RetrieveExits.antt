@@ -18,7 +18,7 @@ use Rattle.fd_outcome.specs.Outcome.{answered, answered_early, early, nothing_ea
 use Rattle.fd_outcome.specs.Ran.{Ran}
 use Rattle.fd_outcome.specs.Store.{AreNames, Stays, table_at}
 use Rattle.fd_outcome.specs.Told.{Told, ToldOrNoMemory}
-use Rattle.fd_outcome.proofs.Endings.{Begun, CanStop, CanTell, Reached, ends_early, ends_on_the_way, ends_told, ends_unwritten, takes_both, takes_nothing}
+use Rattle.fd_outcome.proofs.Endings.{Begun, CanStop, CanTell, Reached, ends_early, ends_on_the_way, ends_told, ends_unwritten, nothing_of, takes_both, takes_nothing}
 use Rattle.fd_outcome.proofs.Exits.{Either, apart, either_of, is_disk_fault, is_input_fault, is_output_fault, is_whole, is_words, neither, rose_of}
 use Rattle.fd_key.specs.Pairs as keys
 use Rattle.fd_schema.specs.declared.place.Place.{Place}
@@ -29,7 +29,6 @@ use Rattle.fd_retrieve.specs.Open.{Open, table_in}
 use Rattle.fd_retrieve.specs.Ready.{Begins, IsReady, asked_at}
 use Rattle.std.specs.Prelude.{Contains, slice_get}
 use Rattle.fd_disk.specs.Folders.{Contents, folder_at}
-use Rattle.fd_schema.specs.Rules.{Texts, file_key}
 use Rattle.fd_segment.specs.Causes.{IsBadIndex, IsFindDamage}
 use Rattle.fd_segment.specs.Held.{Standing}
 use Rattle.fd_segment.specs.declared.fault.Damage.{Damage}
@@ -121,14 +120,14 @@ untold_ends f tr a b c d (Some xs) failed part = let p = part xs refl in ends_on
 
 -- ---- what such a run has done
 
-module _ (root : List ℕ) (store : Object Holdings) (input output report : Object (List ℕ)) (result : Status) where
+module _ (root : List ℕ) (workers : ℕ) (store : Object Holdings) (input output report : Object (List ℕ)) (result : Status) where
   abbrev pub Fs : Failures
   Fs = failures store input output report
 
   pub ran_of : ((octets : List ℕ) (h i : Holdings) (names : List (List ℕ)) → input.before ≡ Some octets → store.before ≡ Some h
-      → Ends Fs result (outcome (Retrieve root) h names octets) (early (Retrieve root) h names octets) (troubles (Retrieve root) Fs h i names octets) output.before output.now report.before report.now)
+      → Ends Fs result (outcome (Retrieve root workers) h names octets) (early (Retrieve root workers) h names octets) (troubles (Retrieve root workers) Fs h i names octets) output.before output.now report.before report.now)
       → ¬ (result ≡ Words) → (result ≡ InputFault → Failed input) → (result ≡ OutputFault → Failed output ⊎ Failed report) → (result ≡ DiskFault → Failed store)
-      → Calm (Retrieve root) result input output report → WhereTold store.before store.now Stays → (((result ≡ Done) ⊎ (result ≡ Missed)) → IfSome input.before (λ octets. input.now ≡ Some [])) → Ran (Retrieve root) result store input output report
+      → Calm (Retrieve root workers) result input output report → WhereTold store.before store.now Stays → (((result ≡ Done) ⊎ (result ≡ Missed)) → IfSome input.before (λ octets. input.now ≡ Some [])) → Ran (Retrieve root workers) result store input output report
   ran_of ends words input_fault output_fault disk_fault calm stays read = record {
     ends = go input.before store.before store.now refl refl;
     store_is = stays;
@@ -141,7 +140,7 @@ module _ (root : List ℕ) (store : Object Holdings) (input output report : Obje
   }
     where
       go : (i : Option (List ℕ)) (k k' : Option Holdings) → input.before ≡ i → store.before ≡ k
-          → IfSome i (λ octets. IfSome k (λ h. IfSome k' (λ j. (names : List (List ℕ)) → AreNames h names → Ends Fs result (outcome (Retrieve root) h names octets) (early (Retrieve root) h names octets) (troubles (Retrieve root) Fs h j names octets) output.before output.now report.before report.now)))
+          → IfSome i (λ octets. IfSome k (λ h. IfSome k' (λ j. (names : List (List ℕ)) → AreNames h names → Ends Fs result (outcome (Retrieve root workers) h names octets) (early (Retrieve root workers) h names octets) (troubles (Retrieve root workers) Fs h j names octets) output.before output.now report.before report.now)))
       go None k k' e f = tt
       go (Some octets) None k' e f = tt
       go (Some octets) (Some h) None e f = tt
@@ -149,18 +148,18 @@ module _ (root : List ℕ) (store : Object Holdings) (input output report : Obje
 
   module _ (s : Status) (text : List ℕ) (mid : Option (List ℕ)) (m n : ℕ) (told : Told s text result mid report.now m n) (reported : Rose m n → Failed report)
       (words : is_words s ≡ false) (output_no : is_output_fault s ≡ false) (input_fault : s ≡ InputFault → Failed input) (disk : s ≡ DiskFault → Failed store)
-      (calm : Calm (Retrieve root) s input output report) (stays : WhereTold store.before store.now Stays) (read : ((s ≡ Done) ⊎ (s ≡ Missed)) → IfSome input.before (λ octets. input.now ≡ Some [])) where
+      (calm : Calm (Retrieve root workers) s input output report) (stays : WhereTold store.before store.now Stays) (read : ((s ≡ Done) ⊎ (s ≡ Missed)) → IfSome input.before (λ octets. input.now ≡ Some [])) where
     -- a run that tells such a status
     pub told_of : ((octets : List ℕ) (h i : Holdings) (names : List (List ℕ)) → input.before ≡ Some octets → store.before ≡ Some h
-        → Ends Fs result (outcome (Retrieve root) h names octets) (early (Retrieve root) h names octets) (troubles (Retrieve root) Fs h i names octets) output.before output.now report.before report.now)
-        → Ran (Retrieve root) result store input output report
+        → Ends Fs result (outcome (Retrieve root workers) h names octets) (early (Retrieve root workers) h names octets) (troubles (Retrieve root workers) Fs h i names octets) output.before output.now report.before report.now)
+        → Ran (Retrieve root workers) result store input output report
     told_of ends =
         let e = either_of s result text mid report.now m n told in
         ran_of ends (neither s result Words e (apart is_words s Words words refl) (apart is_words OutputFault Words refl refl))
         (λ x. input_fault (elim e as (λ _. s ≡ InputFault) [ inl is ↦ sym is ∙ x | inr is ↦ absurd (apart is_input_fault OutputFault InputFault refl refl (sym is ∙ x)) ]))
         (λ x. inr (reported (rose_of s result text mid report.now m n (apart is_output_fault s OutputFault output_no refl) told x)))
         (λ x. disk (elim e as (λ _. s ≡ DiskFault) [ inl is ↦ sym is ∙ x | inr is ↦ absurd (apart is_disk_fault OutputFault DiskFault refl refl (sym is ∙ x)) ]))
-        (elim e as (λ _. Calm (Retrieve root) result input output report) [ inl is ↦ subst (λ y. Calm (Retrieve root) y input output report) (sym is) calm | inr is ↦ subst (λ y. Calm (Retrieve root) y input output report) (sym is) tt ])
+        (elim e as (λ _. Calm (Retrieve root workers) result input output report) [ inl is ↦ subst (λ y. Calm (Retrieve root workers) y input output report) (sym is) calm | inr is ↦ subst (λ y. Calm (Retrieve root workers) y input output report) (sym is) tt ])
         stays
         (λ w. read (elim w as (λ _. (s ≡ Done) ⊎ (s ≡ Missed)) [
           | inl x ↦ inl (elim e as (λ _. s ≡ Done) [ inl y ↦ sym y ∙ x | inr y ↦ absurd (apart is_whole OutputFault Done refl refl (sym y ∙ x)) ])
@@ -180,7 +179,7 @@ whole_part xs a b c d found missed w =
 
 -- ---- the exits of a request that was prepared
 
-module _ (root : List ℕ) (before first now : Option Holdings) (sm sk sn : ℕ) (input output report : Object (List ℕ)) (ks : List Keyword) (ps : List Place) (os : List Open)
+module _ (root : List ℕ) (workers : ℕ) (before first now : Option Holdings) (sm sk sn : ℕ) (input output report : Object (List ℕ)) (ks : List Keyword) (ps : List Place) (os : List Open)
     (begins : Begins before first sm sk input ks ps os) (same : now ≡ first) (mid : Option (List ℕ)) (k : ℕ) (result : Status) (sooner : report.faults_before ≤ k) where
   abbrev asked : List Asked
   asked = asked_at ks ps
@@ -192,33 +191,33 @@ module _ (root : List ℕ) (before first now : Option Holdings) (sm sk sn : ℕ)
   Store_ = object before now sm sn
 
   abbrev pub Out : Type 0
-  Out = Ran (Retrieve root) result Store_ input output report
+  Out = Ran (Retrieve root workers) result Store_ input output report
 
   ready_at : (octets : List ℕ) (h : Holdings) → input.before ≡ Some octets → before ≡ Some h → IsReady h octets ks ps os
   ready_at octets h e f = subst (λ i. IfSome i (λ octets. IsReady h octets ks ps os)) e (subst (λ b. IfSome b (λ h. IfSome input.before (λ octets. IsReady h octets ks ps os))) f begins.ready)
 
   abbrev EndsAs : Holdings → Holdings → List (List ℕ) → List ℕ → Option (List Answer) → Type 0
-  EndsAs h i names octets o = Ends (failures Store_ input output report) result (option_map answered o) (answered_early o) (troubles (Retrieve root) (failures Store_ input output report) h i names octets) output.before output.now report.before report.now
+  EndsAs h i names octets o = Ends (failures Store_ input output report) result (option_map answered o) (answered_early o) (troubles (Retrieve root workers) (failures Store_ input output report) h i names octets) output.before output.now report.before report.now
 
   ends_at : (octets : List ℕ) (h i : Holdings) (names : List (List ℕ)) → IsReady h octets ks ps os → EndsAs h i names octets (answers (table_in os) asked)
-      → Ends (failures Store_ input output report) result (outcome (Retrieve root) h names octets) (early (Retrieve root) h names octets) (troubles (Retrieve root) (failures Store_ input output report) h i names octets) output.before output.now report.before report.now
+      → Ends (failures Store_ input output report) result (outcome (Retrieve root workers) h names octets) (early (Retrieve root workers) h names octets) (troubles (Retrieve root workers) (failures Store_ input output report) h i names octets) output.before output.now report.before report.now
   ends_at octets h i names ready e =
-      subst (λ r. Ends (failures Store_ input output report) result (retrieved h r) (retrieved_early h r) (troubles (Retrieve root) (failures Store_ input output report) h i names octets) output.before output.now report.before report.now) (sym ready.asked)
+      subst (λ r. Ends (failures Store_ input output report) result (retrieved h r) (retrieved_early h r) (troubles (Retrieve root workers) (failures Store_ input output report) h i names octets) output.before output.now report.before report.now) (sym ready.asked)
       (subst (EndsAs h i names octets) ready.answered e)
 
   stays_now : WhereTold before now Stays
   stays_now = subst (λ o. WhereTold before o Stays) (sym same) begins.stays
 
   abbrev pub CanHalt : Status → List ℕ → Type 0
-  CanHalt s text = (octets : List ℕ) (h i : Holdings) (names : List (List ℕ)) → input.before ≡ Some octets → before ≡ Some h → CanStop (failures Store_ input output report) (troubles (Retrieve root) (failures Store_ input output report) h i names octets) s text
+  CanHalt s text = (octets : List ℕ) (h i : Holdings) (names : List (List ℕ)) → input.before ≡ Some octets → before ≡ Some h → CanStop (failures Store_ input output report) (troubles (Retrieve root workers) (failures Store_ input output report) h i names octets) s text
 
   -- it stops on the way
-  pub halt_ran : (s : Status) (text : List ℕ) → Told s text result mid report.now k report.faults_now → is_words s ≡ false → is_output_fault s ≡ false → is_input_fault s ≡ false → is_whole s ≡ false → (s ≡ DiskFault → Failed Store_) → Calm (Retrieve root) s input output report
+  pub halt_ran : (s : Status) (text : List ℕ) → Told s text result mid report.now k report.faults_now → is_words s ≡ false → is_output_fault s ≡ false → is_input_fault s ≡ false → is_whole s ≡ false → (s ≡ DiskFault → Failed Store_) → Calm (Retrieve root workers) s input output report
       → CanHalt s text → Part → TookSome report.before mid → Out
   halt_ran s text told words output_no input_no whole disk calm can part some =
-      told_of root Store_ input output report result s text mid k report.faults_now told (rose_later report.faults_before k report.faults_now sooner) words output_no (λ e. absurd (apart is_input_fault s InputFault input_no refl e)) disk calm stays_now (λ w. begins.read)
+      told_of root workers Store_ input output report result s text mid k report.faults_now told (rose_later report.faults_before k report.faults_now sooner) words output_no (λ e. absurd (apart is_input_fault s InputFault input_no refl e)) disk calm stays_now (λ w. begins.read)
       (λ octets h i names e f. ends_at octets h i names (ready_at octets h e f)
-      (stop_ends (failures Store_ input output report) (troubles (Retrieve root) (failures Store_ input output report) h i names octets) output.before output.now report.before mid report.now (answers (table_in os) asked) s result text k report.faults_now
+      (stop_ends (failures Store_ input output report) (troubles (Retrieve root workers) (failures Store_ input output report) h i names octets) output.before output.now report.before mid report.now (answers (table_in os) asked) s result text k report.faults_now
       (can octets h i names e f) part some (rose_later report.faults_before k report.faults_now sooner) told))
 
   -- memory runs out
@@ -233,24 +232,24 @@ module _ (root : List ℕ) (before first now : Option Holdings) (sm sk sn : ℕ)
   pub unwritten_ran : Told OutputFault output_failed result mid report.now k report.faults_now → Failed output → Part → TookSome report.before mid → Out
   unwritten_ran told failed part some =
       let is : result ≡ OutputFault = elim told.told as (λ _. result ≡ OutputFault) [ inl x ↦ x.status | inr x ↦ x.status ] in
-      ran_of root Store_ input output report result
+      ran_of root workers Store_ input output report result
       (λ octets h i names e f. ends_at octets h i names (ready_at octets h e f)
-      (unwritten_ends (failures Store_ input output report) (troubles (Retrieve root) (failures Store_ input output report) h i names octets) output.before output.now report.before mid report.now (answers (table_in os) asked) result k report.faults_now
+      (unwritten_ends (failures Store_ input output report) (troubles (Retrieve root workers) (failures Store_ input output report) h i names octets) output.before output.now report.before mid report.now (answers (table_in os) asked) result k report.faults_now
       failed part some (rose_later report.faults_before k report.faults_now sooner) told))
       (λ e. apart is_words OutputFault Words refl refl (sym is ∙ e)) (λ e. absurd (apart is_input_fault OutputFault InputFault refl refl (sym is ∙ e))) (λ e. inl failed) (λ e. absurd (apart is_disk_fault OutputFault DiskFault refl refl (sym is ∙ e)))
-      (subst (λ y. Calm (Retrieve root) y input output report) (sym is) tt) stays_now (λ w. begins.read)
+      (subst (λ y. Calm (Retrieve root workers) y input output report) (sym is) tt) stays_now (λ w. begins.read)
 
   -- it tells how many were found and missed
   pub counted_ran : (found missed : ℕ) → ToldOrNoMemory (counts_status missed) (counts_text found missed) result mid report.now k report.faults_now → IsCalm output
       → ((xs : List Answer) → answers (table_in os) asked ≡ Some xs → IsAnswered xs (length xs) output.before output.now report.before mid found missed) → TookSome report.before mid → Out
   counted_ran found missed told calm whole some = elim told as (λ _. Out) [
     | inl t ↦
-        told_of root Store_ input output report result (counts_status missed) (counts_text found missed) mid k report.faults_now t (rose_later report.faults_before k report.faults_now sooner)
+        told_of root workers Store_ input output report result (counts_status missed) (counts_text found missed) mid k report.faults_now t (rose_later report.faults_before k report.faults_now sooner)
         (either (λ s. is_words s ≡ false) refl refl (nat_lt 0 missed)) (either (λ s. is_output_fault s ≡ false) refl refl (nat_lt 0 missed)) (either (λ s. s ≡ InputFault → Failed input) (λ e. absurd (apart is_input_fault Missed InputFault refl refl e)) (λ e. absurd (apart is_input_fault Done InputFault refl refl e)) (nat_lt 0 missed))
         (either (λ s. s ≡ DiskFault → Failed Store_) (λ e. absurd (apart is_disk_fault Missed DiskFault refl refl e)) (λ e. absurd (apart is_disk_fault Done DiskFault refl refl e)) (nat_lt 0 missed))
-        (either (λ s. Calm (Retrieve root) s input output report) (begins.calm, calm) (begins.calm, calm) (nat_lt 0 missed)) stays_now (λ w. begins.read)
+        (either (λ s. Calm (Retrieve root workers) s input output report) (begins.calm, calm) (begins.calm, calm) (nat_lt 0 missed)) stays_now (λ w. begins.read)
         (λ octets h i names e f. ends_at octets h i names (ready_at octets h e f)
-        (count_ends (failures Store_ input output report) (troubles (Retrieve root) (failures Store_ input output report) h i names octets) output.before output.now report.before mid report.now (answers (table_in os) asked) result found missed k report.faults_now
+        (count_ends (failures Store_ input output report) (troubles (Retrieve root workers) (failures Store_ input output report) h i names octets) output.before output.now report.before mid report.now (answers (table_in os) asked) result found missed k report.faults_now
         whole (rose_later report.faults_before k report.faults_now sooner) t))
     | inr t ↦ starved_ran t (λ xs e. whole_part xs output.before output.now report.before mid found missed (whole xs e)) some
   ]
@@ -261,13 +260,13 @@ module _ (root : List ℕ) (before first now : Option Holdings) (sm sk sn : ℕ)
 
   -- the report fails at the line of a miss
   pub untold_ran : result ≡ OutputFault → mid ≡ report.now → Rose report.faults_before report.faults_now → Part → Out
-  untold_ran is end rose part = ran_of root Store_ input output report result
+  untold_ran is end rose part = ran_of root workers Store_ input output report result
       (λ octets h i names e f. ends_at octets h i names (ready_at octets h e f)
-      (subst (λ y. Ends (failures Store_ input output report) y (option_map answered (answers (table_in os) asked)) (answered_early (answers (table_in os) asked)) (troubles (Retrieve root) (failures Store_ input output report) h i names octets) output.before output.now report.before report.now) (sym is)
-      (untold_ends (failures Store_ input output report) (troubles (Retrieve root) (failures Store_ input output report) h i names octets) output.before output.now report.before report.now (answers (table_in os) asked) rose
+      (subst (λ y. Ends (failures Store_ input output report) y (option_map answered (answers (table_in os) asked)) (answered_early (answers (table_in os) asked)) (troubles (Retrieve root workers) (failures Store_ input output report) h i names octets) output.before output.now report.before report.now) (sym is)
+      (untold_ends (failures Store_ input output report) (troubles (Retrieve root workers) (failures Store_ input output report) h i names octets) output.before output.now report.before report.now (answers (table_in os) asked) rose
       (λ xs q. subst (λ d. IsAnsweredInPart xs output.before output.now report.before d) end (part xs q)))))
       (λ e. apart is_words OutputFault Words refl refl (sym is ∙ e)) (λ e. absurd (apart is_input_fault OutputFault InputFault refl refl (sym is ∙ e))) (λ e. inr rose) (λ e. absurd (apart is_disk_fault OutputFault DiskFault refl refl (sym is ∙ e)))
-      (subst (λ y. Calm (Retrieve root) y input output report) (sym is) tt) stays_now (λ w. begins.read)
+      (subst (λ y. Calm (Retrieve root workers) y input output report) (sym is) tt) stays_now (λ w. begins.read)
 
   -- ---- a damage is told
 
@@ -278,14 +277,14 @@ module _ (root : List ℕ) (before first now : Option Holdings) (sm sk sn : ℕ)
       let moved : StandsIn (files_of v.files e.0) key d = subst (λ f. StandsIn f key d) (sym e.2) stands in
       (l.table, l.entries, l.table_is, l.lists, inr (e.0, e.1, elim moved as (λ _. IsBadIndex e.0 (v.files (index_file e.0)) d ⊎ ((k : List ℕ) × IsFindDamage e.0 (v.files (index_file e.0)) k d)) [ inl bad ↦ inl bad | inr beyond ↦ inr (key, beyond) ]))
 
-  pub damaged_ran : (long : length ps ≡ length (expand ks)) (place : Texts) (os_now : List Open) → os_now ≡ os → (Rose sk sn → Rose sm sn) → ToldDamage os_now place (Rose sk sn) result mid report.now k report.faults_now → Part → TookSome report.before mid → Out
-  damaged_ran long place os_now os_is rises told part some = elim told as (λ _. Out) [
-    | inl x ↦ stands x.0 x.1 x.2 x.3 x.5 x.6
+  pub damaged_ran : (long : length ps ≡ length (expand ks)) (os_now : List Open) (number : ℕ) (o : Open) → os_now ≡ os → slice_get os_now number ≡ Some o → (Rose sk sn → Rose sm sn) → ToldDamage o (Rose sk sn) result mid report.now k report.faults_now → Part → TookSome report.before mid → Out
+  damaged_ran long os_now number o os_is at rises told part some = elim told as (λ _. Out) [
+    | inl x ↦ stands x.0 x.1 x.2 x.3
     | inr y ↦ elim y as (λ _. Out) [ inl z ↦ disk_ran z.1 (rises z.0) part some | inr z ↦ starved_ran z part some ]
   ]
     where
-      stands : (number : ℕ) (o : Open) (d : Damage) → slice_get os_now number ≡ Some o → IsDamaged o.segments (file_key place) d → Told Damaged (damaged_line o.name (BadFile d)) result mid report.now k report.faults_now → Out
-      stands number o d at bad t =
+      stands : (key : List ℕ) (d : Damage) → IsDamaged o.segments key d → Told Damaged (damaged_line o.name (BadFile d)) result mid report.now k report.faults_now → Out
+      stands key d bad t =
           let inside = subst (λ l. slice_get l number ≡ Some o) os_is at in
           halt_ran Damaged (damaged_line o.name (BadFile d)) t refl refl refl refl (λ e. absurd (apart is_disk_fault Damaged DiskFault refl refl e)) tt
           (λ octets h i names e f.
@@ -294,10 +293,14 @@ module _ (root : List ℕ) (before first now : Option Holdings) (sm sk sn : ℕ)
             o.name,
             BadFile d,
             subst (λ q. AmongAsked q o.name) (sym r.asked) (subst (λ ds. Contains ds o.name) (sym (datasets_at (expand ks) ps long)) (contains_among (datasets_in ps) o.name (r.among o.name (among_named os number o inside)))),
-            listed_at (folder_at h o.name) o (file_key place) d open_.listed bad,
+            listed_at (folder_at h o.name) o key d open_.listed bad,
             refl,
           ))
           part some
+
+-- nothing was written and told yet
+pub part_none : (xs : List Answer) (a c : Option (List ℕ)) → IsAnsweredInPart xs a a c c
+part_none xs a c = record { output = nothing_of a (found_bytes xs); report = nothing_of c (miss_lines xs) }
 
 -- the answers of the same places
 pub moved : (os : List Open) (ks : List Keyword) (p q : List Place) → p ≡ q → (xs : List Answer) → answers (table_in os) (asked_at ks q) ≡ Some xs → answers (table_in os) (asked_at ks p) ≡ Some xs

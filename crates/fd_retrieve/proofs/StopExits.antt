@@ -28,9 +28,9 @@ use Rattle.fd_retrieve.specs.declared.stop.Stop.TheVariants as stops
 use Rattle.fd_retrieve.specs.Stops.{OnDisk, OnInput, OnRefusal, Says, ToldSome, ToldStop, seen_broken}
 use Rattle.fd_retrieve.proofs.RetrieveExits.{ran_of, rose_later, told_of}
 
-module _ (root : List ℕ) (before now : Option Holdings) (sm sn : ℕ) (input : Object (List ℕ)) (a : Option (List ℕ)) (k : ℕ) (report : Object (List ℕ)) (result : Status) (stays : WhereTold before now Stays) where
+module _ (root : List ℕ) (workers : ℕ) (before now : Option Holdings) (sm sn : ℕ) (input : Object (List ℕ)) (a : Option (List ℕ)) (k : ℕ) (report : Object (List ℕ)) (result : Status) (stays : WhereTold before now Stays) where
   abbrev pub Out : Type 0
-  Out = Ran (Retrieve root) result (object before now sm sn) input (object a a k k) report
+  Out = Ran (Retrieve root workers) result (object before now sm sn) input (object a a k k) report
 
   abbrev Fs : Failures
   Fs = failures (object before now sm sn) input (object a a k k) report
@@ -39,18 +39,18 @@ module _ (root : List ℕ) (before now : Option Holdings) (sm sn : ℕ) (input :
   ToldAs s text = Told s text result report.before report.now report.faults_before report.faults_now
 
   abbrev EndsAs : Holdings → Holdings → List (List ℕ) → List ℕ → Option Outcome → Type 0
-  EndsAs h i names octets o = Ends Fs result o (early (Retrieve root) h names octets) (troubles (Retrieve root) Fs h i names octets) a a report.before report.now
+  EndsAs h i names octets o = Ends Fs result o (early (Retrieve root workers) h names octets) (troubles (Retrieve root workers) Fs h i names octets) a a report.before report.now
 
   abbrev Reads : Type 0
   Reads = IfSome input.before (λ octets. input.now ≡ Some [])
 
   -- such a status ends it
-  early_ran : (s : Status) (text : List ℕ) → ToldAs s text → is_words s ≡ false → is_output_fault s ≡ false → (s ≡ InputFault → Failed input) → is_whole s ≡ false → (s ≡ DiskFault → Rose sm sn) → Calm (Retrieve root) s input (object a a k k) report
-      → ((octets : List ℕ) (h i : Holdings) (names : List (List ℕ)) → input.before ≡ Some octets → before ≡ Some h → CanStop Fs (troubles (Retrieve root) Fs h i names octets) s text) → Out
+  early_ran : (s : Status) (text : List ℕ) → ToldAs s text → is_words s ≡ false → is_output_fault s ≡ false → (s ≡ InputFault → Failed input) → is_whole s ≡ false → (s ≡ DiskFault → Rose sm sn) → Calm (Retrieve root workers) s input (object a a k k) report
+      → ((octets : List ℕ) (h i : Holdings) (names : List (List ℕ)) → input.before ≡ Some octets → before ≡ Some h → CanStop Fs (troubles (Retrieve root workers) Fs h i names octets) s text) → Out
   early_ran s text told words output_no input_fault whole disk calm can =
-      told_of root (object before now sm sn) input (object a a k k) report result s text report.before report.faults_before report.faults_now told (λ r. r) words output_no input_fault disk calm stays (never_whole Reads s whole)
-      (λ octets h i names e f. ends_early Fs a a report.before report.before report.now (early (Retrieve root) h names octets) (troubles (Retrieve root) Fs h i names octets) (outcome (Retrieve root) h names octets) s result text [] report.faults_before report.faults_now
-      (within h names octets (Retrieve root)) (can octets h i names e f) (reached_nothing a report.before (early (Retrieve root) h names octets)) (λ r. r) told)
+      told_of root workers (object before now sm sn) input (object a a k k) report result s text report.before report.faults_before report.faults_now told (λ r. r) words output_no input_fault disk calm stays (never_whole Reads s whole)
+      (λ octets h i names e f. ends_early Fs a a report.before report.before report.now (early (Retrieve root workers) h names octets) (troubles (Retrieve root workers) Fs h i names octets) (outcome (Retrieve root workers) h names octets) s result text [] report.faults_before report.faults_now
+      (within h names octets (Retrieve root workers)) (can octets h i names e f) (reached_nothing a report.before (early (Retrieve root workers) h names octets)) (λ r. r) told)
 
   memory_ran : ToldAs NoMemory no_memory → Out
   memory_ran told = early_ran NoMemory no_memory told refl refl (λ e. absurd (apart is_input_fault NoMemory InputFault refl refl e)) refl (λ e. absurd (apart is_disk_fault NoMemory DiskFault refl refl e)) tt (λ octets h i names e f. refl)
@@ -71,15 +71,15 @@ module _ (root : List ℕ) (before now : Option Holdings) (sm sn : ℕ) (input :
   refused_ran : (cause : Cause) → IfSome before (λ h. IfSome input.before (λ octets. asked_of h octets ≡ Err cause)) → IsCalm input → ToldAs (telling cause).status (telling cause).line → Out
   refused_ran cause says calm told =
       let s = (telling cause).status in
-      told_of root (object before now sm sn) input (object a a k k) report result s (telling cause).line report.before report.faults_before report.faults_now told (λ r. r)
+      told_of root workers (object before now sm sn) input (object a a k k) report result s (telling cause).line report.before report.faults_before report.faults_now told (λ r. r)
       (by_cause (λ s. is_words s ≡ false) refl refl refl cause) (by_cause (λ s. is_output_fault s ≡ false) refl refl refl cause)
       (by_cause (λ s. s ≡ InputFault → Failed input) (λ e. absurd (apart is_input_fault Refused InputFault refl refl e)) (λ e. absurd (apart is_input_fault Damaged InputFault refl refl e)) (λ e. absurd (apart is_input_fault Limit InputFault refl refl e)) cause)
       (by_cause (λ s. s ≡ DiskFault → Rose sm sn) (λ e. absurd (apart is_disk_fault Refused DiskFault refl refl e)) (λ e. absurd (apart is_disk_fault Damaged DiskFault refl refl e)) (λ e. absurd (apart is_disk_fault Limit DiskFault refl refl e)) cause)
-      (cause_calm (Retrieve root) input (object a a k k) report (calm, refl) cause) stays (cause_not_whole Reads cause)
+      (cause_calm (Retrieve root workers) input (object a a k k) report (calm, refl) cause) stays (cause_not_whole Reads cause)
       (λ octets h i names e f.
       let q = subst (λ x. IfSome x (λ octets. asked_of h octets ≡ Err cause)) e (subst (λ x. IfSome x (λ h. IfSome input.before (λ octets. asked_of h octets ≡ Err cause))) f says) in
       subst (λ r. EndsAs h i names octets (retrieved h r)) (sym q)
-      (ends_told Fs a a report.before report.before report.now (early (Retrieve root) h names octets) (troubles (Retrieve root) Fs h i names octets) (refused cause) result (telling cause).line [] report.faults_before report.faults_now (cause_told cause) refl (takes_nothing a) (takes_nothing report.before) (λ r. r) told))
+      (ends_told Fs a a report.before report.before report.now (early (Retrieve root workers) h names octets) (troubles (Retrieve root workers) Fs h i names octets) (refused cause) result (telling cause).line [] report.faults_before report.faults_now (cause_told cause) refl (takes_nothing a) (takes_nothing report.before) (λ r. r) told))
 
   either_ran : (cause : Cause) → IfSome before (λ h. IfSome input.before (λ octets. asked_of h octets ≡ Err cause)) → IsCalm input → ToldOrNoMemory (telling cause).status (telling cause).line result report.before report.now report.faults_before report.faults_now → Out
   either_ran cause says calm told = elim told as (λ _. Out) [ inl t ↦ refused_ran cause says calm t | inr t ↦ memory_ran t ]
@@ -88,14 +88,14 @@ module _ (root : List ℕ) (before now : Option Holdings) (sm sn : ℕ) (input :
   SaysSo stop = IfSome before (λ h. IfSome input.before (λ octets. Says stop h (asked_of h octets)))
 
   -- what is told of a cause ends the run so
-  told_ends : (octets : List ℕ) (h i : Holdings) (names : List (List ℕ)) (cause : Cause) → asked_of h octets ≡ Err cause → ToldAs (telling cause).status (telling cause).line → EndsAs h i names octets (outcome (Retrieve root) h names octets)
+  told_ends : (octets : List ℕ) (h i : Holdings) (names : List (List ℕ)) (cause : Cause) → asked_of h octets ≡ Err cause → ToldAs (telling cause).status (telling cause).line → EndsAs h i names octets (outcome (Retrieve root workers) h names octets)
   told_ends octets h i names cause q told =
       subst (λ r. EndsAs h i names octets (retrieved h r)) (sym q)
-      (ends_told Fs a a report.before report.before report.now (early (Retrieve root) h names octets) (troubles (Retrieve root) Fs h i names octets) (refused cause) result (telling cause).line [] report.faults_before report.faults_now (cause_told cause) refl (takes_nothing a) (takes_nothing report.before) (λ r. r) told)
+      (ends_told Fs a a report.before report.before report.now (early (Retrieve root workers) h names octets) (troubles (Retrieve root workers) Fs h i names octets) (refused cause) result (telling cause).line [] report.faults_before report.faults_now (cause_told cause) refl (takes_nothing a) (takes_nothing report.before) (λ r. r) told)
 
-  memory_ends : (octets : List ℕ) (h i : Holdings) (names : List (List ℕ)) → ToldAs NoMemory no_memory → EndsAs h i names octets (outcome (Retrieve root) h names octets)
-  memory_ends octets h i names told = ends_early Fs a a report.before report.before report.now (early (Retrieve root) h names octets) (troubles (Retrieve root) Fs h i names octets) (outcome (Retrieve root) h names octets) NoMemory result no_memory [] report.faults_before report.faults_now
-      (within h names octets (Retrieve root)) refl (reached_nothing a report.before (early (Retrieve root) h names octets)) (λ r. r) told
+  memory_ends : (octets : List ℕ) (h i : Holdings) (names : List (List ℕ)) → ToldAs NoMemory no_memory → EndsAs h i names octets (outcome (Retrieve root workers) h names octets)
+  memory_ends octets h i names told = ends_early Fs a a report.before report.before report.now (early (Retrieve root workers) h names octets) (troubles (Retrieve root workers) Fs h i names octets) (outcome (Retrieve root workers) h names octets) NoMemory result no_memory [] report.faults_before report.faults_now
+      (within h names octets (Retrieve root workers)) refl (reached_nothing a report.before (early (Retrieve root workers) h names octets)) (λ r. r) told
 
   abbrev KeySays : List ℕ → Holdings → List ℕ → Type 0
   KeySays text h octets = (key : List Pair) × (asked_of h octets ≡ Err (causes.NoRule key)) × (text ≡ key_text key)
@@ -103,7 +103,7 @@ module _ (root : List ℕ) (before now : Option Holdings) (sm sn : ℕ) (input :
   -- no rule admits a key
   no_rule_ran : (text : List ℕ) → IfSome before (λ h. IfSome input.before (λ octets. KeySays text h octets)) → IsCalm input → ToldAs Refused (line (codes "refused NoRule " ++ text)) → Out
   no_rule_ran text says calm told =
-      told_of root (object before now sm sn) input (object a a k k) report result Refused (line (codes "refused NoRule " ++ text)) report.before report.faults_before report.faults_now told (λ r. r) refl refl (λ e. absurd (apart is_input_fault Refused InputFault refl refl e)) (λ e. absurd (apart is_disk_fault Refused DiskFault refl refl e))
+      told_of root workers (object before now sm sn) input (object a a k k) report result Refused (line (codes "refused NoRule " ++ text)) report.before report.faults_before report.faults_now told (λ r. r) refl refl (λ e. absurd (apart is_input_fault Refused InputFault refl refl e)) (λ e. absurd (apart is_disk_fault Refused DiskFault refl refl e))
       (calm, refl) stays (never_whole Reads Refused refl)
       (λ octets h i names e f.
       let s = subst (λ q. IfSome q (λ octets. KeySays text h octets)) e (subst (λ q. IfSome q (λ h. IfSome input.before (λ octets. KeySays text h octets))) f says) in
@@ -117,15 +117,15 @@ module _ (root : List ℕ) (before now : Option Holdings) (sm sn : ℕ) (input :
       → ((text : List ℕ) (fault : schemas.Fault) → IsFirst text line kind fault → ToldOrNoMemory (telling (causes.InStored text fault)).status (telling (causes.InStored text fault)).line result report.before report.now report.faults_before report.faults_now)
       → IfSome before (λ h. IfSome input.before (λ octets. SchemaSays line kind h octets)) → IsCalm input → Out
   schema_ran line kind (s, text, which, told) told_if says calm =
-      told_of root (object before now sm sn) input (object a a k k) report result s text report.before report.faults_before report.faults_now told (λ r. r)
+      told_of root workers (object before now sm sn) input (object a a k k) report result s text report.before report.faults_before report.faults_now told (λ r. r)
       (chosen s which (λ s. is_words s ≡ false) refl refl refl) (chosen s which (λ s. is_output_fault s ≡ false) refl refl refl)
       (chosen s which (λ s. s ≡ InputFault → Failed input) (λ e. absurd (apart is_input_fault Damaged InputFault refl refl e)) (λ e. absurd (apart is_input_fault Limit InputFault refl refl e)) (λ e. absurd (apart is_input_fault NoMemory InputFault refl refl e)))
       (chosen s which (λ s. s ≡ DiskFault → Rose sm sn) (λ e. absurd (apart is_disk_fault Damaged DiskFault refl refl e)) (λ e. absurd (apart is_disk_fault Limit DiskFault refl refl e)) (λ e. absurd (apart is_disk_fault NoMemory DiskFault refl refl e)))
-      (chosen s which (λ s. Calm (Retrieve root) s input (object a a k k) report) tt (inl (calm, refl)) tt) stays
+      (chosen s which (λ s. Calm (Retrieve root workers) s input (object a a k k) report) tt (inl (calm, refl)) tt) stays
       (chosen s which (λ s. ((s ≡ Done) ⊎ (s ≡ Missed)) → Reads) (never_whole Reads Damaged refl) (never_whole Reads Limit refl) (never_whole Reads NoMemory refl))
       (λ octets h i names e f.
       let x = subst (λ q. IfSome q (λ octets. SchemaSays line kind h octets)) e (subst (λ q. IfSome q (λ h. IfSome input.before (λ octets. SchemaSays line kind h octets))) f says) in
-      elim (told_if x.0 x.1 x.3) as (λ _. EndsAs h i names octets (outcome (Retrieve root) h names octets)) [ inl t ↦ told_ends octets h i names (causes.InStored x.0 x.1) x.2 t | inr t ↦ memory_ends octets h i names t ])
+      elim (told_if x.0 x.1 x.3) as (λ _. EndsAs h i names octets (outcome (Retrieve root workers) h names octets)) [ inl t ↦ told_ends octets h i names (causes.InStored x.0 x.1) x.2 t | inr t ↦ memory_ends octets h i names t ])
     where
       chosen : (s : Status) → (s ≡ Damaged) ⊎ ((s ≡ Limit) ⊎ (s ≡ NoMemory)) → (P : Status → Type 0) → P Damaged → P Limit → P NoMemory → P s
       chosen s (inl e) P d l n = subst P (sym e) d

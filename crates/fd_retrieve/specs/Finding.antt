@@ -16,7 +16,7 @@ module _ {F X : Type 0} where
   OnUnwritten (halts.Damaged n) P Q = Unit {0}
   OnUnwritten halts.NoMemory P Q = Unit {0}
 
-  -- what holds of the number of the key at which a damage was met
+  -- what holds of the number of the dataset that is damaged
   abbrev pub OnDamaged : Halt F X → (ℕ → Type 0) → Type 0
   OnDamaged (halts.Disk f) P = Unit {0}
   OnDamaged (halts.Unwritten x) P = Unit {0}

@@ -3,4 +3,5 @@ pub mod Tables
 pub mod Stops
 pub mod Finding
 pub mod Ready
+pub mod Located
 pub mod Telling

@@ -1,5 +1,5 @@
 // The answer of a request, key by key.
-ghost use Rattle.std.specs.Prelude.{◌≡◌, ◌≤◌, ◌<◌, ◌+◌, ◌-◌, ◌^◌, ◌++◌, List, ℕ, codes, Some, map, length, slice_get, IfOk, IfErr, OnOk};
+ghost use Rattle.std.specs.Prelude.{◌≡◌, ◌≤◌, ◌<◌, ◌+◌, ◌-◌, ◌^◌, ◌++◌, List, ℕ, codes, Option, Some, map, length, slice_get, slice_index_or, IfOk, IfErr, IfSome, OnOk};
 ghost use Rattle.fd_bytes.specs.Causes.{Rose};
 ghost use Rattle.fd_io.specs.Streams.{Takes, TakesFront};
 ghost use Rattle.fd_key.specs.Pairs as keys;
@@ -10,16 +10,18 @@ ghost use Rattle.fd_request.specs.Expansion.{expand};
 ghost use Rattle.fd_outcome.specs.Asking.{Answer, answers};
 ghost use Rattle.fd_core.specs.declared.batch.Pair.{Pair};
 ghost use Rattle.fd_core.specs.Batches.{newest};
-ghost use Rattle.fd_schema.specs.Rules.{file_key};
+ghost use Rattle.fd_schema.specs.Rules.{Texts, file_key};
+ghost use Rattle.fd_schema.specs.declared.place.Place.{Place};
 ghost use Rattle.fd_retrieve.specs.Open.{table_in};
+ghost use Rattle.fd_retrieve.specs.Located.{AreLocated, IsIn, IsLocated};
 ghost use Rattle.fd_retrieve.specs.Finding.{IsAnswered, IsAnsweredInPart, IsOne, IsOneInPart, OnDamaged, OnUnwritten, TookSome, asked_of_all, one_if};
 
 use crate::datasets::Datasets;
+use crate::locating::Located;
 use fd_disk::Sealed;
 use fd_io::{Sink, write_all};
 use fd_request::Request;
 use fd_retriever::{FetchFault, Got};
-use fd_schema::Place;
 use std::alloc::Global;
 
 /// Why an answer ended early.
@@ -31,8 +33,8 @@ pub(crate) enum Halt<F, X> {
     Unwritten(X),
     /// A write of the report failed.
     Untold(X),
-    /// A file is damaged, which was met at the key with this number, from 0.
-    Damaged(u32),
+    /// A file of the dataset with this number is damaged.
+    Damaged(usize),
     /// An allocation was refused.
     NoMemory,
 }
@@ -67,32 +69,44 @@ fn tell_miss<F: Send, X, E: Sink<X>>(
     }
 }
 
-/// Writes what is found for a key of a request, or tells on the report that it isn't there, and tells which. The place is
-/// that of the key.
+/// Where a damage was met: in the dataset of what was located.
+fn damaged_at<F, X>(located: Option<Located>) -> Halt<F, X>
+    ensures damaged { OnDamaged result (λ n. (l : Located) × (located ≡ Some l) × (n ≡ l.number)) }
+    ensures cause { OnUnwritten result ⊥ ⊥ }
+{
+    match located {
+        Some(located) => Halt::Damaged(located.number),
+        None => Halt::NoMemory,
+    }
+}
+
+/// Writes what is found for a key of a request, where it is located, or tells on the report that it isn't there, and tells
+/// which.
 fn answer_one<F: Send, X, Z: Sealed<F>, K: Sink<X>, E: Sink<X>>(
     alloc: Global,
     request: &Request,
     number: u32,
-    place: &Place,
+    located: Option<Located>,
     datasets: &mut Datasets<F, Z>,
     output: &mut K,
     report: &mut E,
 ) -> Result<bool, Halt<F, X>>
 where
-    requires { number < length (expand request.now) }
-    ensures one { IfOk result (λ is_found. (key : List keys.Pair) (t : List (List Pair)) → slice_get (expand request.now) number ≡ Some key → table_in datasets.old (seen_place place.now).dataset ≡ Some t
-        → IsOne (newest t (file_key (seen_place place.now))) key is_found (K.taken output.old) (K.taken output.new) (E.taken report.old) (E.taken report.new)) }
-    ensures halted { IfErr result (λ e. (key : List keys.Pair) (t : List (List Pair)) → slice_get (expand request.now) number ≡ Some key → table_in datasets.old (seen_place place.now).dataset ≡ Some t
-        → IsOneInPart (newest t (file_key (seen_place place.now))) key (K.taken output.old) (K.taken output.new) (E.taken report.old) (E.taken report.new)) }
+    requires number { number < length (expand request.now) }
+    requires within { IfSome located (IsIn datasets.old) }
+    ensures one { IfOk result (λ is_found. (place : Texts) (key : List keys.Pair) (t : List (List Pair)) → IsLocated datasets.old place located → slice_get (expand request.now) number ≡ Some key → table_in datasets.old place.dataset ≡ Some t
+        → IsOne (newest t (file_key place)) key is_found (K.taken output.old) (K.taken output.new) (E.taken report.old) (E.taken report.new)) }
+    ensures halted { IfErr result (λ e. (place : Texts) (key : List keys.Pair) (t : List (List Pair)) → IsLocated datasets.old place located → slice_get (expand request.now) number ≡ Some key → table_in datasets.old place.dataset ≡ Some t
+        → IsOneInPart (newest t (file_key place)) key (K.taken output.old) (K.taken output.new) (E.taken report.old) (E.taken report.new)) }
     ensures same { datasets.new ≡ datasets.old }
     ensures output { K.faults output.old ≤ K.faults output.new }
     ensures calm { OnOk result (K.faults output.new ≡ K.faults output.old) }
     ensures report { E.faults report.old ≤ E.faults report.new }
     ensures cause { IfErr result (λ e. OnUnwritten e (Rose (K.faults output.old) (K.faults output.new)) (Rose (E.faults report.old) (E.faults report.new))) }
-    ensures damaged { IfErr result (λ e. OnDamaged e (λ n. n ≡ number)) }
+    ensures damaged { IfErr result (λ e. OnDamaged e (λ n. n < length datasets.old)) }
     ensures grew { TookSome (E.taken report.old) (E.taken report.new) }
 {
-    match datasets.fetch(alloc, place, output) {
+    match datasets.copy(alloc, located, output) {
         Ok(Got::Found(_)) => Ok(true),
         Ok(Got::Miss) => match tell_miss(alloc, request, number, report) {
             Ok(()) => Ok(false),
@@ -100,7 +114,7 @@ where
         },
         Err(FetchFault::Disk(fault)) => Err(Halt::Disk(fault)),
         Err(FetchFault::Write(fault)) => Err(Halt::Unwritten(fault)),
-        Err(FetchFault::Damaged(_)) => Err(Halt::Damaged(number)),
+        Err(FetchFault::Damaged(_)) => Err(damaged_at(located)),
         Err(FetchFault::NoMemory) => Err(Halt::NoMemory),
     }
 }
@@ -113,34 +127,35 @@ fn one_more_if(found: u32, is_found: bool) -> u32
     if is_found { found + 1 } else { found }
 }
 
-/// Writes what is found for each key of a request, in its order, tells each miss on the report, and counts both. The places
-/// are those of the keys.
+/// Writes what is found for each key of a request, in its order, where it is located, tells each miss on the report, and
+/// counts both.
 pub(crate) fn answer_all<F: Send, X, Z: Sealed<F>, K: Sink<X>, E: Sink<X>>(
     alloc: Global,
     request: &Request,
-    places: &[Place],
+    located: &[Option<Located>],
     datasets: &mut Datasets<F, Z>,
     output: &mut K,
     report: &mut E,
 ) -> Result<(u32, u32), Halt<F, X>>
 where
-    requires { length places.now ≡ length (expand request.now) }
-    ensures answered { IfOk result (λ r. (xs : List Answer) → answers (table_in datasets.old) (asked_of_all (expand request.now) (map seen_place places.now)) ≡ Some xs
+    requires count { length located.now ≡ length (expand request.now) }
+    requires within { (k : ℕ) (d : Option Located) → k < length located.now → IfSome (slice_index_or located.now k d) (IsIn datasets.old) }
+    ensures answered { IfOk result (λ r. (places : List Place) (xs : List Answer) → AreLocated datasets.old places located.now → answers (table_in datasets.old) (asked_of_all (expand request.now) (map seen_place places)) ≡ Some xs
         → IsAnswered xs (length xs) (K.taken output.old) (K.taken output.new) (E.taken report.old) (E.taken report.new) r.0 r.1) }
-    ensures halted { IfErr result (λ e. (xs : List Answer) → answers (table_in datasets.old) (asked_of_all (expand request.now) (map seen_place places.now)) ≡ Some xs
+    ensures halted { IfErr result (λ e. (places : List Place) (xs : List Answer) → AreLocated datasets.old places located.now → answers (table_in datasets.old) (asked_of_all (expand request.now) (map seen_place places)) ≡ Some xs
         → IsAnsweredInPart xs (K.taken output.old) (K.taken output.new) (E.taken report.old) (E.taken report.new)) }
     ensures same { datasets.new ≡ datasets.old }
     ensures output { K.faults output.old ≤ K.faults output.new }
     ensures calm { OnOk result (K.faults output.new ≡ K.faults output.old) }
     ensures report { E.faults report.old ≤ E.faults report.new }
     ensures cause { IfErr result (λ e. OnUnwritten e (Rose (K.faults output.old) (K.faults output.new)) (Rose (E.faults report.old) (E.faults report.new))) }
-    ensures damaged { IfErr result (λ e. OnDamaged e (λ n. n < length places.now)) }
+    ensures damaged { IfErr result (λ e. OnDamaged e (λ n. n < length datasets.old)) }
     ensures grew { TookSome (E.taken report.old) (E.taken report.new) }
 {
     let mut found = 0;
     for i in 0..request.count() {
-        let place = &places[i as usize];
-        match answer_one(alloc, request, i, place, datasets, output, report) {
+        let one = located[i as usize];
+        match answer_one(alloc, request, i, one, datasets, output, report) {
             Ok(is_found) => found = one_more_if(found, is_found),
             Err(halt) => return Err(halt),
         }

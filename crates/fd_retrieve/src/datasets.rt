@@ -1,29 +1,28 @@
 // The datasets that were opened, in which fields are found.
 ghost use Rattle.std.specs.Prelude.{◌≡◌, ◌≤◌, ◌<◌, List, ℕ, Option, Some, None, false, length, map, slice_get, IfOk, IfErr, IfSome, OnOk, MatchOption};
-ghost use Rattle.std.specs.Arc.{arc_value};
-ghost use Rattle.fd_core.specs.declared.batch.Listing.{Listing};
 ghost use Rattle.fd_core.specs.declared.batch.Pair.{Pair};
-ghost use Rattle.fd_segment.specs.Shared.{standings};
-ghost use Rattle.fd_dataset.specs.Listed.{listing};
+ghost use Rattle.fd_segment.specs.Held.{Standing};
 ghost use Rattle.fd_bytes.specs.Causes.{Rose};
 ghost use Rattle.fd_core.specs.Batches.{newest};
-ghost use Rattle.fd_schema.specs.Rules.{file_key};
+ghost use Rattle.fd_schema.specs.Rules.{Texts, file_key};
 ghost use Rattle.fd_retriever.specs.Answers.{IsAnswer, OnWrite, StandsIn, TookFront};
-ghost use Rattle.fd_retriever.specs.Kept.{Fits};
+ghost use Rattle.fd_retriever.specs.Kept.{AreThose};
 ghost use Rattle.fd_schema.specs.Reading.{seen_place};
 ghost use Rattle.fd_outcome.specs.Asking.{is_among};
 ghost use Rattle.fd_retrieve.specs.Open.{IsDamaged, IsFirstNamed, Open, names_of, table_in};
+ghost use Rattle.fd_retrieve.specs.Located.{IsIn, IsLocated};
 
+use crate::locating::Located;
 use crate::opened::Opened;
 use fd_bytes::NoMemory;
-use fd_disk::{Down, Sealed};
+use fd_disk::{Down, Reader, Sealed};
+use fd_finding::Spot;
 use fd_io::Sink;
-use fd_retriever::{FetchFault, Got, Lenses, fetch};
+use fd_retriever::{FetchFault, Got, Lenses, copy_at};
 use fd_schema::Place;
-use fd_segment::{Damage, LensFault, Segment};
+use fd_segment::{Damage, Lens, LensFault, Segment};
 use std::alloc::Global;
 use std::marker::Model;
-use std::sync::Arc;
 
 /// The segments of the dataset with this number that are open for reading.
 #[derive(Drop)]
@@ -41,16 +40,15 @@ pub(crate) struct Datasets<F: Send, Z: Sealed<F>> {
 }
 
 impl<F: Send, Z: Sealed<F>> Model for Datasets<F, Z> {
-    ghost use Rattle.std.specs.Prelude.{List, IfSome, map, slice_get};
-    ghost use Rattle.fd_dataset.specs.Listed.{listing};
-    ghost use Rattle.fd_retriever.specs.Kept.{Fits};
+    ghost use Rattle.std.specs.Prelude.{List, IfSome, slice_get};
+    ghost use Rattle.fd_retriever.specs.Kept.{AreThose};
     ghost use Rattle.fd_retrieve.specs.Open.{Open};
 
     ghost Value = { List Open };
 
     ghost view = { λ d. d.opened.items };
 
-    ghost invariant = { λ d. IfSome d.current (λ c. IfSome (slice_get d.opened.items c.number) (λ o. Fits c.lenses (map listing o.shown))) };
+    ghost invariant = { λ d. IfSome d.current (λ c. IfSome (slice_get d.opened.items c.number) (λ o. AreThose c.lenses o.shown)) };
 }
 
 impl<F: Send, Z: Sealed<F>> Datasets<F, Z> {
@@ -64,40 +62,45 @@ impl<F: Send, Z: Sealed<F>> Datasets<F, Z> {
         }
     }
 
-    /// Writes the newest message of a place's key in its dataset into the sink. A dataset that isn't open has none.
-    pub(crate) fn fetch<X, K: Sink<X>>(
+    /// Those that are open.
+    pub(crate) fn opened(&self) -> &[Opened<F, Z>]
+        ensures { result.now ≡ self.now }
+    {
+        &self.opened
+    }
+
+    /// Writes a key's bytes into the sink, where they are located. A key that isn't located has none.
+    pub(crate) fn copy<X, K: Sink<X>>(
         &mut self,
         alloc: Global,
-        place: &Place,
+        located: Option<Located>,
         sink: &mut K,
     ) -> Result<Got, FetchFault<F, X>>
-        ensures answer { IfOk result (λ got. (t : List (List Pair)) → table_in self.old (seen_place place.now).dataset ≡ Some t → IsAnswer (newest t (file_key (seen_place place.now))) (K.taken sink.old) (K.taken sink.new) got) }
-        ensures err { IfErr result (λ e. (t : List (List Pair)) → table_in self.old (seen_place place.now).dataset ≡ Some t → TookFront (newest t (file_key (seen_place place.now))) (K.taken sink.old) (K.taken sink.new)) }
+        requires within { IfSome located (IsIn self.old) }
+        ensures answer { IfOk result (λ got. (place : Texts) (t : List (List Pair)) → IsLocated self.old place located → table_in self.old place.dataset ≡ Some t → IsAnswer (newest t (file_key place)) (K.taken sink.old) (K.taken sink.new) got) }
+        ensures err { IfErr result (λ e. (place : Texts) (t : List (List Pair)) → IsLocated self.old place located → table_in self.old place.dataset ≡ Some t → TookFront (newest t (file_key place)) (K.taken sink.old) (K.taken sink.new)) }
         ensures same { self.new ≡ self.old }
         ensures count { K.faults sink.old ≤ K.faults sink.new }
         ensures calm { OnOk result (K.faults sink.new ≡ K.faults sink.old) }
         ensures write { IfErr result (λ e. OnWrite e (Rose (K.faults sink.old) (K.faults sink.new))) }
     {
-        let number = match number_of(&self.opened, place.dataset.as_str()) {
-            Some(number) => number,
-            None => return Ok(Got::Miss),
+        let Some(Located { number, spot }) = located else {
+            return Ok(Got::Miss);
         };
         let Ok(mut lenses) = lenses_for(alloc, self.current.take(), number) else {
             return Err(FetchFault::NoMemory);
         };
-        let dataset = &self.opened[number];
-        let answer = fetch(alloc, &dataset.snapshot, &mut lenses, place, sink);
+        let Spot {
+            number: segment,
+            at,
+            len,
+        } = spot;
+        let snapshot = &self.opened[number].snapshot;
+        let answer = copy_at(alloc, snapshot, segment, &mut lenses, at, len, sink);
         self.current = Some(Current { number, lenses });
-        answer
-    }
-
-    /// The dataset in which a field of this place is looked for, if it is open.
-    pub(crate) fn dataset_of(&self, place: &Place) -> Option<&Opened<F, Z>>
-        ensures { IfSome result (λ o. (n : ℕ) × (slice_get self.now n ≡ Some o.now) × (o.now.name ≡ (seen_place place.now).dataset)) }
-    {
-        match number_of(&self.opened, place.dataset.as_str()) {
-            Some(number) => Some(&self.opened[number]),
-            None => None,
+        match answer {
+            Ok(()) => Ok(Got::Found(len)),
+            Err(fault) => Err(fault),
         }
     }
 }
@@ -109,7 +112,7 @@ fn lenses_for<F: Send, Z: Sealed<F>>(
     number: usize,
 ) -> Result<Lenses<F, Z>, NoMemory>
 where
-    ensures { IfOk result (λ l. (ls : List Listing) → IfSome current (λ c. c.number ≡ number → Fits c.lenses ls) → Fits l ls) }
+    ensures { IfOk result (λ l. (ss : List Standing) → IfSome current (λ c. c.number ≡ number → AreThose c.lenses ss) → AreThose l ss) }
 {
     if let Some(Current { number: of, lenses }) = current {
         if of == number {
@@ -131,19 +134,20 @@ pub(crate) fn number_of<F: Send, Z: Sealed<F>>(opened: &[Opened<F, Z>], name: &s
     None
 }
 
-/// The damage that a look for a key meets in a dataset's segments, from the newest on.
+/// The damage that a look for one of the places that are in a dataset meets in its segments, from the newest on.
 pub(crate) fn damage_of<F: Send, Z: Sealed<F>>(
     alloc: Global,
-    segments: &[Arc<Segment<F, Z>>],
-    key: &[u8],
+    dataset: &Opened<F, Z>,
+    places: &[Place],
 ) -> Result<Option<Damage>, Down<F>>
 where
-    ensures { IfOk result (λ o. IfSome o (IsDamaged (standings segments.now) key.now)) }
+    ensures { IfOk result (λ o. IfSome o (λ d. (key : List ℕ) × IsDamaged dataset.now.segments key d)) }
 {
+    let segments = dataset.segments();
     let count = segments.len();
     for i in 0..count {
         let segment = &segments[count - 1 - i];
-        match damage_in(alloc, segment, key) {
+        match damage_in(alloc, segment, dataset, places) {
             Ok(None) => {}
             Ok(Some(damage)) => return Ok(Some(damage)),
             Err(fault) => return Err(fault),
@@ -152,14 +156,15 @@ where
     Ok(None)
 }
 
-// The damage that a look for a key meets in a segment.
+// The damage that a look for one of the places that are in a dataset meets in one of its segments.
 fn damage_in<F: Send, Z: Sealed<F>>(
     alloc: Global,
     segment: &Segment<F, Z>,
-    key: &[u8],
+    dataset: &Opened<F, Z>,
+    places: &[Place],
 ) -> Result<Option<Damage>, Down<F>>
 where
-    ensures { IfOk result (λ o. IfSome o (StandsIn segment.now.files key.now)) }
+    ensures { IfOk result (λ o. IfSome o (λ d. (key : List ℕ) × StandsIn segment.now.files key d)) }
 {
     let mut lens = match segment.lens(alloc) {
         Ok(lens) => lens,
@@ -167,7 +172,34 @@ where
         Err(LensFault::Fault(fault)) => return Err(Down::Fault(fault)),
         Err(LensFault::NoMemory) => return Err(Down::NoMemory),
     };
-    match lens.find(alloc, key) {
+    for i in 0..places.len() {
+        let place = &places[i];
+        if !dataset.is(place.dataset.as_str()) {
+            continue;
+        }
+        match damage_at(alloc, &mut lens, place) {
+            Ok(None) => {}
+            Ok(Some(damage)) => return Ok(Some(damage)),
+            Err(fault) => return Err(fault),
+        }
+    }
+    Ok(None)
+}
+
+// The damage that a look for a place's key meets in an opened segment.
+fn damage_at<F: Send, R: Reader<F>>(
+    alloc: Global,
+    lens: &mut Lens<F, R>,
+    place: &Place,
+) -> Result<Option<Damage>, Down<F>>
+where
+    ensures damage { IfOk result (λ o. IfSome o (λ d. (key : List ℕ) × StandsIn lens.old.files key d)) }
+    ensures files { lens.new.files ≡ lens.old.files }
+{
+    let Ok(key) = place.file_key(alloc) else {
+        return Err(Down::NoMemory);
+    };
+    match lens.find(alloc, &key) {
         Ok(_) => Ok(None),
         Err(LensFault::Damaged(damage)) => Ok(Some(damage)),
         Err(LensFault::Fault(fault)) => Err(Down::Fault(fault)),

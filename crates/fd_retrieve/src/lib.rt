@@ -4,6 +4,7 @@
 mod answering;
 mod asking;
 mod datasets;
+mod locating;
 mod opened;
 mod preparing;
 mod retrieving;

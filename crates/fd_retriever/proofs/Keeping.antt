@@ -58,6 +58,9 @@ still_those kept after ss n s those at cases = λ k has. go k (cases k has)
     go k (inl was) = those k was
     go k (inr is) = subst (λ (x : Kept). IsNumbered (files_of ss) x.number x.files) (sym is) (numbered_map (λ (t : Standing). t.files) ss n s at)
 
+pub less_those : (kept after : List Kept) (ss : List Standing) → AreThose kept ss → ((k : Kept) → Contains after k → Contains kept k) → AreThose after ss
+less_those kept after ss those less = λ k has. those k (less k has)
+
 -- A segment was taken out or opened, used, and kept under its number: each that is kept then was kept before, or is this one.
 pub kept_again : (before left after : List Kept) (n : ℕ) (used lens own : Files) → used ≡ lens → Contains before (record { number = n; files = lens }) ⊎ (lens ≡ own) → ((k : Kept) → Contains left k → Contains before k)
     → ((k : Kept) → Contains after k → Contains left k ⊎ (k ≡ record { number = n; files = used })) → (k : Kept) → Contains after k → Contains before k ⊎ (k ≡ record { number = n; files = own })

@@ -1,12 +1,14 @@
 //! The reader of a dataset: the newest message of a key among the segments of a snapshot.
 #![tactic(auto)]
 
+mod bytes_at;
 mod fault;
 mod fetching;
 mod laws;
 mod lenses;
 mod looking;
 
+pub use bytes_at::copy_at;
 pub use fault::{FetchFault, Got};
 pub use fetching::fetch;
 pub use laws::{every_later_snapshot, every_snapshot};

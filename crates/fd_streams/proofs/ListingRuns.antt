@@ -12,7 +12,7 @@ use Rattle.fd_sections.proofs.Pieces.{stream-ends, stream-cut}
 use Rattle.fd_outcome.specs.declared.listing.Listing.{Listing}
 use Rattle.fd_streams.specs.declared.listing.Halt.{Halt}
 use Rattle.fd_outcome.specs.declared.refusal.Refusal.{Refusal}
-use Rattle.fd_outcome.specs.declared.refusal.Refusal.TheVariants.{Message, Input}
+use Rattle.fd_outcome.specs.declared.refusal.Refusal.TheVariants.{Cut, Input}
 use Rattle.fd_outcome.specs.Limits.{input_limit}
 use Rattle.fd_outcome.specs.Listed.{Listed, ended, before, listed_after, listed}
 use Rattle.fd_streams.specs.Found.{IsWaiting}
@@ -112,16 +112,16 @@ list_whole (Some octets) (Some left) listing p a b k r le end w e =
     all_lines a b s.lines None (listed listing octets) (held_at_end octets r.0 listing p a b s all le ∙ ap (λ (x : Stream). before (Ok s.lines) (listed_after listing false p.given x)) (stream-ends p.rest u)) s.took
 
 -- a message was cut
-pub list_truncated : (i j : Text) (listing : Listing) (p : Progress) (a b : Text) (t : Truncated) → Reads i j (Gone listing p a b) → p.fed ≤ input_limit → IsAtEnd j → Err t ≡ finished p (first p.rest) → IfSome i (λ octets. IsRefused (Message t.number) a b (listed listing octets))
+pub list_truncated : (i j : Text) (listing : Listing) (p : Progress) (a b : Text) (t : Truncated) → Reads i j (Gone listing p a b) → p.fed ≤ input_limit → IsAtEnd j → Err t ≡ finished p (first p.rest) → IfSome i (λ octets. IsRefused (Cut t) a b (listed listing octets))
 list_truncated None j listing p a b t r le end e = tt
 list_truncated (Some octets) None listing p a b t r le end e = absurd r
 list_truncated (Some octets) (Some left) listing p a b t r le end e =
     let s = r.2 in
     let u = partial p t (first p.rest) e in
     let all : octets ≡ r.0 ++ [] = r.1 ∙ ap (λ (x : List ℕ). r.0 ++ x) end in
-    let n : p.given + 0 + 1 ≡ t.number = omega (arith, u.3) in
-    all_lines a b s.lines (Some (Message t.number)) (listed listing octets)
-    (held_at_end octets r.0 listing p a b s all le ∙ ap (λ (x : Stream). before (Ok s.lines) (listed_after listing false p.given x)) (stream-cut p.rest u.0 u.1 u.2) ∙ ap (λ (k : ℕ). before (Ok s.lines) (ended (Some (Message k)))) n)
+    let n : p.given + 0 + 1 ≡ p.given + 1 = omega arith in
+    all_lines a b s.lines (Some (Cut t)) (listed listing octets)
+    (held_at_end octets r.0 listing p a b s all le ∙ ap (λ (x : Stream). before (Ok s.lines) (listed_after listing false p.given x)) (stream-cut p.rest u.0 u.1 u.2) ∙ ap (λ (k : ℕ). before (Ok s.lines) (ended (Some (Cut (record { number = k; have = u.0; want = u.1 }))))) n ∙ ap (λ (x : Truncated). before (Ok s.lines) (ended (Some (Cut x)))) (sym u.3))
     s.took
 
 -- what is held where octets come beyond the limit, and nothing below it is refused

@@ -13,7 +13,7 @@ use Rattle.fd_sections.proofs.Pieces.{stream-ends, stream-cut}
 use Rattle.fd_key.specs.Pairs.{Pair}
 use Rattle.fd_streams.specs.declared.picking.Last.{Last}
 use Rattle.fd_streams.specs.declared.picking.Stop.{Stop}
-use Rattle.fd_outcome.specs.declared.refusal.Refusal.TheVariants.{Message, Input}
+use Rattle.fd_outcome.specs.declared.refusal.Refusal.TheVariants.{Cut, Input}
 use Rattle.fd_outcome.specs.Limits.{input_limit}
 use Rattle.fd_outcome.proofs.InputLaws.{all_of, front_of, begins_with}
 use Rattle.fd_outcome.specs.Picking.{found, found_after}
@@ -91,14 +91,14 @@ found_last (Some octets) (Some left) wanted p last k r le end w e =
     let small : length octets ≤ input_limit = omega (arith, ap length all, length-append r.0 [], s.fed) in
     (s.now, within wanted octets small ∙ ap (λ (x : List ℕ). found_after wanted false 0 None (stream x)) all ∙ s.same false [] ∙ ap (λ (t : List ℕ). found_after wanted false p.given s.now (stream t)) (append-nil p.rest) ∙ ap (found_after wanted false p.given s.now) (stream-ends p.rest u), s.is_last)
 
-pub partial : (p : Progress) (t : Truncated) (f : First) → Err t ≡ finished p f → (h : ℕ) × (w : ℕ) × (f ≡ Partial h w) × (t.number ≡ p.given + 1)
+pub partial : (p : Progress) (t : Truncated) (f : First) → Err t ≡ finished p f → (h : ℕ) × (w : ℕ) × (f ≡ Partial h w) × (t ≡ record { number = p.given + 1; have = h; want = w })
 partial p t Unmarked e = absurd cc
-partial p t (Partial h w) e = let k : t ≡ record { number = p.given + 1; have = h; want = w } = cc in (h, w, refl, ap (λ (x : Truncated). x.number) k)
+partial p t (Partial h w) e = let k : t ≡ record { number = p.given + 1; have = h; want = w } = cc in (h, w, refl, k)
 partial p t (Refuses bad) e = absurd cc
 partial p t (Takes m r) e = absurd cc
 
 -- a message was cut
-pub found_cut : (a b : Option (List ℕ)) (wanted : List Pair) (p : Progress) (last : Last) (t : Truncated) → Reads a b (Searched wanted p last) → p.fed ≤ input_limit → IsAtEnd b → Err t ≡ finished p (first p.rest) → IfSome a (λ octets. found wanted octets ≡ Err (Message t.number))
+pub found_cut : (a b : Option (List ℕ)) (wanted : List Pair) (p : Progress) (last : Last) (t : Truncated) → Reads a b (Searched wanted p last) → p.fed ≤ input_limit → IsAtEnd b → Err t ≡ finished p (first p.rest) → IfSome a (λ octets. found wanted octets ≡ Err (Cut t))
 found_cut None b wanted p last t r le end e = tt
 found_cut (Some octets) None wanted p last t r le end e = absurd r
 found_cut (Some octets) (Some left) wanted p last t r le end e =
@@ -106,8 +106,8 @@ found_cut (Some octets) (Some left) wanted p last t r le end e =
     let u = partial p t (first p.rest) e in
     let all : octets ≡ r.0 ++ [] = r.1 ∙ ap (λ (x : List ℕ). r.0 ++ x) end in
     let small : length octets ≤ input_limit = omega (arith, ap length all, length-append r.0 [], s.fed) in
-    let n : p.given + 0 + 1 ≡ t.number = omega (arith, u.3) in
-    within wanted octets small ∙ ap (λ (x : List ℕ). found_after wanted false 0 None (stream x)) all ∙ s.same false [] ∙ ap (λ (x : List ℕ). found_after wanted false p.given s.now (stream x)) (append-nil p.rest) ∙ ap (found_after wanted false p.given s.now) (stream-cut p.rest u.0 u.1 u.2) ∙ ap (λ (k : ℕ). Err (Message k)) n
+    let n : p.given + 0 + 1 ≡ p.given + 1 = omega arith in
+    within wanted octets small ∙ ap (λ (x : List ℕ). found_after wanted false 0 None (stream x)) all ∙ s.same false [] ∙ ap (λ (x : List ℕ). found_after wanted false p.given s.now (stream x)) (append-nil p.rest) ∙ ap (found_after wanted false p.given s.now) (stream-cut p.rest u.0 u.1 u.2) ∙ ap (λ (k : ℕ). Err (Cut (record { number = k; have = u.0; want = u.1 }))) n ∙ ap (λ (x : Truncated). Err (Cut x)) (sym u.3)
 
 -- what is found where octets come beyond the limit, and nothing below it is refused
 past_limit : (wanted : List Pair) (p : Progress) (now : Option Sections) (f : First) → first p.rest ≡ f → answer p f ≡ Ok None → found_after wanted true p.given now (stream p.rest) ≡ Err Input

@@ -11,7 +11,7 @@ ghost use Rattle.fd_streams.specs.Halted.{AreFew, HaltedAs, Halted, IsWritten, L
 use fd_io::{Sink, Source};
 use fd_listing::{TextFault, ValuesFault, describe, values};
 use fd_outcome::{INPUT_LIMIT, Listing, Refusal, new_buffer, read_piece, refusal_of};
-use fd_sections::{Message, Splitter, Truncated};
+use fd_sections::{Message, Splitter};
 use std::alloc::Global;
 
 /// Why a listing ended before its input did.
@@ -176,9 +176,7 @@ pub fn list<X: Drop, I: Source<X>, K: Sink<X>>(
         if n == 0 {
             match splitter.finish() {
                 Ok(_) => return Ok(()),
-                Err(Truncated { number, .. }) => {
-                    return Err(Halt::Refused(Refusal::Message { number }));
-                }
+                Err(cut) => return Err(Halt::Refused(Refusal::Cut(cut))),
             }
         }
         if total == INPUT_LIMIT {

@@ -11,7 +11,7 @@ use fd_bytes::NoMemory;
 use fd_io::Source;
 use fd_key::{Given, Key, KeyFault, key_of};
 use fd_outcome::{INPUT_LIMIT, Refusal, new_buffer, read_piece, refusal_of};
-use fd_sections::{Message, Splitter, Truncated};
+use fd_sections::{Message, Splitter};
 use fd_words::Wanted;
 use std::alloc::Global;
 
@@ -145,7 +145,7 @@ pub fn last_wanted<X: Drop, I: Source<X>>(
         if n == 0 {
             return match splitter.finish() {
                 Ok(_) => Ok(last),
-                Err(Truncated { number, .. }) => Err(Stop::Refused(Refusal::Message { number })),
+                Err(cut) => Err(Stop::Refused(Refusal::Cut(cut))),
             };
         }
         if total == INPUT_LIMIT {

@@ -80,7 +80,7 @@ create_is = record { met = refl; found = refl; name_is = refl; other = refl; lea
 archive_is : IsCommand (codes "archive") (codes "with" ∷ []) (shape_named (codes "archive"))
 archive_is = record { met = refl; found = refl; name_is = refl; other = refl; leaf = record { shape = refl; help = refl; subcommand = refl } }
 
-retrieve_is : IsCommand (codes "retrieve") [] (shape_named (codes "retrieve"))
+retrieve_is : IsCommand (codes "retrieve") (codes "workers" ∷ []) (shape_named (codes "retrieve"))
 retrieve_is = record { met = refl; found = refl; name_is = refl; other = refl; leaf = record { shape = refl; help = refl; subcommand = refl } }
 
 list_is : IsCommand (codes "list") [] (shape_named (codes "list"))

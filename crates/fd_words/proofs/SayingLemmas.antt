@@ -1,5 +1,5 @@
 -- What the parser makes of words is what they say.
-use Rattle.std.proofs.Common.{◌≡◌, ◌∙◌, true, false, true≢false, refl, sym, ap, subst, List, [], ◌∷◌, Option, Some, None}
+use Rattle.std.proofs.Common.{◌≡◌, ◌∙◌, ℕ, true, false, true≢false, refl, sym, ap, subst, List, [], ◌∷◌, Option, Some, None}
 use Rattle.std.specs.Prelude.{option_map, option_and_then, unwrap_or, is_some, slice_get, map, ◌≢◌}
 use Rattle.std.specs.Borrow.{Bor}
 use Rattle.std.specs.Map.{lookup}
@@ -15,7 +15,7 @@ use Rattle.std.specs.Str.{bytes_eq}
 use Rattle.fd_words.specs.Reading.{Text, Said, reading, has_dash, double_dash, AreClean, Tells, alone_of, is_name}
 use Rattle.std.specs.Prelude.{codes}
 use Rattle.fd_key.specs.Pairs.{Pair}
-use Rattle.fd_words.specs.declared.command.Command.TheVariants.{Archive}
+use Rattle.fd_words.specs.declared.command.Command.TheVariants.{Archive, Retrieve}
 use Rattle.fd_words.specs.Saying.{said, Means}
 use Rattle.fd_words.specs.Words.{rooted, command_said, values_of}
 use Rattle.fd_words.proofs.CommandLemmas.{IsCommand, command_passes, command_refuses, command_tells, named, nameless}
@@ -94,8 +94,18 @@ some_alone (x ∷ xs) ys e = ap (λ o. unwrap_or o []) e
 pub archive_named : (name : Text) → bytes_eq name (codes "archive") ≡ true → is_name (options_of name) (codes "with") ≡ true
 archive_named name h = subst (λ n. is_name (options_of n) (codes "with") ≡ true) (sym (bytes_same name (codes "archive") h)) refl
 
-pub archive_rooted : (name : Text) → bytes_eq name (codes "archive") ≡ true → (given : Option (List Pair)) (root : Text) → rooted name given root ≡ option_map (Archive root) given
-archive_rooted name h given root = subst (λ n. rooted n given root ≡ option_map (Archive root) given) (sym (bytes_same name (codes "archive") h)) refl
+pub archive_rooted : (name : Text) → bytes_eq name (codes "archive") ≡ true → (given : Option (List Pair)) (workers : Option ℕ) (root : Text) → rooted name given workers root ≡ option_map (Archive root) given
+archive_rooted name h given workers root = subst (λ n. rooted n given workers root ≡ option_map (Archive root) given) (sym (bytes_same name (codes "archive") h)) refl
+
+-- ---- `retrieve`
+
+pub retrieve_named : (name : Text) → bytes_eq name (codes "retrieve") ≡ true → is_name (options_of name) (codes "workers") ≡ true
+retrieve_named name h = subst (λ n. is_name (options_of n) (codes "workers") ≡ true) (sym (bytes_same name (codes "retrieve") h)) refl
+
+pub retrieve_rooted : (name : Text) → bytes_eq name (codes "retrieve") ≡ true → (given : Option (List Pair)) (workers : Option ℕ) (root : Text) → rooted name given workers root ≡ option_map (Retrieve root) workers
+retrieve_rooted name h given workers root = subst (λ n. rooted n given workers root ≡ option_map (Retrieve root) workers) (sym (bytes_same name (codes "retrieve") h)) refl
+
+-- ---- `values`
 
 pub values_named : (name : Text) → bytes_eq name (codes "values") ≡ true → is_name (options_of name) (codes "decimals") ≡ true
 values_named name h = subst (λ n. is_name (options_of n) (codes "decimals") ≡ true) (sym (bytes_same name (codes "values") h)) refl

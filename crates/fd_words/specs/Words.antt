@@ -1,5 +1,5 @@
 -- What the words of the command line ask for.
-use Rattle.std.specs.Prelude.{◌≤◌, ◌<◌, IfSome, Bool, false, not, ◌==◌, ◌^◌, nat_lt, length, List, [], ◌∷◌, codes, Option, Some, None, unwrap_or, option_and_then, option_map, is_some, ◌||◌, if◌then◌else◌, Result, Ok, Err}
+use Rattle.std.specs.Prelude.{ℕ, ◌≤◌, ◌<◌, IfSome, Bool, false, not, ◌==◌, ◌^◌, nat_lt, length, List, [], ◌∷◌, codes, Option, Some, None, unwrap_or, option_and_then, option_map, is_some, ◌||◌, if◌then◌else◌, Result, Ok, Err}
 use Rattle.std.specs.Str.{bytes_eq}
 use Rattle.std.specs.Map.{lookup}
 use Rattle.fd_key.specs.Pairs.{Pair, text_of}
@@ -7,7 +7,7 @@ use Rattle.fd_key.specs.Canonical.{pair_of}
 use Rattle.fd_key.specs.Given.{Refusal, given_of}
 use Rattle.fd_words.specs.declared.command.Command.{Command}
 use Rattle.fd_words.specs.declared.command.Command.TheVariants as commands
-use Rattle.fd_words.specs.Numbers.{count_number, decimals_number}
+use Rattle.fd_words.specs.Numbers.{count_number, decimals_number, worker_number}
 use Rattle.fd_words.specs.Reading.{Text, Said}
 use Rattle.fd_words.specs.Saying.{said}
 
@@ -82,6 +82,11 @@ given_read text = if nat_lt (length text) (2 ^ 31) then if_given (given_of text)
 abbrev pub given_in : Option Text → Option (List Pair)
 given_in option = given_read (unwrap_or option [])
 
+-- the number of `--workers`; without the option it is 1
+abbrev pub workers_in : Option Text → Option ℕ
+workers_in None = Some 1
+workers_in (Some text) = worker_number text
+
 -- the commands that list what a store holds
 abbrev pub listing_of : Text → Text → Option Command
 listing_of name root =
@@ -91,11 +96,11 @@ listing_of name root =
     else None
 
 -- The commands that have a root. A command has its line here, and its words their form, once it is written.
-abbrev pub rooted : Text → Option (List Pair) → Text → Option Command
-rooted name given root =
+abbrev pub rooted : Text → Option (List Pair) → Option ℕ → Text → Option Command
+rooted name given workers root =
     if bytes_eq name (codes "create") then Some (commands.Create root)
     else if bytes_eq name (codes "archive") then option_map (commands.Archive root) given
-    else if bytes_eq name (codes "retrieve") then Some (commands.Retrieve root)
+    else if bytes_eq name (codes "retrieve") then option_map (commands.Retrieve root) workers
     else listing_of name root
 
 -- the command of that name, where the words behind it say this
@@ -105,14 +110,14 @@ command_said name s =
     else if bytes_eq name (codes "describe") then describe_of s.alone
     else if bytes_eq name (codes "values") then values_of s.alone (lookup (bytes_eq (codes "decimals")) s.options)
     else if bytes_eq name (codes "generate") then generate_of s.alone
-    else option_and_then (rooted name (given_in (lookup (bytes_eq (codes "with")) s.options))) (root_of s.alone)
+    else option_and_then (rooted name (given_in (lookup (bytes_eq (codes "with")) s.options)) (workers_in (lookup (bytes_eq (codes "workers")) s.options))) (root_of s.alone)
 
 -- The command that the words ask for, or none where they have no form: a command's name, then its options, each at most
 -- once, as `--name value` or `--name=value`, and the words that stand alone, in any order.
 abbrev pub command_of : List Text → Option Command
 command_of words = option_and_then (λ p. command_said p.0 p.1) (said words)
 
--- a command asks for at most 30 decimals, and for 1 to 100,000 messages
+-- a command asks for at most 30 decimals, for 1 to 100,000 messages, and for 1 to 8 workers
 abbrev pub IsWithinLimits : Command → Type 0
 IsWithinLimits (commands.Values decimals) = IfSome decimals (λ d. d ≤ 30)
 IsWithinLimits (commands.Generate count) = (0 < count) × (count ≤ 100000)
@@ -120,7 +125,7 @@ IsWithinLimits (commands.Pick wanted) = Unit {0}
 IsWithinLimits commands.Describe = Unit {0}
 IsWithinLimits (commands.Create root) = Unit {0}
 IsWithinLimits (commands.Archive root given) = Unit {0}
-IsWithinLimits (commands.Retrieve root) = Unit {0}
+IsWithinLimits (commands.Retrieve root workers) = (1 ≤ workers) × (workers ≤ 8)
 IsWithinLimits (commands.List root) = Unit {0}
 IsWithinLimits (commands.Axes root) = Unit {0}
 IsWithinLimits (commands.Stats root) = Unit {0}

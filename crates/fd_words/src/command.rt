@@ -6,10 +6,10 @@ ghost use Rattle.clap.specs.Words.{rows_of, found_of};
 ghost use Rattle.fd_words.specs.Texts.{texts};
 ghost use Rattle.fd_words.specs.Reading.{Said, Tells};
 ghost use Rattle.fd_words.specs.Grammar.{options_of};
-ghost use Rattle.fd_words.specs.declared.command.Command.TheVariants.{Archive};
-ghost use Rattle.fd_words.specs.Words.{command_of, command_said, listing_of, rooted, wanted_pairs, pick_of, describe_of, values_of, is_root, root_of, given_in, given_read, IsWithinLimits, generate_of};
+ghost use Rattle.fd_words.specs.declared.command.Command.TheVariants.{Archive, Retrieve};
+ghost use Rattle.fd_words.specs.Words.{command_of, command_said, listing_of, rooted, wanted_pairs, pick_of, describe_of, values_of, is_root, root_of, given_in, given_read, workers_in, IsWithinLimits, generate_of};
 
-use crate::numbers::{count_number, decimals_number};
+use crate::numbers::{count_number, decimals_number, worker_number};
 use crate::parse::{alone, option_text, parse};
 use crate::root::Root;
 use crate::wanted::Wanted;
@@ -33,8 +33,8 @@ pub enum Command {
     Create(Root),
     /// To store the messages of a stream, with the given pairs in their keys.
     Archive(Root, Given),
-    /// The stored messages of a request.
-    Retrieve(Root),
+    /// The stored messages of a request, which so many workers look for.
+    Retrieve(Root, u32),
     /// A line for each stored key.
     List(Root),
     /// A line for the values of each name.
@@ -107,7 +107,7 @@ fn rooted(
     root: Root,
     own: &ArgMatches<'_>,
 ) -> Result<Option<Command>, NoMemory>
-    ensures command { (s : Said) → Tells (options_of name.now) s (rows_of (found_of own.now)) → IfOk result (λ o. o ≡ rooted name.now (given_in (lookup (bytes_eq (codes "with")) s.options)) root) }
+    ensures command { (s : Said) → Tells (options_of name.now) s (rows_of (found_of own.now)) → IfOk result (λ o. o ≡ rooted name.now (given_in (lookup (bytes_eq (codes "with")) s.options)) (workers_in (lookup (bytes_eq (codes "workers")) s.options)) root) }
     ensures within { IfOk result (λ o. IfSome o IsWithinLimits) }
 {
     if name == "create" {
@@ -117,7 +117,7 @@ fn rooted(
         return archive_command(alloc, root, option_text(own, "with"));
     }
     if name == "retrieve" {
-        return Ok(Some(Command::Retrieve(root)));
+        return Ok(retrieve_command(root, option_text(own, "workers")));
     }
     Ok(listing_of(name, root))
 }
@@ -155,6 +155,20 @@ fn archive_command(
     match given_read(alloc, text)? {
         Some(given) => Ok(Some(Command::Archive(root, given))),
         None => Ok(None),
+    }
+}
+
+/// `retrieve` with the text of its option, if it has one.
+fn retrieve_command(root: Root, workers: Option<&str>) -> Option<Command>
+    ensures command { result ≡ option_map (Retrieve root) (workers_in (option_copied workers.entry)) }
+    ensures within { IfSome result IsWithinLimits }
+{
+    let Some(text) = workers else {
+        return Some(Command::Retrieve(root, 1));
+    };
+    match worker_number(text.as_bytes()) {
+        Some(workers) => Some(Command::Retrieve(root, workers)),
+        None => None,
     }
 }
 

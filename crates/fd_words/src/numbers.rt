@@ -1,6 +1,6 @@
 // Numbers in the words of the command line.
 ghost use Rattle.std.specs.Prelude.{◌≡◌, ◌≤◌, ◌<◌, IfSome};
-ghost use Rattle.fd_words.specs.Numbers.{count_number, number_of, decimals_number};
+ghost use Rattle.fd_words.specs.Numbers.{count_number, number_of, decimals_number, worker_number};
 
 use fd_key::{is_numeral, number_of};
 
@@ -39,6 +39,17 @@ pub(crate) fn count_number(text: &[u8]) -> Option<u32>
 {
     match short_number(text) {
         Some(number @ 1..=100_000) => Some(number as u32),
+        _ => None,
+    }
+}
+
+/// The number of workers that a text writes, which is 1 to 8.
+pub(crate) fn worker_number(text: &[u8]) -> Option<u32>
+    ensures number { result ≡ worker_number text.now }
+    ensures few { IfSome result (λ n. (1 ≤ n) × (n ≤ 8)) }
+{
+    match short_number(text) {
+        Some(number @ 1..=8) => Some(number as u32),
         _ => None,
     }
 }

@@ -1,22 +1,21 @@
 use Rattle.std.proofs.Common.{subst}
 use Rattle.fd_core.specs.Batches.{newest}
 use Rattle.fd_schema.specs.Rules.{file_key}
-use Rattle.fd_schema.specs.Reading.{seen_place}
 use Rattle.fd_retriever.specs.Answers.{IsAnswer}
-use Rattle.fd_retrieve.proofs.AnsweringLemmas.{front_one, untold_one}
+use Rattle.fd_retrieve.proofs.AnsweringLemmas.{found_one, front_one, missed_one, untold_one}
 use Rattle.fd_retrieve.proofs.answering.answer_one.Goals as goal
 
 pub returns-in-Err-clause-halted : goal.returns-in-Err-clause-halted
-returns-in-Err-clause-halted g c = λ key t at told. untold_one _ key _ _ _ _ (subst (λ got. IsAnswer (newest t (file_key (seen_place c.args.place.now))) (g.K.Sink.taken c.args.output.now) (g.K.Sink.taken c.fetch.new.sink) got) c.in-Ok-Miss.field-0-is (c.in-Ok-Miss.ensures.answer t told)) (c.in-Err.ensures.front key at)
+returns-in-Err-clause-halted g c = λ place key t there at told. untold_one _ key _ _ _ _ (subst (λ got. IsAnswer (newest t (file_key place)) (g.K.Sink.taken c.args.output.now) (g.K.Sink.taken c.copy.new.sink) got) c.in-Ok-Miss.field-0-is (c.in-Ok-Miss.ensures.answer place t there told)) (c.in-Err.ensures.front key at)
 
 pub returns-in-Err-Disk-clause-halted : goal.returns-in-Err-Disk-clause-halted
-returns-in-Err-Disk-clause-halted g c = λ key t at told. front_one _ key _ _ _ (c.in-Err-Disk.ensures.err t told)
+returns-in-Err-Disk-clause-halted g c = λ place key t there at told. front_one _ key _ _ _ (c.in-Err-Disk.ensures.err place t there told)
 
 pub returns-in-Err-Write-clause-halted : goal.returns-in-Err-Write-clause-halted
-returns-in-Err-Write-clause-halted g c = λ key t at told. front_one _ key _ _ _ (c.in-Err-Write.ensures.err t told)
+returns-in-Err-Write-clause-halted g c = λ place key t there at told. front_one _ key _ _ _ (c.in-Err-Write.ensures.err place t there told)
 
 pub returns-in-Err-Damaged-clause-halted : goal.returns-in-Err-Damaged-clause-halted
-returns-in-Err-Damaged-clause-halted g c = λ key t at told. front_one _ key _ _ _ (c.in-Err-Damaged.ensures.err t told)
+returns-in-Err-Damaged-clause-halted g c = λ place key t there at told. front_one _ key _ _ _ (c.in-Err-Damaged.ensures.err place t there told)
 
 pub returns-in-Err-NoMemory-clause-halted : goal.returns-in-Err-NoMemory-clause-halted
-returns-in-Err-NoMemory-clause-halted g c = λ key t at told. front_one _ key _ _ _ (c.in-Err-NoMemory.ensures.err t told)
+returns-in-Err-NoMemory-clause-halted g c = λ place key t there at told. front_one _ key _ _ _ (c.in-Err-NoMemory.ensures.err place t there told)

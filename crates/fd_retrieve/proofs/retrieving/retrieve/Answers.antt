@@ -19,7 +19,7 @@ returns-in-Ok-clause-ran g c =
 
 pub returns-in-Err-clause-ran : goal.returns-in-Err-clause-ran
 returns-in-Err-clause-ran g c =
-    stopped c.args.root.now (g.S.Store.has c.args.store.now) (g.S.Store.has c.tell_stop.new.store) (g.S.Store.faults c.args.store.now) (g.S.Store.faults c.tell_stop.new.store)
+    stopped c.args.root.now c.args.workers (g.S.Store.has c.args.store.now) (g.S.Store.has c.tell_stop.new.store) (g.S.Store.faults c.args.store.now) (g.S.Store.faults c.tell_stop.new.store)
     (object (g.I.Source.left c.args.input.now) (g.I.Source.left c.prepared.new.input) (g.I.Source.faults c.args.input.now) (g.I.Source.faults c.prepared.new.input)) (g.K.Sink.taken c.args.output.now) (g.K.Sink.faults c.args.output.now)
     (object (g.E.Sink.taken c.args.report.now) (g.E.Sink.taken c.tell_stop.new.report) (g.E.Sink.faults c.args.report.now) (g.E.Sink.faults c.tell_stop.new.report)) c.tell_stop.result
     (subst (λ o. WhereTold (g.S.Store.has c.args.store.now) o Stays) (sym c.tell_stop.ensures.has) c.in-Err.ensures.stays) c.in-Err.stop c.tell_stop.ensures.told c.in-Err.ensures.says c.in-Err.ensures.input

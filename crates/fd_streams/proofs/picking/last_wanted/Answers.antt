@@ -30,8 +30,8 @@ returns-in-Ok-finish-clause-to_end g c =
 pub returns-in-Err-finish-clause-answer : goal.returns-in-Err-finish-clause-answer
 returns-in-Err-finish-clause-answer g c =
     let i = c.loop.invariant in
-    let cut = c.in-Err-finish in
-    found_cut (g.I.Source.left c.args.input.now) (g.I.Source.left c.loop.input) c.args.wanted.now c.loop.splitter c.loop.last cut.field-0 i.searched (omega (arith, i.fed, i.limit)) (c.in-Ok.ensures.end c.if-n-eq0.true) cut.ensures
+    let ended = c.in-Err-finish in
+    found_cut (g.I.Source.left c.args.input.now) (g.I.Source.left c.loop.input) c.args.wanted.now c.loop.splitter c.loop.last ended.cut i.searched (omega (arith, i.fed, i.limit)) (c.in-Ok.ensures.end c.if-n-eq0.true) ended.ensures
 
 pub returns-then-total-eq-INPUT_LIMIT-clause-answer : goal.returns-then-total-eq-INPUT_LIMIT-clause-answer
 returns-then-total-eq-INPUT_LIMIT-clause-answer g c =

@@ -1,0 +1,84 @@
+-- Where the newest bytes of a request's keys stand, among the datasets that are open.
+use Rattle.std.specs.Prelude.{◌≡◌, ◌<◌, ◌≤◌, ℕ, List, length, Option, Some, None, false, IfSome, slice_get, slice_index_or, option_map}
+use Rattle.fd_core.specs.declared.batch.Pair.{Pair}
+use Rattle.fd_core.specs.Batches.{newest}
+use Rattle.fd_schema.specs.declared.place.Place.{Place}
+use Rattle.fd_schema.specs.Rules.{Texts, file_key}
+use Rattle.fd_schema.specs.Reading.{seen_place}
+use Rattle.fd_finding.specs.declared.spot.Spot.{Spot}
+use Rattle.fd_finding.specs.Spots.{IsNewestAt, IsWithin}
+use Rattle.fd_outcome.specs.Asking.{is_among}
+use Rattle.fd_retrieve.specs.declared.locating.Located.{Located}
+use Rattle.fd_retrieve.specs.declared.locating.Lost.{Lost}
+use Rattle.fd_retrieve.specs.declared.locating.Lost.TheVariants as losses
+use Rattle.fd_retrieve.specs.Open.{IsFirstNamed, Open, names_of, table_in}
+
+-- The bytes stand within a segment of one of the datasets.
+pub record IsIn (os : List Open) (l : Located) : Type 0 where
+  pub dataset : Open
+  pub at : slice_get os l.number ≡ Some dataset
+  pub within : IsWithin dataset.shown l.spot
+
+-- These are the newest bytes of the place's key in its dataset.
+pub record IsThere (os : List Open) (place : Texts) (l : Located) : Type 0 where
+  pub dataset : Open
+  pub at : slice_get os l.number ≡ Some dataset
+  pub newest_at : (t : List (List Pair)) → table_in os place.dataset ≡ Some t → IsNewestAt dataset.shown t (file_key place) l.spot
+
+-- The same, or the place's dataset doesn't have the key.
+abbrev pub IsLocated : List Open → Texts → Option Located → Type 0
+IsLocated os place None = (t : List (List Pair)) → table_in os place.dataset ≡ Some t → newest t (file_key place) ≡ None
+IsLocated os place (Some l) = IsThere os place l
+
+-- the same of each place
+pub record AreLocated (os : List Open) (places : List Place) (located : List (Option Located)) : Type 0 where
+  pub long : length located ≡ length places
+  pub each : (k : ℕ) (p : Place) (d : Option Located) → k < length places → IsLocated os (seen_place (slice_index_or places k p)) (slice_index_or located k d)
+  pub within : (k : ℕ) (d : Option Located) → k < length places → IfSome (slice_index_or located k d) (IsIn os)
+
+-- ---- on the way there
+
+-- the first of the datasets with this text has this number, or none has the text
+abbrev pub IsNumberOf : List Open → List ℕ → Option ℕ → Type 0
+IsNumberOf os name None = is_among (names_of os) name ≡ false
+IsNumberOf os name (Some n) = IsFirstNamed os name n
+
+-- the same of the text of each place's dataset
+pub record AreNumbersOf (os : List Open) (places : List Place) (numbers : List (Option ℕ)) : Type 0 where
+  pub long : length numbers ≡ length places
+  pub each : (k : ℕ) (p : Place) (d : Option ℕ) → k < length places → IsNumberOf os (seen_place (slice_index_or places k p)).dataset (slice_index_or numbers k d)
+
+-- Each of the first places, so many, whose dataset has the number stands in the group, where the list of positions says.
+pub record IsGroup (number : ℕ) (places : List Place) (numbers : List (Option ℕ)) (count : ℕ) (group : List Place) (positions : List ℕ) : Type 0 where
+  pub long : length positions ≡ count
+  pub within : (k : ℕ) (d : Option ℕ) → k < count → slice_index_or numbers k d ≡ Some number → slice_index_or positions k 0 < length group
+  pub each : (k : ℕ) (p : Place) (d : Option ℕ) → k < count → slice_index_or numbers k d ≡ Some number
+      → (q : Place) × (slice_get group (slice_index_or positions k 0) ≡ Some q) × (seen_place q ≡ seen_place (slice_index_or places k p))
+
+abbrev pub located_in : ℕ → Option Spot → Option Located
+located_in number spot = option_map (λ s. record { number = number; spot = s }) spot
+
+-- Each of the first keys, so many, whose dataset has the number is where it was found, and the others are where they were.
+pub record IsFilled (number : ℕ) (numbers : List (Option ℕ)) (positions : List ℕ) (found : List (Option Spot)) (count : ℕ) (before after : List (Option Located)) : Type 0 where
+  pub long : length after ≡ length before
+  pub own : (k : ℕ) (d : Option ℕ) (e : Option Located) → k < count → slice_index_or numbers k d ≡ Some number
+      → (s : Option Spot) × (slice_get found (slice_index_or positions k 0) ≡ Some s) × (slice_index_or after k e ≡ located_in number s)
+  pub others : (k : ℕ) (d : Option ℕ) (e : Option Located) → k < length before → (slice_index_or numbers k d ≡ Some number → ⊥) → slice_index_or after k e ≡ slice_index_or before k e
+  pub later : (k : ℕ) (e : Option Located) → count ≤ k → k < length before → slice_index_or after k e ≡ slice_index_or before k e
+
+-- what is known of a key once the first datasets, so many, were searched
+abbrev pub IsLocatedBy : List Open → ℕ → Texts → Option ℕ → Option Located → Type 0
+IsLocatedBy os count place None l = l ≡ None
+IsLocatedBy os count place (Some n) l = (n < count → IsLocated os place l × IfSome l (IsIn os)) × (count ≤ n → l ≡ None)
+
+pub record AreLocatedBy (os : List Open) (places : List Place) (numbers : List (Option ℕ)) (count : ℕ) (located : List (Option Located)) : Type 0 where
+  pub long : length located ≡ length places
+  pub each : (k : ℕ) (p : Place) (d : Option ℕ) (e : Option Located) → k < length places
+      → IsLocatedBy os count (seen_place (slice_index_or places k p)) (slice_index_or numbers k d) (slice_index_or located k e)
+
+module _ {F : Type 0} where
+  -- what holds of the number of the dataset that is damaged
+  abbrev pub OnLost : Lost F → (ℕ → Type 0) → Type 0
+  OnLost (losses.Disk f) P = Unit {0}
+  OnLost (losses.Damaged n) P = P n
+  OnLost losses.NoMemory P = Unit {0}
