@@ -1,0 +1,13 @@
+pub mod Dealing
+pub mod Merging
+pub mod Gathering
+pub mod Filled
+pub mod Storing
+pub mod Tables
+pub mod Lanes
+pub mod Weighing
+pub mod Sharing
+pub mod Rounds
+pub mod Shares
+pub mod Stored
+pub mod Listing

@@ -1,0 +1,130 @@
+-- A worker's share of a round, up to one of its messages.
+use Rattle.std.proofs.Common.{◌≡◌, ◌==◌, ◌&&◌, ◌<◌, ◌≤◌, ◌+◌, ◌^◌, ℕ, zero, suc, Bool, true, false, if◌then◌else◌, List, [], ◌∷◌, ◌++◌, take, drop, length, get_or, slice_get, slice_set, Option, Some, None, Result, Ok, Err, refl, sym, ap, ap₂, subst, ◌∙◌, arith, append_assoc, append-nil}
+use Rattle.fd_disk.specs.declared.folders.FileName.{FileName}
+use Rattle.fd_core.specs.declared.batch.Pair.{Pair}
+use Rattle.fd_core.specs.Batches.{total}
+use Rattle.fd_turn.specs.declared.board.Pass.{Pass}
+use Rattle.fd_turn.specs.Passes.{BoardId, IsSame, view}
+use Rattle.fd_archiver.specs.declared.fault.FlushFault.{FlushFault}
+use Rattle.fd_archiver.specs.declared.fault.FlushFault.TheVariants as flushes
+use Rattle.fd_archiver.specs.Writing.{Writing}
+use Rattle.fd_bulk.specs.declared.round.Desk.{Desk}
+use Rattle.fd_bulk.specs.declared.round.Parcel.{Parcel}
+use Rattle.fd_bulk.specs.Working.{Filling, Refused, Stage, Stored, Works}
+use Rattle.fd_bulk.specs.Sharing.{AllFit, AllWork, IsFit, IsFullAt, SameMet, StoredAt, pair_of, share}
+use Rattle.fd_bulk.proofs.Dealing.{equal_is, equal_not, equal_to}
+use Rattle.fd_bulk.proofs.Rounds.{share_both}
+use Rattle.fd_bulk.proofs.Sharing.{refused_stops, stopped_in, stored_at, work_at, work_same}
+use Rattle.fd_bulk.proofs.Storing.{total_both}
+
+split_here : {X : Type 0} (xs : List X) (i : ℕ) (x : X) → i < length xs → x ≡ get_or xs i x → xs ≡ take i xs ++ (x ∷ drop (suc i) xs)
+split_here [] i x lt is = absurd (omega arith)
+split_here (y ∷ xs) zero x lt is = ap (λ z. z ∷ xs) (sym is)
+split_here (y ∷ xs) (suc i) x lt is = ap (λ zs. y ∷ zs) (split_here xs i x (omega arith) is)
+
+take_more : {X : Type 0} (xs : List X) (i : ℕ) (x : X) → i < length xs → x ≡ get_or xs i x → take (suc i) xs ≡ take i xs ++ x ∷ []
+take_more [] i x lt is = absurd (omega arith)
+take_more (y ∷ xs) zero x lt is = ap (λ z. z ∷ []) (sym is)
+take_more (y ∷ xs) (suc i) x lt is = ap (λ zs. y ∷ zs) (take_more xs i x (omega arith) is)
+
+pub take_all : {X : Type 0} (xs : List X) (i : ℕ) → length xs ≤ i → take i xs ≡ xs
+take_all [] zero le = refl
+take_all [] (suc i) le = refl
+take_all (x ∷ xs) zero le = absurd (omega arith)
+take_all (x ∷ xs) (suc i) le = ap (λ zs. x ∷ zs) (take_all xs i (omega arith))
+
+pub get_there : {X : Type 0} (xs : List X) (i : ℕ) (x : X) → i < length xs → x ≡ get_or xs i x → slice_get xs i ≡ Some x
+get_there [] i x lt is = absurd (omega arith)
+get_there (y ∷ xs) zero x lt is = ap Some (sym is)
+get_there (y ∷ xs) (suc i) x lt is = get_there xs i x (omega arith) is
+
+-- one message more
+pub share_more : (w n : ℕ) (ps : List Parcel) (i : ℕ) (p : Parcel) → i < length ps → p ≡ get_or ps i p → share w n (take (i + 1) ps) ≡ share w n (take i ps) ++ share w n (p ∷ [])
+share_more w n ps i p lt is =
+    let up : i + 1 ≡ suc i = omega arith in
+    ap (λ (k : ℕ). share w n (take k ps)) up ∙ ap (share w n) (take_more ps i p lt is) ∙ share_both w n (take i ps) (p ∷ [])
+
+-- a message of another worker is none
+pub share_other : (w n : ℕ) (p : Parcel) → (p.worker ≡ w → ⊥) → share w n (p ∷ []) ≡ []
+share_other w n p other = ap (λ (a : Bool). if a && (p.dataset == n) then pair_of p ∷ [] else []) (equal_not p.worker w other)
+
+share_first : (w : ℕ) (p : Parcel) (rest : List Parcel) → p.worker ≡ w → share w p.dataset (p ∷ rest) ≡ pair_of p ∷ share w p.dataset rest
+share_first w p rest is = ap₂ (λ (a b : Bool). if a && b then pair_of p ∷ share w p.dataset rest else share w p.dataset rest) (equal_to p.worker w is) (equal_to p.dataset p.dataset refl)
+
+-- there is room in number for the message
+pub share_room : (w : ℕ) (ps : List Parcel) (i : ℕ) (p : Parcel) (before : List Pair) → i < length ps → p ≡ get_or ps i p → p.worker ≡ w → total (before ++ share w p.dataset ps) < 2 ^ 63 → total (before ++ share w p.dataset (take i ps)) + length p.bytes < 2 ^ 63
+share_room w ps i p before lt is mine sum =
+    let whole : share w p.dataset ps ≡ share w p.dataset (take i ps) ++ (pair_of p ∷ share w p.dataset (drop (suc i) ps)) =
+    ap (share w p.dataset) (split_here ps i p lt is) ∙ share_both w p.dataset (take i ps) (p ∷ drop (suc i) ps) ∙ ap (λ (xs : List Pair). share w p.dataset (take i ps) ++ xs) (share_first w p (drop (suc i) ps) mine) in
+    let a = total_both before (share w p.dataset ps) in
+    let b = ap total whole ∙ total_both (share w p.dataset (take i ps)) (pair_of p ∷ share w p.dataset (drop (suc i) ps)) in
+    let c = total_both before (share w p.dataset (take i ps)) in
+    omega (arith, a, b, c, sum)
+
+pub fit_at : (names : List (List ℕ)) (ps : List Parcel) (i : ℕ) (p : Parcel) → AllFit names ps → i < length ps → p ≡ get_or ps i p → IsFit names p
+fit_at names [] i p all lt is = absurd (omega arith)
+fit_at names (q ∷ ps) zero p all lt is = subst (IsFit names) (sym is) all.0
+fit_at names (q ∷ ps) (suc i) p all lt is = fit_at names ps i p all.1 (omega arith) is
+
+module _ {H X Y : Type 0} where
+  pub same_met : (ds : List (Option (Desk (Writing H) (Pass X Y)))) → SameMet ds ds
+  same_met ds = λ n d at. (d, at, refl)
+
+  pub met_on : (ds es fs : List (Option (Desk (Writing H) (Pass X Y)))) → SameMet ds es → SameMet es fs → SameMet ds fs
+  met_on ds es fs a b = λ n d at. let p = a n d at in let q = b n p.0 p.1 in (q.0, q.1, q.2 ∙ p.2)
+
+  -- the same pairs, told otherwise
+  pub work_told : (kept : H → Option (FileName → Option (List ℕ))) (s : ℕ → Stage) (p q : ℕ → List Pair) (bs : List BoardId) (ms : List (List ℕ)) (ds : List (Option (Desk (Writing H) (Pass X Y)))) → ((n : ℕ) → q n ≡ p n) → AllWork kept s p 0 bs ms ds → AllWork kept s q 0 bs ms ds
+  work_told kept s p q bs ms ds same all = work_same kept s s p q 0 bs ms ds (λ n le. (refl, same n)) all
+
+pub at_place : {X : Type 0} (xs : List X) (n : ℕ) (x : X) → slice_get xs n ≡ Some x → (d : X) → get_or xs n d ≡ x
+at_place [] n x at d = absurd (cc at)
+at_place (y ∷ xs) zero x at d = cc at
+at_place (y ∷ xs) (suc n) x at d = at_place xs n x at d
+
+pub inside : {X : Type 0} (xs : List X) (n : ℕ) (x : X) → slice_get xs n ≡ Some x → n < length xs
+inside [] n x at = absurd (cc at)
+inside (y ∷ xs) zero x at = omega arith
+inside (y ∷ xs) (suc n) x at = let lt = inside xs n x at in omega arith
+
+pub set_same : {X : Type 0} (xs : List X) (n : ℕ) (x : X) → slice_get xs n ≡ Some x → slice_set xs n x ≡ xs
+set_same [] n x at = absurd (cc at)
+set_same (y ∷ xs) zero x at = let same : y ≡ x = cc at in ap (λ z. z ∷ xs) (sym same)
+set_same (y ∷ xs) (suc n) x at = ap (λ ys. y ∷ ys) (set_same xs n x at)
+
+pub get_set : {X : Type 0} (xs : List X) (n : ℕ) (x y : X) → slice_get xs n ≡ Some x → slice_get (slice_set xs n y) n ≡ Some y
+get_set [] n x y at = absurd (cc at)
+get_set (z ∷ xs) zero x y at = refl
+get_set (z ∷ xs) (suc n) x y at = get_set xs n x y at
+
+module _ {H X Y : Type 0} where
+  -- the worker has another desk at one place, with the same archiver's number
+  pub met_set : (ds : List (Option (Desk (Writing H) (Pass X Y)))) (n : ℕ) (d e : Desk (Writing H) (Pass X Y)) → slice_get ds n ≡ Some (Some d) → e.archiver.writer ≡ d.archiver.writer → SameMet ds (slice_set ds n (Some e))
+  met_set [] n d e at same = absurd (cc at)
+  met_set (x ∷ ds) zero d e at same = λ m b there. here m b there
+    where
+      here : (m : ℕ) (b : Desk (Writing H) (Pass X Y)) → slice_get (x ∷ ds) m ≡ Some (Some b) → (f : Desk (Writing H) (Pass X Y)) × (slice_get (Some e ∷ ds) m ≡ Some (Some f)) × (f.archiver.writer ≡ b.archiver.writer)
+      here zero b there = let one : d ≡ b = cc (at, there) in (e, refl, same ∙ ap (λ (k : Desk (Writing H) (Pass X Y)). k.archiver.writer) one)
+      here (suc m) b there = (b, there, refl)
+  met_set (x ∷ ds) (suc n) d e at same = λ m b there. past (met_set ds n d e at same) m b there
+    where
+      past : SameMet ds (slice_set ds n (Some e)) → (m : ℕ) (b : Desk (Writing H) (Pass X Y)) → slice_get (x ∷ ds) m ≡ Some (Some b) → (f : Desk (Writing H) (Pass X Y)) × (slice_get (x ∷ slice_set ds n (Some e)) m ≡ Some (Some f)) × (f.archiver.writer ≡ b.archiver.writer)
+      past rest zero b there = (b, there, refl)
+      past rest (suc m) b there = rest m b there
+
+  module _ (kept : H → Option (FileName → Option (List ℕ))) (boards : List BoardId) where
+    pub full_at : {F : Type 0} (fault : FlushFault F) (ps : List Pair) (n : ℕ) (ds : List (Option (Desk (Writing H) (Pass X Y)))) (e : Desk (Writing H) (Pass X Y)) → slice_get ds n ≡ Some (Some e) → Refused kept fault ps e.archiver (view e.pass) → IsFullAt fault n ds
+    full_at (flushes.Disk f) ps n ds e at r = tt
+    full_at (flushes.TableFull count) ps n ds e at r = (r.1, (e, at, r.2))
+    full_at flushes.NoMemory ps n ds e at r = tt
+
+    -- what a worker has once it stored a message, or didn't
+    pub stored_or : {F : Type 0} (r : Result (Unit {0}) (FlushFault F)) (p : Parcel) (names : List (List ℕ)) (pairs : ℕ → List Pair) (ds : List (Option (Desk (Writing H) (Pass X Y)))) (d e : Desk (Writing H) (Pass X Y)) → AllWork kept (λ n. Filling) pairs 0 boards names ds → slice_get ds p.dataset ≡ Some (Some d)
+        → IsSame d.pass e.pass → e.archiver.dataset ≡ d.archiver.dataset → ((ps : List Pair) → Works kept Filling ps d.archiver (view d.pass) → Stored kept r ps (pair_of p) e.archiver (view e.pass))
+        → StoredAt kept boards r p names pairs (slice_set ds p.dataset (Some e))
+    stored_or (Ok done) p names pairs ds d e all at same dataset goes = stored_at kept boards p names pairs ds d e all at same dataset goes
+    stored_or (Err fault) p names pairs ds d e all at same dataset goes =
+        let w = work_at kept (λ n. Filling) pairs 0 p.dataset p.dataset boards names ds d (omega arith) all at in (
+          stopped_in kept boards p names pairs ds d e all at same dataset (λ ps works. refused_stops kept fault ps e.archiver (view e.pass) (goes ps works)),
+          full_at fault (pairs p.dataset) p.dataset (slice_set ds p.dataset (Some e)) e (get_set ds p.dataset (Some d) (Some e) at) (goes (pairs p.dataset) w.works.works),
+        )

@@ -1,0 +1,9 @@
+use Rattle.std.proofs.Common.{◌≡◌, ◌<◌, ◌+◌, ◌%◌, drop}
+use Rattle.std.specs.Prelude.{sum}
+use Rattle.fd_bulk.proofs.dealt.weighed.Given as goal
+
+abbrev pub invariant-loop-octet : goal.invariant-loop-octet
+invariant-loop-octet l = record {
+  below : l.weight < l.workers;
+  weighs : (l.weight + sum (drop l.octet-index l.text)) % l.workers ≡ (l.before + sum l.text) % l.workers;
+}

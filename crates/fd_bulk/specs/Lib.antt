@@ -1,0 +1,9 @@
+pub mod Dealing
+pub mod Dealt
+pub mod Merging
+pub mod Gathering
+pub mod Adding
+pub mod Opening
+pub mod Working
+pub mod Tables
+pub mod Sharing

@@ -1,0 +1,33 @@
+//! To which worker a message is dealt.
+ghost use Rattle.std.specs.Prelude.{◌≡◌, ◌≤◌, ◌<◌, ◌+◌, ◌%◌, List, ℕ, length, sum};
+ghost use Rattle.fd_schema.specs.Rules.{file_key};
+ghost use Rattle.fd_schema.specs.Reading.{seen_place};
+ghost use Rattle.fd_bulk.specs.Dealt.{dealt};
+
+use fd_schema::Place;
+
+// The sum of the octets behind another number, by the number of workers.
+fn weighed(workers: u32, before: u32, text: &[u8]) -> u32
+    requires workers { (0 < workers) × (workers ≤ 8) }
+    requires before { before < workers }
+    ensures below { result < workers }
+    ensures weight { result ≡ (before + sum text.now) % workers }
+{
+    let mut weight = before;
+    for octet in text {
+        weight = (weight + u32::from(*octet)) % workers;
+    }
+    weight
+}
+
+/// The worker, from 0, of a message with this place.
+pub(crate) fn dealt(workers: u32, place: &Place) -> u32
+    requires workers { (0 < workers) × (workers ≤ 8) }
+    ensures below { result < workers }
+    ensures worker { result ≡ dealt workers (seen_place place.now).dataset (file_key (seen_place place.now)) }
+{
+    let dataset = weighed(workers, 0, place.dataset.as_bytes());
+    let index = weighed(workers, dataset, place.index.as_bytes());
+    let line = weighed(workers, index, b"|");
+    weighed(workers, line, place.datum.as_bytes())
+}

@@ -1,0 +1,12 @@
+//! Archiving in parallel: the messages of a stream are dealt to workers, each of which fills and lists batches of its own in
+//! every dataset that it meets, and the datasets come to hold what one batch of all their messages would make of them.
+#![tactic(auto)]
+
+mod dealt;
+mod laws;
+mod opener;
+mod round;
+mod working;
+
+pub use laws::{every_dealing, every_table, few_batches};
+pub use opener::Opener;

@@ -1,0 +1,207 @@
+//! A round: each worker stores its share of some messages.
+ghost use Rattle.std.specs.Prelude.{◌≡◌, ◌<◌, ◌≤◌, ℕ, List, All, length, slice_index_or};
+ghost use Rattle.fd_core.specs.declared.batch.Pair.{Pair};
+ghost use Rattle.fd_bulk.specs.Sharing.{AllWork, CanListAll, CanListAt, CanShare, CanStore, Listed, ListedAt, SameMet, Shared, StoredAt};
+ghost use Rattle.fd_bulk.specs.Working.{Filling, Stage};
+
+use crate::working::{list, store};
+use fd_archiver::{Archiver, FlushFault};
+use fd_bytes::Bytes;
+use fd_dataset::{Dataset, DatasetPass};
+use fd_disk::{Disk, Sealed, Shelf};
+use fd_io::Gate;
+use fd_schema::Place;
+use std::alloc::Global;
+use std::sync::Wait;
+use std::thread;
+use std::thread::Threads;
+
+/// A message that waits to be stored, with its worker, from 0, and the number of its dataset.
+#[derive(Drop)]
+pub(crate) struct Parcel {
+    pub(crate) worker: u32,
+    pub(crate) dataset: u32,
+    pub(crate) place: Place,
+    pub(crate) bytes: Bytes,
+}
+
+/// A worker's archiver and pass in a dataset.
+#[derive(Drop)]
+pub(crate) struct Desk<A, P> {
+    pub(crate) archiver: A,
+    pub(crate) pass: P,
+}
+
+/// Why a worker stores nothing more, and at which message of its round, from 0.
+#[derive(Drop)]
+pub(crate) struct Halt<E> {
+    pub(crate) at: usize,
+    pub(crate) fault: E,
+}
+
+/// What a worker owns: its archiver and pass in each dataset that it has met, by the datasets' numbers.
+#[derive(Drop)]
+pub(crate) struct Job<A, P, E> {
+    pub(crate) desks: Vec<Option<Desk<A, P>>>,
+    pub(crate) halt: Option<Halt<E>>,
+}
+
+/// The job of a worker.
+pub(crate) type WorkerJob<F, T, H> = Job<
+    Archiver<F, H>,
+    DatasetPass<F, T, <H as Shelf<F>>::Sealed>,
+    FlushFault<F>,
+>;
+
+// Stores a message of this worker.
+fn store_parcel<F: Send + Drop, T: Disk<F>, H: Shelf<F>, R: Wait>(
+    rt: &R,
+    alloc: Global,
+    datasets: &[Dataset<F, T, H::Sealed>],
+    parcel: &Parcel,
+    job: &mut WorkerJob<F, T, H>,
+) -> Result<(), FlushFault<F>>
+where
+    requires can { CanStore H.kept datasets.now parcel.now job.old.desks.items }
+    ensures halt { job.new.halt ≡ job.old.halt }
+    ensures met { SameMet job.old.desks.items job.new.desks.items }
+    ensures stores { (names : List (List ℕ)) (pairs : ℕ → List Pair) → AllWork H.kept (λ n. Filling) pairs 0 datasets.now names job.old.desks.items → StoredAt H.kept datasets.now result parcel.now names pairs job.new.desks.items }
+{
+    let n = parcel.dataset as usize;
+    let Some(desk) = &mut job.desks[n] else {
+        unreachable!()
+    };
+    store(
+        rt,
+        alloc,
+        &datasets[n],
+        &parcel.place,
+        parcel.bytes.as_slice(),
+        &mut desk.archiver,
+        &mut desk.pass,
+    )
+}
+
+// The share of a worker, from 0. It stops at the first message that it can't store.
+fn run_share<F: Send + Drop, T: Disk<F>, H: Shelf<F>, G: Gate, R: Wait>(
+    rt: &R,
+    alloc: Global,
+    gate: &G,
+    round: u32,
+    datasets: &[Dataset<F, T, H::Sealed>],
+    parcels: &[Parcel],
+    worker: usize,
+    job: &mut WorkerJob<F, T, H>,
+)
+where
+    requires worker { worker < 8 }
+    requires can { CanShare H.kept datasets.now worker parcels.now job.old }
+    ensures shared { Shared H.kept datasets.now worker parcels.now job.old job.new }
+{
+    gate.pass(rt, worker as u32 + 1, round);
+    for at in 0..parcels.len() {
+        let parcel = &parcels[at];
+        if parcel.worker as usize == worker {
+            match store_parcel(rt, alloc, datasets, parcel, job) {
+                Ok(()) => {}
+                Err(fault) => {
+                    job.halt = Some(Halt { at, fault });
+                    return;
+                }
+            }
+        }
+    }
+}
+
+/// Each worker's share, in a thread of its own.
+pub(crate) fn run_round<F: Send + Drop, T: Disk<F>, H: Shelf<F>, G: Gate, R: Threads + Wait + Sync>(
+    rt: &R,
+    alloc: Global,
+    gate: &G,
+    round: u32,
+    datasets: &[Dataset<F, T, H::Sealed>],
+    parcels: &[Parcel],
+    jobs: &mut [WorkerJob<F, T, H>],
+)
+where
+    requires few { length jobs.old ≤ 8 }
+    requires can { (i : ℕ) (e : _) → i < length jobs.old → CanShare H.kept datasets.now i parcels.now (slice_index_or jobs.old i e) }
+    ensures long { length jobs.new ≡ length jobs.old }
+    ensures shared { (i : ℕ) (e : _) → i < length jobs.old → Shared H.kept datasets.now i parcels.now (slice_index_or jobs.old i e) (slice_index_or jobs.new i e) }
+{
+    thread::for_each_mut(
+        rt,
+        jobs,
+        8,
+        &|i: usize, job: &mut WorkerJob<F, T, H>|
+            requires { (i < 8) × CanShare H.kept datasets.now i parcels.now job.old }
+            ensures { Shared H.kept datasets.entry.now i parcels.entry.now job.old job.new }
+        { run_share(rt, alloc, gate, round, datasets, parcels, i, job) },
+    );
+}
+
+// Lists what a worker has pending in the dataset with this number, if it has met that.
+fn list_desk<F: Send + Drop, T: Disk<F>, H: Shelf<F>, R: Wait>(
+    rt: &R,
+    alloc: Global,
+    datasets: &[Dataset<F, T, H::Sealed>],
+    n: usize,
+    job: &mut WorkerJob<F, T, H>,
+) -> Result<(), FlushFault<F>>
+where
+    requires can { CanListAt H.kept datasets.now n job.old.desks.items }
+    ensures halt { job.new.halt ≡ job.old.halt }
+    ensures met { SameMet job.old.desks.items job.new.desks.items }
+    ensures long { length job.new.desks.items ≡ length job.old.desks.items }
+    ensures lists { (names : List (List ℕ)) (stages : ℕ → Stage) (pairs : ℕ → List Pair) → AllWork H.kept stages pairs 0 datasets.now names job.old.desks.items → stages n ≡ Filling → ListedAt H.kept datasets.now result n names stages pairs job.new.desks.items }
+{
+    match &mut job.desks[n] {
+        None => Ok(()),
+        Some(desk) => list(rt, alloc, &datasets[n], &mut desk.archiver, &mut desk.pass),
+    }
+}
+
+// Lists what a worker has pending, dataset by dataset.
+fn list_share<F: Send + Drop, T: Disk<F>, H: Shelf<F>, R: Wait>(
+    rt: &R,
+    alloc: Global,
+    datasets: &[Dataset<F, T, H::Sealed>],
+    job: &mut WorkerJob<F, T, H>,
+)
+where
+    requires can { CanListAll H.kept datasets.now job.old }
+    ensures listed { Listed H.kept datasets.now job.old job.new }
+{
+    for n in 0..job.desks.len() {
+        match list_desk(rt, alloc, datasets, n, job) {
+            Ok(()) => {}
+            Err(fault) => {
+                job.halt = Some(Halt { at: n, fault });
+                return;
+            }
+        }
+    }
+}
+
+/// Lists what each worker has pending, each in a thread of its own.
+pub(crate) fn list_round<F: Send + Drop, T: Disk<F>, H: Shelf<F>, R: Threads + Wait + Sync>(
+    rt: &R,
+    alloc: Global,
+    datasets: &[Dataset<F, T, H::Sealed>],
+    jobs: &mut [WorkerJob<F, T, H>],
+)
+where
+    requires can { All (CanListAll H.kept datasets.now) jobs.old }
+    ensures long { length jobs.new ≡ length jobs.old }
+    ensures listed { (i : ℕ) (e : _) → i < length jobs.old → Listed H.kept datasets.now (slice_index_or jobs.old i e) (slice_index_or jobs.new i e) }
+{
+    thread::for_each_mut(
+        rt,
+        jobs,
+        8,
+        &|_i: usize, job: &mut WorkerJob<F, T, H>|
+            requires { CanListAll H.kept datasets.now job.old }
+            ensures { Listed H.kept datasets.entry.now job.old job.new }
+        { list_share(rt, alloc, datasets, job) },
+    );
+}
