@@ -2,4 +2,8 @@
 #![tactic(auto)]
 
 #[cfg(test)]
+mod finding;
+#[cfg(test)]
+mod reopened;
+#[cfg(test)]
 mod retriever;

@@ -26,18 +26,18 @@ use std::test::Fail;
 const SIZE: usize = 183;
 
 /// A message that is put: the datum text of its key, and the byte that it consists of.
-type Message = (&'static str, u8);
+pub(crate) type Message = (&'static str, u8);
 
 /// Two messages, in a batch each where they are apart.
 #[derive(Clone, Copy)]
-struct Two {
-    first: Message,
-    second: Message,
-    apart: bool,
+pub(crate) struct Two {
+    pub(crate) first: Message,
+    pub(crate) second: Message,
+    pub(crate) apart: bool,
 }
 
 /// The place of a key of the dataset `a=1` with this datum text.
-fn place(alloc: Global, datum: &str) -> Result<Place, Fail>
+pub(crate) fn place(alloc: Global, datum: &str) -> Result<Place, Fail>
     requires { length datum.now ≤ 8 }
     ensures dataset { IfOk result (λ p. (seen_place p).dataset ≡ codes "a=1") }
     ensures key { IfOk result (λ p. length (file_key (seen_place p)) ≤ 256) }
@@ -51,7 +51,7 @@ fn place(alloc: Global, datum: &str) -> Result<Place, Fail>
 }
 
 /// The table and a shelf of a folder in memory, which has none.
-fn parts(alloc: Global, folder: &mut MemFolder) -> Result<(MemDisk, MemShelf), Fail>
+pub(crate) fn parts(alloc: Global, folder: &mut MemFolder) -> Result<(MemDisk, MemShelf), Fail>
     requires back { ⟦<MemFolder as Folder<MemFault>>⟧.table_out folder.old ≡ false }
     requires name { ⟦<MemFolder as Folder<MemFault>>⟧.name folder.old ≡ codes "a=1" }
     requires none { ⟦<MemFolder as Folder<MemFault>>⟧.last_writer folder.old ≡ 0 }
@@ -76,10 +76,10 @@ fn parts(alloc: Global, folder: &mut MemFolder) -> Result<(MemDisk, MemShelf), F
     }
 }
 
-type Opened<F, T, Z> = (Dataset<F, T, Z>, DatasetPass<F, T, Z>);
+pub(crate) type Opened<F, T, Z> = (Dataset<F, T, Z>, DatasetPass<F, T, Z>);
 
 /// The dataset over a table without entries.
-fn opened<F: Send + Drop, T: Disk<F>, Z: Sealed<F>>(
+pub(crate) fn opened<F: Send + Drop, T: Disk<F>, Z: Sealed<F>>(
     alloc: Global,
     table: T,
 ) -> Result<Opened<F, T, Z>, Fail>
@@ -177,7 +177,7 @@ struct Seen {
 }
 
 /// Puts a message and another in one batch, or in a batch each, and tells whether the last flush was refused.
-fn write<F: Send + Drop, T: Disk<F>, H: Shelf<F>, R: Wait>(
+pub(crate) fn write<F: Send + Drop, T: Disk<F>, H: Shelf<F>, R: Wait>(
     rt: &R,
     alloc: Global,
     archiver: &mut Archiver<F, H>,
