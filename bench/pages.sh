@@ -116,7 +116,7 @@ fn print_reads(rt: &HostRuntime, what: &str) -> io::Result<()> {
 
 /// Times look-ups over so many pages, and has the host count their reads.
 fn time_look_ups(rt: &HostRuntime, dataset: &str, pages: u32) -> io::Result<()>
-    requires { pages ≤ 16384 }
+    requires { (1 ≤ pages) × (pages ≤ 16384) }
 {
     let alloc = rt.alloc();
     let keys = pages * IN_A_PAGE;
@@ -140,7 +140,7 @@ fn time_look_ups(rt: &HostRuntime, dataset: &str, pages: u32) -> io::Result<()>
     let mut found = 0u32;
     let mut i = 0u32;
     for _ in 0..TRIES {
-        i = (i + 7919) % keys;
+        i = ((i as u64 + 7919) % keys as u64) as u32;
         if look(alloc, &sealed, i) && found < TRIES {
             found += 1;
         }
@@ -164,7 +164,7 @@ fn time_puts(rt: &HostRuntime, held: u32) -> io::Result<()>
         if n == held {
             start = Instant::now(rt)?;
         }
-        i = (i + 40_503) % 65_536;
+        i = ((i as u64 + 40_503) % 65_536) as u32;
         let Some(key) = key_of(alloc, i) else {
             return Ok(());
         };
