@@ -240,5 +240,6 @@ pub trait Store<F: Send>: Send + Drop {
     fn note(&mut self, fault: F)
         ensures has { has self.new ≡ has self.old }
         ensures out { out self.new ≡ out self.old }
-        ensures cause { Rose (faults self.old) (faults self.new) };
+        ensures cause { Rose (faults self.old) (faults self.new) }
+        ensures later { faults self.old ≤ faults self.new };
 }
