@@ -1,15 +1,14 @@
 -- Where the newest bytes of a key stand, and what damage keeps it from being told.
-use Rattle.std.specs.Prelude.{◌≡◌, ◌≤◌, ◌+◌, ◌-◌, ◌⊎◌, ℕ, List, length, take, drop, Option, Some, None, Ok, slice_get, Contains}
+use Rattle.std.specs.Prelude.{◌≡◌, ◌≤◌, ◌+◌, ◌-◌, ◌⊎◌, ℕ, List, length, take, drop, Option, Some, None, slice_get, Contains, IsSome}
 use Rattle.std.specs.List.{AllZip}
 use Rattle.fd_core.specs.declared.batch.Pair.{Pair}
 use Rattle.fd_core.specs.Batches.{newest}
-use Rattle.fd_index.specs.Records.{Record}
 use Rattle.fd_schema.specs.declared.place.Place.{Place}
 use Rattle.fd_schema.specs.Rules.{file_key}
 use Rattle.fd_schema.specs.Reading.{seen_place}
 use Rattle.fd_segment.specs.declared.fault.Damage.{Damage}
 use Rattle.fd_segment.specs.Causes.{IsBadFrame, IsBadIndex, IsFindDamage}
-use Rattle.fd_segment.specs.Held.{Files, Standing, records_in}
+use Rattle.fd_segment.specs.Held.{Files, Standing}
 use Rattle.fd_retriever.specs.Kept.{IsNumbered}
 use Rattle.fd_retriever.specs.Answers.{IsSaid, LackBehind}
 use Rattle.fd_finding.specs.declared.spot.Spot.{Spot}
@@ -66,18 +65,11 @@ StandsForOne f keys d = (IsBadIndex f.entry f.index d × IsBadFrame f.entry f.in
 abbrev pub StandsForSome : List Standing → List (List ℕ) → Damage → Type 0
 StandsForSome ss keys d = (number : ℕ) × (s : Standing) × IsNumbered ss number s × StandsForOne s.files keys d
 
--- the index is told, and is in its format
-pub record IsRead (f : Files) : Type 0 where
-  pub bytes : List ℕ
-  pub records : List Record
-  pub told : f.index ≡ Some bytes
-  pub reads : records_in f.entry bytes ≡ Ok records
+-- each segment tells its index
+abbrev pub AllTold : List Standing → Type 0
+AllTold ss = (number : ℕ) (s : Standing) → IsNumbered ss number s → IsSome s.files.index
 
--- each segment tells its index, which is in its format
-abbrev pub AllRead : List Standing → Type 0
-AllRead ss = (number : ℕ) (s : Standing) → IsNumbered ss number s → IsRead s.files
-
--- These spots are the only ones that what the segments' indexes say of the keys allows, where each tells its index and has
--- it in its format.
+-- These spots are the only ones that what the segments' indexes say of the keys allows, where each tells its index: whatever
+-- stands in it, and in whatever pieces the keys are looked for.
 abbrev pub AreTheOnly : List Standing → List (List ℕ) → List (Option Spot) → Type 0
-AreTheOnly ss keys spots = AllRead ss → (others : List (Option Spot)) → AllZip (AllSayOf ss) keys others → spots ≡ others
+AreTheOnly ss keys spots = AllTold ss → (others : List (Option Spot)) → AllZip (AllSayOf ss) keys others → spots ≡ others

@@ -20,7 +20,7 @@ use Rattle.fd_pages.specs.declared.fault.PagedFault.{PagedFault}
 use Rattle.fd_pages.specs.declared.fault.PagedFault.TheVariants as faults
 use Rattle.fd_pages.specs.Causes.{OnBadIndex}
 use Rattle.fd_pages.specs.Paging.{HasRead, Paging, digits}
-use Rattle.fd_pages.specs.Parts.{IsBadPage, IsBehind, IsInFront, IsNoIndex, IsPageOf, IsPlace, IsSeen, is_before, page_in, page_of, pages_by}
+use Rattle.fd_pages.specs.Parts.{IsBadPage, IsBehind, IsGap, IsHalved, IsInFront, IsNoIndex, IsOnPages, IsPageOf, IsPlace, IsSeen, Turns, is_before, middle, page_in, page_of, pages_by}
 
 -- ---- Counting
 
@@ -207,6 +207,7 @@ pub record IsBetween (bytes : Option (List ℕ)) (len : ℕ) (key : List ℕ) (l
   pub lacks : IfSome bytes (λ b. (rs : List Record) (file : IsByPages (take len b) rs) → Lacks file.ps key low high)
   pub front : IfSome bytes (λ b. (n : ℕ) → low ≡ n + 1 → IsInFront b n key)
   pub behind : IfSome bytes (λ b. high < pages_by len → IsBehind b high key)
+  pub turns : IfSome bytes (λ b. (place : Option (ℕ × ℕ)) → IsHalved b key low high place → IsHalved b key 0 (pages_by len) place)
 
 page_count : (len : ℕ) (b : List ℕ) → len ≤ length b → pages_in (take len b) ≡ pages_by len
 page_count len b le = ap pages_by (length-take-le len b le)
@@ -232,7 +233,7 @@ page_there : (len : ℕ) (b : List ℕ) (m : ℕ) (rs : List Record) (file : IsB
 page_there len b m rs file le lt = omega (arith, lt, page_count len b le, file.count)
 
 pub begins : (bytes : Option (List ℕ)) (len : ℕ) (key : List ℕ) (n : ℕ) → n ≡ pages_by len → IfSome bytes (λ b. len ≤ length b) → IsBetween bytes len key 0 n
-begins None len key n is whole = record { order = omega arith; within = omega (arith, is); whole = tt; lacks = tt; front = tt; behind = tt }
+begins None len key n is whole = record { order = omega arith; within = omega (arith, is); whole = tt; lacks = tt; front = tt; behind = tt; turns = tt }
 begins (Some b) len key n is whole = record {
   order = omega arith;
   within = omega (arith, is);
@@ -242,11 +243,18 @@ begins (Some b) len key n is whole = record {
       record { before = refl; behind = ap (λ (t : List (List Record)). place_of key (joined t)) (drop_all n file.ps all) };
   front = λ n e. absurd (omega (arith, e));
   behind = λ lt. absurd (omega (arith, is, lt));
+  turns = λ place h. subst (λ k. IsHalved b key 0 k place) is h;
 }
 
-pub lower : (bytes : Option (List ℕ)) (len : ℕ) (key : List ℕ) (low high m : ℕ) (page : List Record) → IsBetween bytes len key low high → low ≤ m → m < high → IsPageOf bytes m page → is_before page key ≡ true → IsBetween bytes len key low m
-lower None len key low high m page b le lt is h = record { order = le; within = omega (arith, lt, b.within); whole = tt; lacks = tt; front = tt; behind = tt }
-lower (Some bytes) len key low high m page b le lt is h =
+turn_down : (b key : List ℕ) (low high m : ℕ) (turns : List Bool) (place : Option (ℕ × ℕ)) → m ≡ middle low high → low < high → IsBehind b m key → Turns b key low m turns place → Turns b key low high (true ∷ turns) place
+turn_down b key low high m turns place mid lt behind t = (lt, (subst (λ k. IsBehind b k key) mid behind, subst (λ k. Turns b key low k turns place) mid t))
+
+turn_up : (b key : List ℕ) (low high m : ℕ) (turns : List Bool) (place : Option (ℕ × ℕ)) → m ≡ middle low high → low < high → IsInFront b m key → Turns b key (m + 1) high turns place → Turns b key low high (false ∷ turns) place
+turn_up b key low high m turns place mid lt front t = (lt, (subst (λ k. IsInFront b k key) mid front, subst (λ k. Turns b key (k + 1) high turns place) mid t))
+
+pub lower : (bytes : Option (List ℕ)) (len : ℕ) (key : List ℕ) (low high m : ℕ) (page : List Record) → m ≡ middle low high → IsBetween bytes len key low high → low ≤ m → m < high → IsPageOf bytes m page → is_before page key ≡ true → IsBetween bytes len key low m
+lower None len key low high m page mid b le lt is h = record { order = le; within = omega (arith, lt, b.within); whole = tt; lacks = tt; front = tt; behind = tt; turns = tt }
+lower (Some bytes) len key low high m page mid b le lt is h =
     let under : m < pages_by len = omega (arith, lt, b.within) in
     record {
       order = le;
@@ -255,15 +263,16 @@ lower (Some bytes) len key low high m page b le lt is h =
       lacks = λ rs file. lower_lacks file.ps key file.rising m (page_there len bytes m rs file b.whole under) page (page_is len bytes m rs page file b.whole under is.told) low high (b.lacks rs file) h;
       front = b.front;
       behind = λ more. (page, is.told, h);
+      turns = λ place t. b.turns place (true ∷ t.0, turn_down bytes key low high m t.0 place mid (omega (arith, le, lt)) (page, is.told, h) t.1);
     }
 
 is_none : (o : Option (ℕ × ℕ)) → is_some o ≡ false → o ≡ None
 is_none None h = refl
 is_none (Some x) h = absurd (true≢false h)
 
-pub higher : (bytes : Option (List ℕ)) (len : ℕ) (key : List ℕ) (low high m : ℕ) (page : List Record) → IsBetween bytes len key low high → m < high → IsPageOf bytes m page → is_before page key ≡ false → is_some (place_of key page) ≡ false → IsBetween bytes len key (m + 1) high
-higher None len key low high m page b lt is h none = record { order = omega (arith, lt); within = b.within; whole = tt; lacks = tt; front = tt; behind = tt }
-higher (Some bytes) len key low high m page b lt is h none =
+pub higher : (bytes : Option (List ℕ)) (len : ℕ) (key : List ℕ) (low high m : ℕ) (page : List Record) → m ≡ middle low high → IsBetween bytes len key low high → low < high → m < high → IsPageOf bytes m page → is_before page key ≡ false → is_some (place_of key page) ≡ false → IsBetween bytes len key (m + 1) high
+higher None len key low high m page mid b some lt is h none = record { order = omega (arith, lt); within = b.within; whole = tt; lacks = tt; front = tt; behind = tt; turns = tt }
+higher (Some bytes) len key low high m page mid b some lt is h none =
     let under : m < pages_by len = omega (arith, lt, b.within) in
     record {
       order = omega (arith, lt);
@@ -273,6 +282,7 @@ higher (Some bytes) len key low high m page b lt is h none =
           higher_lacks file.ps key file.rising m (page_there len bytes m rs file b.whole under) page (page_is len bytes m rs page file b.whole under is.told) low high (b.lacks rs file) is.some h (is_none (place_of key page) none);
       front = λ n e. let same : m ≡ n = omega (arith, e) in subst (λ k. IsInFront bytes k key) same (page, is.told, h, is_none (place_of key page) none);
       behind = b.behind;
+      turns = λ place t. b.turns place (false ∷ t.0, turn_up bytes key low high m t.0 place mid some (page, is.told, h, is_none (place_of key page) none) t.1);
     }
 
 pub found : (bytes : Option (List ℕ)) (len : ℕ) (key : List ℕ) (low high m : ℕ) (page : List Record) → IsBetween bytes len key low high → m < high → IsPageOf bytes m page → is_before page key ≡ false → is_some (place_of key page) ≡ true → IsPlace bytes len key (place_of key page)
@@ -291,23 +301,24 @@ gone (Some bytes) len key low high b le = λ rs read.
     sym (ap (place_of key) file.all_is ∙ all_lacks file.ps key low high same (b.lacks rs file))
 
 -- what was read for a place that was found
-pub found_seen : (bytes : Option (List ℕ)) (len : ℕ) (key : List ℕ) (m : ℕ) (page : List Record) (place : Option (ℕ × ℕ)) → m < pages_by len → IsPageOf bytes m page → place ≡ place_of key page → is_some place ≡ true → IsSeen bytes len key place
-found_seen bytes len key m page None lt is at some = absurd (true≢false (sym some))
-found_seen None len key m page (Some place) lt is at some = tt
-found_seen (Some b) len key m page (Some place) lt is at some = (m, lt, page, is.told, sym at)
+pub found_seen : (bytes : Option (List ℕ)) (len : ℕ) (key : List ℕ) (low high m : ℕ) (page : List Record) (place : Option (ℕ × ℕ)) → m ≡ middle low high → IsBetween bytes len key low high → low < high → m < pages_by len → IsPageOf bytes m page → is_before page key ≡ false
+    → place ≡ place_of key page → is_some place ≡ true → IsSeen bytes len key place
+found_seen bytes len key low high m page None mid b some lt is h at there = absurd (true≢false (sym there))
+found_seen None len key low high m page (Some place) mid b some lt is h at there = (tt, tt)
+found_seen (Some bytes) len key low high m page (Some place) mid b some lt is h at there =
+    ((m, lt, page, is.told, sym at), b.turns (Some place) ([], (some, (page, subst (λ k. page_in bytes k ≡ Ok page) mid is.told, h, sym at))))
 
 -- and for a key that has none
 pub gone_seen : (bytes : Option (List ℕ)) (len : ℕ) (key : List ℕ) (low high : ℕ) → IsBetween bytes len key low high → high ≤ low → IsSeen bytes len key None
-gone_seen None len key low high b le = tt
+gone_seen None len key low high b le = (tt, tt)
 gone_seen (Some bytes) len key low high b le =
-    let same : high ≡ low = omega (arith, le, b.order) in (
-      low,
-      record {
-        within = omega (arith, same, b.within);
-        front = b.front;
-        behind = λ lt. subst (λ k. IsBehind bytes k key) same (b.behind (omega (arith, lt, same)));
-      },
-    )
+    let same : high ≡ low = omega (arith, le, b.order) in
+    let gap : IsGap bytes len key low = record {
+      within = omega (arith, same, b.within);
+      front = b.front;
+      behind = λ lt. subst (λ k. IsBehind bytes k key) same (b.behind (omega (arith, lt, same)));
+    } in
+    ((low, gap), b.turns None ([], le))
 
 pub bad_page : (bytes : Option (List ℕ)) (len m at : ℕ) → m < pages_by len → IfSome bytes (λ b. page_in b m ≡ Err at) → IsBadPage bytes len at
 bad_page None len m at lt bad = tt

@@ -93,6 +93,35 @@ pub record IsGap (b : List ℕ) (len : ℕ) (key : List ℕ) (number : ℕ) : Ty
 
 -- The place of a key stands on a page that by itself is in the format; a key without a place would stand between two such
 -- pages, or before the first or behind the last.
+abbrev pub IsOnPages : Option (List ℕ) → ℕ → List ℕ → Option (ℕ × ℕ) → Type 0
+IsOnPages bytes len key (Some place) = IfSome bytes (λ b. (number : ℕ) × (number < pages_by len) × (rs : List Record) × (page_in b number ≡ Ok rs) × (place_of key rs ≡ Some place))
+IsOnPages bytes len key None = IfSome bytes (λ b. (number : ℕ) × IsGap b len key number)
+
+-- A page by itself is in the format, the key doesn't come before its first one, and is on it at this place.
+abbrev pub IsOn : List ℕ → ℕ → List ℕ → (ℕ × ℕ) → Type 0
+IsOn b number key place = (rs : List Record) × (page_in b number ≡ Ok rs) × (is_before rs key ≡ false) × (place_of key rs ≡ Some place)
+
+-- the page in the middle of those from one number to another
+abbrev pub middle : ℕ → ℕ → ℕ
+middle low high = low + (high - low) / 2
+
+-- How a key is found among the pages from one number to another: it is on the middle one; or it comes before that one, and is
+-- found among those below (`true`); or it doesn't and isn't on it, and is found among those above (`false`). Among no pages
+-- it has no place.
+abbrev pub Turns : List ℕ → List ℕ → ℕ → ℕ → List Bool → Option (ℕ × ℕ) → Type 0
+Turns b key low high [] None = high ≤ low
+Turns b key low high [] (Some place) = (low < high) × IsOn b (middle low high) key place
+Turns b key low high (true ∷ turns) place = (low < high) × (IsBehind b (middle low high) key × Turns b key low (middle low high) turns place)
+Turns b key low high (false ∷ turns) place = (low < high) × (IsInFront b (middle low high) key × Turns b key (middle low high + 1) high turns place)
+
+abbrev pub IsHalved : List ℕ → List ℕ → ℕ → ℕ → Option (ℕ × ℕ) → Type 0
+IsHalved b key low high place = (turns : List Bool) × Turns b key low high turns place
+
+-- What a look-up of a key has read: the pages that decide are in the format by themselves, and they are those that halving
+-- comes to. So two look-ups of one key in one file, where told, have one answer, whatever else the file holds.
 abbrev pub IsSeen : Option (List ℕ) → ℕ → List ℕ → Option (ℕ × ℕ) → Type 0
-IsSeen bytes len key (Some place) = IfSome bytes (λ b. (number : ℕ) × (number < pages_by len) × (rs : List Record) × (page_in b number ≡ Ok rs) × (place_of key rs ≡ Some place))
-IsSeen bytes len key None = IfSome bytes (λ b. (number : ℕ) × IsGap b len key number)
+IsSeen bytes len key place = IsOnPages bytes len key place × IfSome bytes (λ b. IsHalved b key 0 (pages_by len) place)
+
+-- A file that is told gives a key one answer.
+abbrev pub IsSeenOnce : Type 0
+IsSeenOnce = (b : List ℕ) (len : ℕ) (key : List ℕ) (p q : Option (ℕ × ℕ)) → IsSeen (Some b) len key p → IsSeen (Some b) len key q → p ≡ q

@@ -4,8 +4,10 @@
 
 mod fault;
 mod frame;
+mod laws;
 mod paged;
 mod reading;
 
 pub use fault::PagedFault;
+pub use laws::one_answer;
 pub use paged::Paged;

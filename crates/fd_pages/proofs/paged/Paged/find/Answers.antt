@@ -1,4 +1,4 @@
-use Rattle.std.proofs.Common.{◌≡◌, ◌∙◌, ◌<◌, ◌≤◌, ◌+◌, ◌-◌, ◌/◌, ℕ, List, Option, true, false, is_some, sym, ap, subst, arith}
+use Rattle.std.proofs.Common.{◌≡◌, ◌∙◌, ◌<◌, ◌≤◌, ◌+◌, ◌-◌, ◌/◌, ℕ, List, Option, true, false, is_some, refl, sym, ap, subst, arith}
 use Rattle.fd_pages.specs.Paging.{HasRead, Paging, digits}
 use Rattle.fd_pages.specs.Parts.{IsPageOf, IsPlace, is_before, pages_by}
 use Rattle.fd_pages.proofs.Halving.{HasReadSoFar, all_read_on, found, found_seen, gone, gone_seen, higher, lower, one_read, refused_by}
@@ -26,7 +26,7 @@ halves-preserved-then-before g c =
     record {
       bytes = ap (λ (p : Paging). p.bytes) kept ∙ c.in-Ok.ensures.file.0 ∙ c.halves.invariant.bytes;
       len = ap (λ (p : Paging). p.len) kept ∙ c.in-Ok.ensures.file.1 ∙ c.halves.invariant.len;
-      between = lower start.bytes start.len c.args.key.now low high m c.in-Ok.page c.halves.invariant.between (omega arith) under page (sym c.is_before-before.ensures ∙ c.if-before.true);
+      between = lower start.bytes start.len c.args.key.now low high m c.in-Ok.page refl c.halves.invariant.between (omega arith) under page (sym c.is_before-before.ensures ∙ c.if-before.true);
       read =
           subst (λ (p : Paging). HasReadSoFar (pages_by start.len) (m - low) start p) (sym kept)
           (one_read (pages_by start.len) (high - low) (m - low) start c.halves.self c.take_page.new.self c.halves.invariant.read c.in-Ok.ensures.few some (omega arith));
@@ -51,7 +51,7 @@ returns-then-is_some-clause-seen g c =
     let high = c.halves.high in
     let m = low + (high - low) / 2 in
     let page : IsPageOf start.bytes m c.in-Ok.page = subst (λ (b : Option (List ℕ)). IsPageOf b m c.in-Ok.page) c.halves.invariant.bytes c.in-Ok.ensures.page in
-    found_seen start.bytes start.len c.args.key.now m c.in-Ok.page c.find-place.result (omega (arith, c.halves-test.true, c.halves.invariant.between.within)) page c.find-place.ensures (sym c.is_some.ensures ∙ c.if-is_some.true)
+    found_seen start.bytes start.len c.args.key.now low high m c.in-Ok.page c.find-place.result refl c.halves.invariant.between (omega (arith, c.halves-test.true)) (omega (arith, c.halves-test.true, c.halves.invariant.between.within)) page (sym c.is_before-before.ensures ∙ c.if-before.false) c.find-place.ensures (sym c.is_some.ensures ∙ c.if-is_some.true)
 
 pub returns-then-is_some-clause-few : goal.returns-then-is_some-clause-few
 returns-then-is_some-clause-few g c =
@@ -71,7 +71,7 @@ halves-preserved g c =
       bytes = ap (λ (p : Paging). p.bytes) kept ∙ c.in-Ok.ensures.file.0 ∙ c.halves.invariant.bytes;
       len = ap (λ (p : Paging). p.len) kept ∙ c.in-Ok.ensures.file.1 ∙ c.halves.invariant.len;
       between =
-          higher start.bytes start.len c.args.key.now low high m c.in-Ok.page c.halves.invariant.between (omega (arith, c.halves-test.true)) page (sym c.is_before-before.ensures ∙ c.if-before.false)
+          higher start.bytes start.len c.args.key.now low high m c.in-Ok.page refl c.halves.invariant.between (omega (arith, c.halves-test.true)) (omega (arith, c.halves-test.true)) page (sym c.is_before-before.ensures ∙ c.if-before.false)
           (ap is_some (sym c.find-place.ensures) ∙ sym c.is_some.ensures ∙ c.if-is_some.false);
       read =
           subst (λ (p : Paging). HasReadSoFar (pages_by start.len) (high - (m + 1)) start p) (sym kept)
