@@ -1,5 +1,5 @@
 #!/usr/bin/env bash
-# What the gate costs: runs `rt ci --anew` on a clean clone of what is committed, samples the processor time of its runs of
+# What the gate costs: runs `rt ci` from nothing on a clean clone of what is committed, samples the processor time of its runs of
 # the prover, and prints the processor seconds of each crate's proof, of its tests' proof and of its edits, dearest first, with
 # the sums. It says most on an idle machine. BUDGET is the number of processor minutes that may not be passed (280); the
 # script ends with 1 where they are. No part of the gate.
@@ -9,7 +9,9 @@ budget=${BUDGET:-280}
 work=$(mktemp -d)
 trap 'rm -rf "$work"' EXIT
 git clone -q "$top" "$work/fdb" || exit 1
-(cd "$work/fdb" && rt ci --anew) > "$work/log" 2>&1 &
+# (a kit that keeps proofs between its runs has `--anew` for a run without them; one without that word keeps none)
+anew=$(rt help 2>&1 | grep -q -e --anew && echo --anew || true)
+(cd "$work/fdb" && exec rt ci $anew) > "$work/log" 2>&1 &
 gate=$!
 python3 - "$work" "$gate" "$budget" <<'PY'
 import collections, os, re, sys, time
