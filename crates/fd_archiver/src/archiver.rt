@@ -222,6 +222,14 @@ impl<F: Send, H: Shelf<F>> Archiver<F, H> {
         0xFFFF_FFFF - self.last
     }
 
+    /// The law that a segment which came to its listing is this writer's, and that the shelf keeps both its files.
+    pub fn waiting_is_kept(&self)
+        ensures writer { self.now.is_kept ≡ true → IfSome self.now.unlisted (λ s. s.files.entry.writer ≡ self.now.writer) }
+        ensures files { self.now.is_kept ≡ true → IfSome self.now.unlisted (IsKept (H.kept self.now.shelf)) }
+    {
+        let _ = &self.shelf;
+    }
+
     /// Ends the writing, and gives the shelf back with the files that it keeps, also those of a batch whose listing
     /// failed. What is pending is lost.
     pub fn close(self) -> H

@@ -1,4 +1,4 @@
-ghost use Rattle.std.specs.Prelude.{◌≡◌, ◌≢◌, ◌≤◌, ◌<◌, ◌+◌, ◌-◌, ◌^◌, ◌⊎◌, ◌↔◌, [], List, length, false, Ok, Err, None, Some, IfErr, OnErr};
+ghost use Rattle.std.specs.Prelude.{◌≡◌, ◌≢◌, ◌≤◌, ◌<◌, ◌+◌, ◌-◌, ◌^◌, ◌⊎◌, ◌↔◌, [], List, length, false, true, Ok, Err, None, Some, IfErr, OnErr};
 ghost use mathlib.Core.List.{IsPrefix};
 ghost use Rattle.fd_core.specs.declared.batch.Pair.{Pair};
 ghost use Rattle.fd_core.specs.Table.{greatest_writer};
@@ -26,7 +26,8 @@ impl<F: Send, H: Shelf<F>> Archiver<F, H> {
     /// listing, the pass has seen afterwards all that was listed since the dataset began.
     ///
     /// After a refusal what was pending still is: in the draft, or, where the sealing was done, in a segment that waits,
-    /// which the next flush lists. A next draft that was made stays for that flush. `Disk` comes only with a fault of the shelf, of a file of the batch or of the table;
+    /// which the next flush lists; a segment that came to its listing stays as it is, with its files kept. A next draft that was
+    /// made stays for that flush. `Disk` comes only with a fault of the shelf, of a file of the batch or of the table;
     /// `TableFull` exactly where 65,535 entries are listed when the segment comes to its listing. The pass is left as
     /// `Dataset::list` leaves it, and as before where the segment didn't come to its listing.
     pub fn flush<T: Disk<F>, R: Wait>(
@@ -59,6 +60,7 @@ impl<F: Send, H: Shelf<F>> Archiver<F, H> {
         ensures still { OnErr result ((s : Standing) → self.old.unlisted ≡ Some s → self.new.unlisted ≡ Some s) }
         ensures back { OnErr result (self.new.unlisted ≡ None → HoldsSame self.old.draft self.new.draft) }
         ensures next { OnErr result (KeepsNext self.old self.new) }
+        ensures settled { OnErr result (self.old.is_kept ≡ true → self.new ≡ self.old) }
         ensures untouched { OnErr result (self.new.is_kept ≡ false → view pass.new ≡ view pass.old) }
         ensures waits { (count : _) → result ≡ Err (FlushFault.TableFull count) → IsReady H.kept self.new }
         ensures whole_err { OnErr result ((view pass.old).parts ≡ all_parts → (view pass.new ≡ view pass.old) ⊎ ((view pass.new).opening + (view pass.new).amount ≡ length (view pass.new).history)) }

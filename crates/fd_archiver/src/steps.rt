@@ -82,6 +82,7 @@ impl<F: Send, H: Shelf<F>> Archiver<F, H> {
         ensures same { StaysOf self.old self.new }
         ensures kept { H.kept self.new.shelf ≡ H.kept self.old.shelf }
         ensures still { (s : Standing) → self.old.unlisted ≡ Some s → self.new ≡ self.old }
+        ensures settled { self.old.is_kept ≡ true → self.new ≡ self.old }
         ensures numbers { UsesOne self.old self.new }
         ensures later { self.old.shelf_faults ≤ self.new.shelf_faults }
         ensures next { KeepsNext self.old self.new }
@@ -104,6 +105,7 @@ impl<F: Send, H: Shelf<F>> Archiver<F, H> {
         requires waits { IsSome self.old.unlisted }
         ensures ok { OnOk result (IsReady H.kept self.new) }
         ensures unkept { OnErr result (self.new.is_kept ≡ false) }
+        ensures settled { self.old.is_kept ≡ true → self.new ≡ self.old }
         ensures pending { (b : List Pair) → IsPending self.old b → IsPending self.new b }
         ensures others { KeepsOthers (number_of self.old) (H.kept self.old.shelf) (H.kept self.new.shelf) }
         ensures rest { self.new ≡ record self.old { is_kept = self.new.is_kept; shelf = self.new.shelf } }
@@ -139,6 +141,7 @@ impl<F: Send, H: Shelf<F>> Archiver<F, H> {
         ensures nothing { (result ≡ Ok false) ↔ IsPending self.old [] }
         ensures idle { result ≡ Ok false → self.new ≡ self.old }
         ensures ready { result ≡ Ok true → IsReady H.kept self.new }
+        ensures settled { self.old.is_kept ≡ true → self.new ≡ self.old }
         ensures pending { (b : List Pair) → IsPending self.old b → IsPending self.new b }
         ensures number { number_of self.new ≡ number_of self.old }
         ensures same { StaysOf self.old self.new }
