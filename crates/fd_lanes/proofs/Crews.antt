@@ -27,7 +27,7 @@ use Rattle.fd_lanes.specs.Acts.{Act, ArePlaces, LanesFit, acts_of, all_acts, lef
 use Rattle.fd_lanes.specs.Walks.{beginning, receipts, walked}
 use Rattle.fd_lanes.specs.Legal.{IsListedIn, IsFullIn, IsAnsweredIn, IsDamagedIn, WalksIn, AllWalkIn, all_receipts, AllSound, IsDoubt, IsLegal, IsRunOf}
 use Rattle.fd_lanes.specs.Fits.{AreKept, Keeps}
-use Rattle.fd_lanes.specs.Jobs.{AreKeptFrom, HasRoom, IsFresh, IsKeptByOne, IsReady, MayBegin, Ran, RanAt, RanJob, TookIn, all_amounts_of, all_doubts_of, all_parts_of, archivers_of, ends_of, owners_of, writers_of}
+use Rattle.fd_lanes.specs.Jobs.{AllKept, AreKeptFrom, HasRoom, IsFresh, IsKeptBy, IsKeptByOne, IsReady, MayBegin, Ran, RanAt, RanJob, TookIn, all_amounts_of, all_doubts_of, all_parts_of, archivers_of, ends_of, owners_of, writers_of}
 use Rattle.fd_lanes.proofs.Histories.{prefix_self, prefix_trans, prefix_length, listed_longer, full_longer, answered_longer, damaged_longer}
 use Rattle.fd_lanes.proofs.Keeping.{kept_by}
 use Rattle.fd_lanes.proofs.Legality.{each_number, legal}
@@ -159,11 +159,12 @@ module _ (F H X Y : Type 0) where
     pub owners : owners_of (archivers_of ks) ≡ owners_of (archivers_of js)
     pub doubts : (l : Listing) → IsIn (all_doubts_of ks) l → IsDoubt l (length v.history) script (ends_of ks)
     pub files : (r : ℕ × List Pair) (l : Listing) → IsIn (all_receipts (length v.history) script (ends_of ks)) r → slice_get hs (r.0 - 1) ≡ Some l → IsKeptByOne kept (archivers_of ks) l
+    pub doubted : (l : Listing) → IsIn (all_doubts_of ks) l → IsKeptByOne kept (archivers_of ks) l
 
   pub all_ran : (kept : H → Option (FileName → Option (List ℕ))) (z : BoardId) (v : View) (hs : List Listing) (rules : List Rule) (messages : List (List ℕ)) (places : List Texts) (lanes : List Lane) (js ks : List (Job (Writing H) (Pass X Y) (List Kept) (End F))) → v.amount ≡ 0 → v.parts ≡ 1 → length js ≡ length lanes → length ks ≡ length js → All (IsReady z v) js
       → ((i : ℕ) (e : Job (Writing H) (Pass X Y) (List Kept) (End F)) → i < length js → RanAt kept z rules messages places lanes i (get_or js i e) (get_or ks i e)) → All (λ (j : Job (Writing H) (Pass X Y) (List Kept) (End F)). IsPrefix (view j.pass).history hs) ks
       → AllRan kept z v hs (all_acts rules messages places lanes) js ks
-  all_ran kept z v hs rules messages places [] [] [] none one long long' ready ran seen = record { walks = tt; amounts = refl; parts = refl; writers = refl; owners = refl; doubts = λ l i. i; files = λ r l i at. absurd i }
+  all_ran kept z v hs rules messages places [] [] [] none one long long' ready ran seen = record { walks = tt; amounts = refl; parts = refl; writers = refl; owners = refl; doubts = λ l i. i; files = λ r l i at. absurd i; doubted = λ l i. absurd i }
   all_ran kept z v hs rules messages places [] [] (k ∷ ks) none one long long' ready ran seen = absurd (omega arith)
   all_ran kept z v hs rules messages places [] (j ∷ js) ks none one long long' ready ran seen = absurd (omega arith)
   all_ran kept z v hs rules messages places (a ∷ lanes) [] ks none one long long' ready ran seen = absurd (omega arith)
@@ -194,6 +195,7 @@ module _ (F H X Y : Type 0) where
         owners = (let rw' = r.writer in let rd = r.dataset in let rt = r.told in let rr = rest.owners in cc (rw', rd, rt, rr));
         files = λ m l i at. its m l (λ q. rest.files m l q at) at (subst (λ (n : ℕ). AreKept kept k.archiver (view k.pass).history (receipts (beginning n) acts k.ends.items)) long_is r.listed) p (in_either (receipts (beginning b) acts k.ends.items) (all_receipts b (all_acts rules messages (left_after places a.steps) lanes) (ends_of ks)) m i);
         doubts = λ l i. go l (λ q. rest.doubts l q) (subst (λ (n : ℕ). (m : Listing) → IsIn (view k.pass).doubts m → ((walked (beginning n) acts k.ends.items).faulted ≡ true) × StandsFor m (walked (beginning n) acts k.ends.items).pending) long_is r.doubts l) (in_either (view k.pass).doubts (all_doubts_of ks) l i);
+        doubted = λ l i. own l (λ q. r.doubted l q) (λ q. rest.doubted l q) (in_either (view k.pass).doubts (all_doubts_of ks) l i);
       }
     where
       go : (l : Listing) → (IsIn (all_doubts_of ks) l → IsDoubt l (length v.history) (all_acts rules messages (left_after places a.steps) lanes) (ends_of ks))
@@ -201,6 +203,10 @@ module _ (F H X Y : Type 0) where
           → IsIn (view k.pass).doubts l ⊎ IsIn (all_doubts_of ks) l → IsDoubt l (length v.history) (all_acts rules messages places (a ∷ lanes)) (ends_of (k ∷ ks))
       go l later here (inl q) = inl (here q)
       go l later here (inr q) = inr (later q)
+
+      own : (l : Listing) → (IsIn (view k.pass).doubts l → IsKeptBy kept k.archiver l) → (IsIn (all_doubts_of ks) l → IsKeptByOne kept (archivers_of ks) l) → IsIn (view k.pass).doubts l ⊎ IsIn (all_doubts_of ks) l → IsKeptByOne kept (archivers_of (k ∷ ks)) l
+      own l here later (inl q) = inl (here q)
+      own l here later (inr q) = inr (later q)
 
       its : (m : ℕ × List Pair) (l : Listing) → (IsIn (all_receipts (length v.history) (all_acts rules messages (left_after places a.steps) lanes) (ends_of ks)) m → IsKeptByOne kept (archivers_of ks) l) → slice_get hs (m.0 - 1) ≡ Some l
           → AreKept kept k.archiver (view k.pass).history (receipts (beginning (length v.history)) (acts_of rules messages places a.steps) k.ends.items) → IsPrefix (view k.pass).history hs
@@ -231,7 +237,7 @@ module _ (F H X Y : Type 0) where
   pub finish : (kept : H → Option (FileName → Option (List ℕ))) (z : BoardId) (v0 v1 v2 v3 v4 : View) (before : ℕ) (rules : List Rule) (messages : List (List ℕ)) (places : List Texts) (lanes : List Lane) (xs : List (Writing H)) (js ks : List (Job (Writing H) (Pass X Y) (List Kept) (End F)))
       → Passed z v0 v1 v2 v3 v4 before xs js ks → Differ (writers_of xs) → length xs ≡ length lanes → length ks ≡ length js
       → ((i : ℕ) (e : Job (Writing H) (Pass X Y) (List Kept) (End F)) → i < length js → RanAt kept z rules messages places lanes i (get_or js i e) (get_or ks i e))
-      → Ran v0 v4 before (all_acts rules messages places lanes) (ends_of ks) × (writers_of (archivers_of ks) ≡ writers_of xs) × (owners_of (archivers_of ks) ≡ owners_of xs) × AreKeptFrom kept (archivers_of ks) before v4.history
+      → Ran v0 v4 before (all_acts rules messages places lanes) (ends_of ks) × (writers_of (archivers_of ks) ≡ writers_of xs) × (owners_of (archivers_of ks) ≡ owners_of xs) × AreKeptFrom kept (archivers_of ks) before v4.history × AllKept kept (archivers_of ks) v4.doubts
   finish kept z v0 v1 v2 v3 v4 before rules messages places lanes xs js ks p differ long long' ran =
       let script : List (List Act) = all_acts rules messages places lanes in
       let n : length xs ≡ length js = ap length (sym p.archivers) ∙ length-map js (λ j. j.archiver) in
@@ -282,6 +288,7 @@ module _ (F H X Y : Type 0) where
             let place : i ≡ i + 1 - 1 = omega arith in
             let r = number_in (all_receipts (length v1.history) script (ends_of ks)) (i + 1) (each_number F v4.history (length v1.history) (writers_of (archivers_of js)) script (ends_of ks) differ' g.walks total (i + 1) (omega arith) (omega arith)) in
             g.files (i + 1, r.0) l r.1 (subst (λ (m : ℕ). slice_get v4.history m ≡ Some l) place at),
+        λ l c. g.doubted l (go p.fewer4 doubts3 l (contains_in v4.doubts l c.0 c.1 c.2)),
       )
     where
       go : AreFewer v3.doubts v4.doubts → v3.doubts ≡ all_doubts_of ks → (l : Listing) → IsIn v4.doubts l → IsIn (all_doubts_of ks) l

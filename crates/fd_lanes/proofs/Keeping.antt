@@ -1,6 +1,6 @@
 -- What a step leaves of the files that an archiver's shelf keeps.
-use Rattle.std.proofs.Common.{◌≡◌, ◌≢◌, ◌<◌, ◌≤◌, ◌+◌, ◌-◌, ◌⊎◌, inl, inr, ℕ, List, [], ◌∷◌, ◌++◌, length, sym, refl, ap, ◌∙◌, subst, arith, length-append, Bool, Option, Some, None}
-use Rattle.std.specs.Prelude.{slice_get}
+use Rattle.std.proofs.Common.{◌≡◌, ◌≢◌, ◌<◌, ◌≤◌, ◌+◌, ◌-◌, ◌⊎◌, inl, inr, ℕ, List, [], ◌∷◌, ◌++◌, length, sym, refl, ap, ◌∙◌, subst, arith, length-append, Bool, true, false, true≢false, Option, Some, None}
+use Rattle.std.specs.Prelude.{slice_get, IfSome, IsSome}
 use mathlib.Core.List.{IsPrefix}
 use Rattle.fd_disk.specs.declared.folders.FileName.{FileName}
 use Rattle.fd_disk.specs.declared.folders.FileKind.TheVariants.{Fields, Index}
@@ -10,15 +10,18 @@ use Rattle.fd_core.specs.declared.batch.Listing.{Listing}
 use Rattle.fd_segment.specs.Filling.{Filling, Origin}
 use Rattle.fd_segment.specs.Held.{Standing}
 use Rattle.fd_dataset.specs.Listed.{listing}
+use Rattle.fd_dataset.specs.Causes.{AreFewer}
+use Rattle.fd_turn.specs.Views.{View}
+use Rattle.fd_archiver.specs.Causes.{DoubtsWaiting}
 use Rattle.fd_archiver.specs.Flushing.{KeepsOthers, Lists}
-use Rattle.fd_archiver.specs.Writing.{IsKept, IsPending, IsSealedFrom, Writing, number_in, number_of}
+use Rattle.fd_archiver.specs.Writing.{IsKept, IsPending, IsPendingIn, IsSealedFrom, Writing, number_in, number_of}
 use Rattle.fd_numbers.specs.Numbers.{IsIn}
 use Rattle.fd_lanes.specs.Acts.{Act}
 use Rattle.fd_lanes.specs.declared.end.End.{End}
 use Rattle.fd_lanes.specs.declared.end.End.TheVariants.{PutOk, PutUnlisted, Fault, Listed, Nothing, TableFull, NoMemory, Damaged, Got}
 use Rattle.fd_lanes.specs.Walks.{Stand, receipt, receipts, walked}
 use Rattle.fd_lanes.specs.Legal.{IsListedIn, IsFullIn, IsAnsweredIn, IsDamagedIn, WalksIn}
-use Rattle.fd_lanes.specs.Fits.{AreKept, GotAs, IsKeptAt, KeepsNew, KeepsOn}
+use Rattle.fd_lanes.specs.Fits.{AreKept, GotAs, IsKeptAt, IsWaitingDoubt, KeepsNew, KeepsOn}
 use Rattle.fd_lanes.specs.Jobs.{IsKeptBy}
 use Rattle.fd_lanes.proofs.Histories.{at_end, prefix_at}
 use Rattle.fd_lanes.proofs.Walking.{in_either, receipts_are}
@@ -144,3 +147,49 @@ module _ (F H : Type 0) (kept : H → Option (FileName → Option (List ℕ))) w
   kept_by w h h' b n l p k at =
       let there = prefix_at h h' (n - 1) (listing k.segment) p k.at in
       record { segment = k.segment; is = cc (there, at); by = k.by; files = k.files; batch = k.sealed.batch }
+
+-- ---- what is in doubt
+
+-- an archiver whose waiting segment stays
+pub doubt_same : (H : Type 0) (x y : Writing H) (before after : List Listing) → y.unlisted ≡ x.unlisted → y.is_kept ≡ x.is_kept → after ≡ before → IsWaitingDoubt x before → IsWaitingDoubt y after
+doubt_same H x y before after waits came same d = λ l i.
+    let q = d l (subst (λ (ls : List Listing). IsIn ls l) same i) in
+    (came ∙ q.0, (q.1.0, waits ∙ q.1.1, q.1.2))
+
+-- nothing is in doubt
+pub doubt_none : (H : Type 0) (y : Writing H) (after : List Listing) → after ≡ [] → IsWaitingDoubt y after
+doubt_none H y after none = λ l i. absurd (subst (λ (ls : List Listing). IsIn ls l) none i)
+
+-- a flush that was refused: what came to its listing before stays as it was, and nothing else can be in doubt before it comes
+-- to its listing
+pub doubt_refused : (H : Type 0) (x y : Writing H) (v w : View) → (x.is_kept ≡ true → y ≡ x) → (y.is_kept ≡ false → w ≡ v) → AreFewer v.doubts w.doubts ⊎ DoubtsWaiting y.unlisted w.doubts → IsWaitingDoubt x v.doubts → IsWaitingDoubt y w.doubts
+doubt_refused H x y v w settled untouched (inl (inl same)) d = λ l i. stays l (subst (λ (ls : List Listing). IsIn ls l) same i)
+  where
+    stays : (l : Listing) → IsIn v.doubts l → (y.is_kept ≡ true) × ((z : Standing) × (y.unlisted ≡ Some z) × (listing z ≡ l))
+    stays l i = let q = d l i in subst (λ (a : Writing H). (a.is_kept ≡ true) × ((z : Standing) × (a.unlisted ≡ Some z) × (listing z ≡ l))) (sym (settled q.0)) q
+doubt_refused H x y v w settled untouched (inl (inr none)) d = doubt_none H y w.doubts none
+doubt_refused H x y v w settled untouched (inr waits) d = λ l i. (came y.is_kept refl l i, (waits.0, waits.1, one l (subst (λ (ls : List Listing). IsIn ls l) waits.2 i)))
+  where
+    one : (l : Listing) → IsIn (listing waits.0 ∷ []) l → listing waits.0 ≡ l
+    one l (inl e) = e
+    one l (inr i) = absurd i
+
+    came : (b : Bool) → y.is_kept ≡ b → (l : Listing) → IsIn w.doubts l → y.is_kept ≡ true
+    came true e l i = e
+    came false e l i =
+        let q = d l (subst (λ (u : View). IsIn u.doubts l) (untouched e) i) in
+        ap (λ (a : Writing H). a.is_kept) (settled q.0) ∙ q.0
+
+-- what is in doubt is kept by its archiver
+pub doubt_kept : (H : Type 0) (kept : H → Option (FileName → Option (List ℕ))) (w : Writing H) (b : List Pair) (l : Listing) → IsPending w b → (w.is_kept ≡ true → IfSome w.unlisted (λ s. s.files.entry.writer ≡ w.writer)) → (w.is_kept ≡ true → IfSome w.unlisted (IsKept (kept w.shelf)))
+    → (w.is_kept ≡ true) × ((x : Standing) × (w.unlisted ≡ Some x) × (listing x ≡ l)) → IsKeptBy kept w l
+doubt_kept H kept w b l pending writer files q =
+    let is = q.1.1 in
+    let sealed = subst (λ (u : Option Standing). IsPendingIn w.told u w.draft b) is pending in
+    record {
+      segment = q.1.0;
+      is = sym q.1.2;
+      by = subst (λ (u : Option Standing). IfSome u (λ (s : Standing). s.files.entry.writer ≡ w.writer)) is (writer q.0);
+      files = subst (λ (u : Option Standing). IfSome u (IsKept (kept w.shelf))) is (files q.0);
+      batch = sealed.1.batch;
+    }

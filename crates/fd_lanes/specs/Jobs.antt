@@ -75,6 +75,10 @@ module _ {H : Type 0} (kept : H → Option (FileName → Option (List ℕ))) whe
   abbrev pub AreKeptFrom : List (Writing H) → ℕ → List Listing → Type 0
   AreKeptFrom ws before history = (i : ℕ) (l : Listing) → before ≤ i → slice_get history i ≡ Some l → IsKeptByOne ws l
 
+  -- each of these listings is kept by one of these archivers
+  abbrev pub AllKept : List (Writing H) → List Listing → Type 0
+  AllKept ws ls = (l : Listing) → Contains ls l → IsKeptByOne ws l
+
 module _ {F H X Y : Type 0} where
   -- the archivers of jobs, and their ends
   abbrev pub archivers_of : List (Job (Writing H) (Pass X Y) (List Kept) (End F)) → List (Writing H)
@@ -111,6 +115,7 @@ module _ {F H X Y : Type 0} where
     pub amount : (view k.pass).amount ≡ (view j.pass).amount + length (receipts (beginning (length (view j.pass).history)) acts k.ends.items)
     pub listed : AreKept kept k.archiver (view k.pass).history (receipts (beginning (length (view j.pass).history)) acts k.ends.items)
     pub doubts : (l : Listing) → IsIn (view k.pass).doubts l → ((walked (beginning (length (view j.pass).history)) acts k.ends.items).faulted ≡ true) × StandsFor l (walked (beginning (length (view j.pass).history)) acts k.ends.items).pending
+    pub doubted : (l : Listing) → IsIn (view k.pass).doubts l → IsKeptBy kept k.archiver l
 
   -- the same of the job and the lane at one place
   pub record RanAt (kept : H → Option (FileName → Option (List ℕ))) (z : BoardId) (rules : List Rule) (messages : List (List ℕ)) (places : List Texts) (lanes : List Lane) (i : ℕ) (j k : Job (Writing H) (Pass X Y) (List Kept) (End F)) : Type 0 where

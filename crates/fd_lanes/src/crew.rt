@@ -12,7 +12,7 @@ ghost use Rattle.fd_lanes.specs.Acts.{ArePlaces, LanesFit, all_acts};
 ghost use Rattle.fd_lanes.specs.Legal.{IsRunOf};
 ghost use Rattle.fd_numbers.specs.Numbers.{Differ};
 ghost use Rattle.fd_lanes.specs.Fits.{Keeps};
-ghost use Rattle.fd_lanes.specs.Jobs.{archivers_of, AreKeptFrom, ends_of, IsFresh, IsReady, IsRoom, MayBegin, owners_of, RanAt, Ran, TookIn, writers_of};
+ghost use Rattle.fd_lanes.specs.Jobs.{AllKept, archivers_of, AreKeptFrom, ends_of, IsFresh, IsReady, IsRoom, MayBegin, owners_of, RanAt, Ran, TookIn, writers_of};
 
 use crate::end::{End, Ends};
 use crate::lane::{Job, LaneJob, LaneRoom, Room};
@@ -265,6 +265,7 @@ where
     ensures writers { writers_of result.0.items ≡ writers_of archivers.items }
     ensures owners { owners_of result.0.items ≡ owners_of archivers.items }
     ensures files { AreKeptFrom H.kept result.0.items (length (view pass.old).history) (view pass.new).history }
+    ensures doubted { AllKept H.kept result.0.items (view pass.new).doubts }
 {
     let mut jobs = sent_out(dataset, pass, archivers, rooms, jobs);
     run_all(
@@ -315,6 +316,7 @@ where
     ensures writers { IfOk result (λ o. writers_of o.crew.archivers.items ≡ writers_of crew.archivers.items) }
     ensures owners { IfOk result (λ o. owners_of o.crew.archivers.items ≡ owners_of crew.archivers.items) }
     ensures files { IfOk result (λ o. AreKeptFrom H.kept o.crew.archivers.items o.transcript.before (view o.crew.pass).history) }
+    ensures doubted { IfOk result (λ o. AllKept H.kept o.crew.archivers.items (view o.crew.pass).doubts) }
     ensures own_err { IfErr result (λ e. IsSame crew.pass e.0.pass × Keeps (view crew.pass) (view e.0.pass)) }
     ensures calm_err { IfErr result (λ e. ((view e.0.pass).amount ≡ (view crew.pass).amount) × ((view e.0.pass).doubts ≡ (view crew.pass).doubts)) }
     ensures archivers_err { IfErr result (λ e. e.0.archivers ≡ crew.archivers) }

@@ -13,7 +13,7 @@ ghost use Rattle.fd_lanes.specs.Acts as acts;
 ghost use Rattle.fd_lanes.specs.Acts.{AllFitting, Fitting, act_of, acts_of, asked_keys};
 ghost use Rattle.fd_lanes.specs.Walks.{Stand};
 ghost use Rattle.fd_core.specs.declared.batch.Listing.{Listing};
-ghost use Rattle.fd_lanes.specs.Fits.{Fits, GotAs, IsRoomy, Keeps, KeepsOn, Moves, StaysOf};
+ghost use Rattle.fd_lanes.specs.Fits.{Fits, GotAs, IsRoomy, IsWaitingDoubt, Keeps, KeepsOn, Moves, StaysOf};
 ghost use Rattle.fd_lanes.specs.Jobs.{HasRoom, MayBegin, RanJob};
 
 use crate::end::End;
@@ -46,6 +46,7 @@ where
     ensures stays { StaysOf archiver.old archiver.new }
     ensures moves { (v : View) (s : Stand) → Fits archiver.old v s → Moves archiver.old archiver.new v v s (acts.Put (record { key = file_key (seen_place place.now); bytes = bytes.now })) result }
     ensures kept { (history : List Listing) → KeepsOn H.kept archiver.old archiver.new history result }
+    ensures doubted { (doubts : List Listing) → IsWaitingDoubt archiver.old doubts → IsWaitingDoubt archiver.new doubts }
 {
     match archiver.archive(place, bytes) {
         Ok(()) => End::PutOk,
@@ -74,6 +75,7 @@ where
     ensures stays { StaysOf archiver.old archiver.new }
     ensures moves { (s : Stand) → Fits archiver.old (view pass.old) s → Moves archiver.old archiver.new (view pass.old) (view pass.new) s acts.Flush result }
     ensures kept { KeepsOn H.kept archiver.old archiver.new (view pass.new).history result }
+    ensures doubted { IsWaitingDoubt archiver.old (view pass.old).doubts → IsWaitingDoubt archiver.new (view pass.new).doubts }
 {
     match archiver.flush(rt, alloc, dataset, pass) {
         Ok(Flush::Nothing) => End::Nothing,
@@ -148,6 +150,7 @@ where
     ensures ends { job.new.ends ≡ job.old.ends }
     ensures moves { (s : Stand) → Fits job.old.archiver (view job.old.pass) s → Moves job.old.archiver job.new.archiver (view job.old.pass) (view job.new.pass) s (act_of schema.now messages.now (map seen_place places.now) step.now) result }
     ensures kept { KeepsOn H.kept job.old.archiver job.new.archiver (view job.new.pass).history result }
+    ensures doubted { IsWaitingDoubt job.old.archiver (view job.old.pass).doubts → IsWaitingDoubt job.new.archiver (view job.new.pass).doubts }
 {
     every_later_snapshot();
     match step {
@@ -204,4 +207,5 @@ where
         number += 1;
     }
     gate.pass(rt, lane, number);
+    job.archiver.waiting_is_kept();
 }

@@ -171,7 +171,18 @@ module _ {F D H : Type 0} (has : D → Option Contents) (kept : H → Option (Fi
           go : (flushed : List (List Pair)) → AlikeTables whole (t0 ++ flushed) → (c : List ℕ) → ListsOrDoubted sc.dataset back.entries po.pass.doubts c
               → HoldBatches (folder_at t sc.dataset).files (listed sc.dataset c) (t0 ++ flushed) ⊎ HasOneMore sc.dataset (folder_at t sc.dataset).files c (t0 ++ flushed) (λ l. IsDoubt l before (all_acts rules messages po.places sc.lanes) ends)
           go flushed alike c (inl lists) = inl (whole, ap (batches_listed (folder_at t sc.dataset).files) lists ∙ listed_whole, alike)
-          go flushed alike c (inr d) = inr (record { entries = back.entries; more = d.0; lists = d.2; holds = (whole, listed_whole, alike); doubted = po.ran.doubts d.0 d.1 })
+          go flushed alike c (inr d) =
+              let files = stands_back kept u po.archivers (has po.last.folder) d.0 bk differ all_told_true po.archivers (λ w i. i) (po.doubted d.0 d.1) in
+              inr (record {
+                entries = back.entries;
+                more = d.0;
+                lists = d.2;
+                holds = (whole, listed_whole, alike);
+                doubted = po.ran.doubts d.0 d.1;
+                batch = files.0;
+                batch_is = files.1;
+                kept = subst (λ (fs : FileName → Option (List ℕ)). batch_of (files_of fs d.0.entry) ≡ Some files.0) (sym back.files_are) files.2;
+              })
 
     pub played : Played rules messages sc before ends s t
     played = record {

@@ -31,7 +31,7 @@ use Rattle.fd_lanes.specs.declared.end.End.{End}
 use Rattle.fd_lanes.specs.Acts.{ArePlaces, all_acts}
 use Rattle.fd_lanes.specs.Fits.{Keeps}
 use Rattle.fd_numbers.specs.Numbers.{Differ}
-use Rattle.fd_lanes.specs.Jobs.{AreKeptFrom, MayBegin, Ran, owners_of, writers_of}
+use Rattle.fd_lanes.specs.Jobs.{AllKept, AreKeptFrom, MayBegin, Ran, owners_of, writers_of}
 use Rattle.fd_play.specs.Plays.{HoldsOpened, HoldsSame, IsPlain, IsUnopened, Played, PlayedOpen}
 use Rattle.fd_play.specs.Staff.{HandsBack, IsSole, KeepsOlder, Staffs, Tried}
 use Rattle.fd_play.proofs.Crewing.{may_begin, lent_many, lent_one, staff_datasets, staff_later}
@@ -107,9 +107,9 @@ module _ {D H X Y : Type 0} (has : D → Option Contents) (kept : H → Option (
 
   -- the lanes ran
   pub played_open : {F : Type 0} (rules : List Rule) (messages : List (List ℕ)) (sc : Scripted) (before : ℕ) (ends : List (List (End F))) (places : List Texts) (old new : Option Holdings) → IsOf b p → IsSame p q → owners_of vs ≡ owners_of ws → ArePlaces rules messages sc.lanes places
-      → Ran (view p) (view q) before (all_acts rules messages places sc.lanes) ends → AreKeptFrom kept vs before (view q).history
+      → Ran (view p) (view q) before (all_acts rules messages places sc.lanes) ends → AreKeptFrom kept vs before (view q).history → AllKept kept vs (view q).doubts
       → ((c : BoardId) (d : OpenDataset D) → IsSole m c d → WhereTold old new (HandsBack has kept (record d { pass = Some (seat_of q) }) vs)) → PlayedOpen has kept rules messages sc before ends b h old new
-  played_open rules messages sc before ends places old new own same owners are ran files back = record {
+  played_open rules messages sc before ends places old new own same owners are ran files doubted back = record {
     last = record ch.after { pass = Some (seat_of q) };
     first = view p;
     pass = view q;
@@ -126,6 +126,7 @@ module _ {D H X Y : Type 0} (has : D → Option Contents) (kept : H → Option (
     are_places = are;
     ran = ran;
     files = files;
+    doubted = doubted;
     back = back b ch.after its_sole;
   }
 

@@ -17,14 +17,15 @@ use Rattle.fd_archiver.specs.Writing.{Writing}
 use Rattle.fd_recovery.specs.declared.fault.OpenFault.{OpenFault}
 use Rattle.fd_recovery.specs.declared.fault.OpenFault.TheVariants as faults
 use Rattle.fd_recovery.specs.Damages.{IsFirst, damages}
-use Rattle.fd_recovery.specs.Recovered.{WithTable, batches_listed}
+use Rattle.fd_segment.specs.Held.{batch_of}
+use Rattle.fd_recovery.specs.Recovered.{WithTable, batches_listed, files_of}
 use Rattle.fd_library.specs.Open.{OpenDataset, OpenDatasets}
 use Rattle.fd_library.specs.Stores.{held_of, held_with}
 use Rattle.fd_script.specs.declared.script.Lane.{Lane}
 use Rattle.fd_script.specs.Scripts.{Scripted}
 use Rattle.fd_lanes.specs.declared.end.End.{End}
 use Rattle.fd_lanes.specs.Acts.{ArePlaces, all_acts}
-use Rattle.fd_lanes.specs.Jobs.{AreKeptFrom, Ran, owners_of, writers_of}
+use Rattle.fd_lanes.specs.Jobs.{AllKept, AreKeptFrom, Ran, owners_of, writers_of}
 use Rattle.fd_lanes.specs.Legal.{AllSound, IsDoubt, Legal}
 use Rattle.fd_lanes.specs.Tables.{AlikeTables}
 use Rattle.fd_play.specs.Staff.{HandsBack, IsSole, IsStaff}
@@ -47,13 +48,16 @@ abbrev pub HoldBatches : (FileName → Option (List ℕ)) → Result (List Entry
 HoldBatches files es t = (u : List (List Pair)) × (batches_listed files es ≡ Some u) × AlikeTables u t
 
 -- The table's bytes list the batches, and behind them one entry more: that of what a lane has pending of which a flush
--- failed since its last listed one.
+-- failed since its last listed one. Its files are there too, and stand for that batch.
 pub record HasOneMore (name : List ℕ) (files : FileName → Option (List ℕ)) (c : List ℕ) (t : List (List Pair)) (IsDoubted : Listing → Type 0) : Type 0 where
   pub entries : List Entry
   pub more : Listing
   pub lists : listed name c ≡ Ok (entries ++ more.entry ∷ [])
   pub holds : HoldBatches files (Ok entries) t
   pub doubted : IsDoubted more
+  pub batch : List Pair
+  pub batch_is : more.batch ≡ Some batch
+  pub kept : batch_of (files_of files more.entry) ≡ Some batch
 
 module _ {F : Type 0} where
   -- The lanes of a script ran over a dataset that held these batches: how their steps ended is legal, and each image of the
@@ -92,6 +96,7 @@ pub record PlayedOpen {F D H : Type 0} (has : D → Option Contents) (kept : H �
   pub are_places : ArePlaces rules messages s.lanes places
   pub ran : Ran first pass before (all_acts rules messages places s.lanes) ends
   pub files : AreKeptFrom kept archivers before pass.history
+  pub doubted : AllKept kept archivers pass.doubts
   pub back : WhereTold old new (HandsBack has kept last archivers)
 
 -- a fault or want of memory

@@ -43,7 +43,7 @@ returns-in-Ok-clause-played g c = λ b h st o.
     let own = own_first c.args.library b st.now c.seat-pass.result st.sole c.seat-pass.ensures.own in
     played_open g.S.Folder.Folder.has g.S.Folder.Shelf.Shelf.kept c.args.script.now.dataset b h c.args.library c.seat-pass.new.self c.args.archivers.items c.in-Ok.outcome.crew.archivers.items c.seat-pass.result c.in-Ok.outcome.crew.pass st o c.seat-pass.ensures.change
     c.args.schema.now c.args.messages.now c.args.script.now c.in-Ok.outcome.transcript.before c.in-Ok.outcome.transcript.lanes (map seen_place c.args.places.now) (g.S.Store.has c.args.store.now) (g.S.Store.has c.end_crew.new.store)
-    own e.own e.owners c.requires.places e.ran e.files c.end_crew.ensures.back
+    own e.own e.owners c.requires.places e.ran e.files e.doubted c.end_crew.ensures.back
 
 pub returns-in-Err-clause-idle : goal.returns-in-Err-clause-idle
 returns-in-Err-clause-idle g c = λ b h st o.
