@@ -51,6 +51,7 @@ uses (commands.Retrieve root workers) is = absurd is
 uses (commands.List root) is = tt
 uses (commands.Axes root) is = tt
 uses (commands.Stats root) is = tt
+uses (commands.Session root) is = absurd is
 
 opens : (command : Command) → IsListing command → (h : Holdings) (names : List (List ℕ)) (octets name : List ℕ) → Contains names name → Opens command h names octets name
 opens (commands.Pick wanted) is h names octets name c = absurd is
@@ -63,6 +64,7 @@ opens (commands.Retrieve root workers) is h names octets name c = absurd is
 opens (commands.List root) is h names octets name c = c
 opens (commands.Axes root) is h names octets name c = c
 opens (commands.Stats root) is h names octets name c = c
+opens (commands.Session root) is h names octets name c = absurd is
 
 early_is : (command : Command) → IsListing command → (h : Holdings) (names : List (List ℕ)) (octets : List ℕ) → early command h names octets ≡ output_early (outcome command h names octets)
 early_is (commands.Pick wanted) is h names octets = absurd is
@@ -75,6 +77,7 @@ early_is (commands.Retrieve root workers) is h names octets = absurd is
 early_is (commands.List root) is h names octets = refl
 early_is (commands.Axes root) is h names octets = refl
 early_is (commands.Stats root) is h names octets = refl
+early_is (commands.Session root) is h names octets = absurd is
 
 leaves_by : (command : Command) → IsListing command → (s : Status) (calm full : Type 0) (input left : Option (List ℕ)) (before now : Option Holdings) → WhereTold before now Stays → WhereTold before now (Leaves command s calm full input left)
 leaves_by (commands.Pick wanted) is s calm full input left before now stays = absurd is
@@ -87,6 +90,7 @@ leaves_by (commands.Retrieve root workers) is s calm full input left before now 
 leaves_by (commands.List root) is s calm full input left before now stays = stays
 leaves_by (commands.Axes root) is s calm full input left before now stays = stays
 leaves_by (commands.Stats root) is s calm full input left before now stays = stays
+leaves_by (commands.Session root) is s calm full input left before now stays = absurd is
 
 -- what holds where the objects tell
 pub seen_at : (command : Command) (input : Option (List ℕ)) (store : Option Holdings) (P : List ℕ → Holdings → Type 0) → WhereSeen command input store P → (octets : List ℕ) (h : Holdings) → Seen command input octets → store ≡ Some h → P octets h
@@ -100,6 +104,7 @@ seen_at (commands.Retrieve root workers) input store P w octets h d e = w octets
 seen_at (commands.List root) input store P w octets h d e = w octets h d e
 seen_at (commands.Axes root) input store P w octets h d e = w octets h d e
 seen_at (commands.Stats root) input store P w octets h d e = subst (λ o. P o h) (sym d) (w h e)
+seen_at (commands.Session root) input store P w octets h d e = w octets h d e
 
 -- ---- how a listing ends, by its outcome
 

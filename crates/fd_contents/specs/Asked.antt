@@ -67,6 +67,7 @@ IsListing (commands.Retrieve root workers) = ⊥
 IsListing (commands.List root) = Unit {0}
 IsListing (commands.Axes root) = Unit {0}
 IsListing (commands.Stats root) = Unit {0}
+IsListing (commands.Session root) = ⊥
 
 -- of what the input and the store tell, as far as the command asks them
 abbrev pub WhereSeen : Command → Option (List ℕ) → Option Holdings → (List ℕ → Holdings → Type 0) → Type 0
@@ -80,6 +81,7 @@ WhereSeen (commands.Archive root given) input store P = (octets : List ℕ) (h :
 WhereSeen (commands.Retrieve root workers) input store P = (octets : List ℕ) (h : Holdings) → input ≡ Some octets → store ≡ Some h → P octets h
 WhereSeen (commands.List root) input store P = (octets : List ℕ) (h : Holdings) → input ≡ Some octets → store ≡ Some h → P octets h
 WhereSeen (commands.Axes root) input store P = (octets : List ℕ) (h : Holdings) → input ≡ Some octets → store ≡ Some h → P octets h
+WhereSeen (commands.Session root) input store P = (octets : List ℕ) (h : Holdings) → input ≡ Some octets → store ≡ Some h → P octets h
 
 -- A listing is about to begin, which writes these lines: the input was read to its end without a fault, where the command
 -- reads it, and the store, whose count of faults was m and is n, is as it was.

@@ -29,6 +29,7 @@ Seen (commands.Retrieve root workers) input octets = input ≡ Some octets
 Seen (commands.List root) input octets = input ≡ Some octets
 Seen (commands.Axes root) input octets = input ≡ Some octets
 Seen (commands.Stats root) input octets = octets ≡ []
+Seen (commands.Session root) input octets = input ≡ Some octets
 
 module _ (P : List ℕ → Holdings → Holdings → Type 0) (input : Option (List ℕ)) (store after : Option Holdings) where
   of_store : (octets : List ℕ) (s a : Option Holdings) → store ≡ s → after ≡ a → ((h i : Holdings) → store ≡ Some h → after ≡ Some i → P octets h i) → IfSome s (λ h. IfSome a (P octets h))
@@ -52,6 +53,7 @@ module _ (P : List ℕ → Holdings → Holdings → Type 0) (input : Option (Li
   where_seen (commands.List root) uses all = of_input input refl all
   where_seen (commands.Axes root) uses all = of_input input refl all
   where_seen (commands.Stats root) uses all = of_store [] store after refl refl (λ h i. all [] h i refl)
+  where_seen (commands.Session root) uses all = tt
 
 module _ (command : Command) (uses : UsesStore command) (store : Object Holdings) (input output report : Object (List ℕ)) (result : Status) where
   abbrev pub Fs : Failures

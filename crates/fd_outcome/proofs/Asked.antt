@@ -31,6 +31,7 @@ module _ (P Q : List ℕ → Holdings → Holdings → Type 0) (to : (octets : L
   where_asked (commands.List root) input store after p = of_both input store after p
   where_asked (commands.Axes root) input store after p = of_both input store after p
   where_asked (commands.Stats root) input store after p = of_store [] store after p
+  where_asked (commands.Session root) input store after p = tt
 
 -- a fact of all octets and all stores
 module _ (P : List ℕ → Holdings → Holdings → Type 0) (all : (octets : List ℕ) (h i : Holdings) → P octets h i) where
@@ -58,3 +59,4 @@ module _ (P : List ℕ → Holdings → Holdings → Type 0) (all : (octets : Li
   asked_all (commands.List root) input store after = all_both input store after
   asked_all (commands.Axes root) input store after = all_both input store after
   asked_all (commands.Stats root) input store after = all_store [] store after
+  asked_all (commands.Session root) input store after = tt

@@ -49,6 +49,7 @@ leaves_idle (commands.Retrieve root workers) s idle calm full input left h = sta
 leaves_idle (commands.List root) s idle calm full input left h = stays h
 leaves_idle (commands.Axes root) s idle calm full input left h = stays h
 leaves_idle (commands.Stats root) s idle calm full input left h = stays h
+leaves_idle (commands.Session root) s idle calm full input left h = tt
 
 pub idle_store : (command : Command) (s : Status) → IsIdle s → (calm full : Type 0) (input left : Option (List ℕ)) (has : Option Holdings) → WhereTold has has (Leaves command s calm full input left)
 idle_store command s idle calm full input left None = tt

@@ -82,6 +82,7 @@ module _ (h : Holdings) (names : List (List ℕ)) (input : List ℕ) where
   within (commands.List root) = whole_early (outcome (commands.List root) h names input)
   within (commands.Axes root) = whole_early (outcome (commands.Axes root) h names input)
   within (commands.Stats root) = whole_early (outcome (commands.Stats root) h names input)
+  within (commands.Session root) = tt
 
 -- nothing was read or written, and then the report took the line, or a front of it
 pub starved : (command : Command) (result : Status) (has : Option Holdings) (sm sn : ℕ) (input left : Option (List ℕ)) (im im' : ℕ) (a : Option (List ℕ)) (km km' : ℕ) (c d : Option (List ℕ)) (m n : ℕ)

@@ -121,7 +121,8 @@ abbrev pub AmongTaken : List keys.Pair → Result (List Rule) Cause → List ℕ
 AmongTaken given (Ok rules) input name = Contains (datasets_in (taken rules given input).stored) name
 AmongTaken given (Err cause) input name = ⊥
 
--- the command opens the dataset: `retrieve` those of the keys, `archive` those of the messages, the listings all
+-- the command opens the dataset: `retrieve` those of the keys, `archive` those of the messages, the listings all. Of a session
+-- that is said with what it does.
 abbrev pub Opens : Command → Holdings → List (List ℕ) → List ℕ → List ℕ → Type 0
 Opens (commands.Pick wanted) h names input name = ⊥
 Opens commands.Describe h names input name = ⊥
@@ -133,6 +134,7 @@ Opens (commands.Retrieve root workers) h names input name = AmongAsked (asked_of
 Opens (commands.List root) h names input name = Contains names name
 Opens (commands.Axes root) h names input name = Contains names name
 Opens (commands.Stats root) h names input name = Contains names name
+Opens (commands.Session root) h names input name = ⊥
 
 -- the command calls the store
 abbrev pub UsesStore : Command → Type 0
@@ -146,6 +148,7 @@ UsesStore (commands.Retrieve root workers) = Unit {0}
 UsesStore (commands.List root) = Unit {0}
 UsesStore (commands.Axes root) = Unit {0}
 UsesStore (commands.Stats root) = Unit {0}
+UsesStore (commands.Session root) = Unit {0}
 
 -- the command stores fields
 abbrev pub StoresFields : Command → Type 0
@@ -159,6 +162,7 @@ StoresFields (commands.Retrieve root workers) = ⊥
 StoresFields (commands.List root) = ⊥
 StoresFields (commands.Axes root) = ⊥
 StoresFields (commands.Stats root) = ⊥
+StoresFields (commands.Session root) = Unit {0}
 
 -- the line names what is broken in a dataset that the command opens
 abbrev pub TellsDamage : Command → Holdings → List (List ℕ) → List ℕ → List ℕ → Type 0
@@ -184,7 +188,8 @@ troubles command failed h i names input Limit text = StoresFields command × (te
 abbrev pub nothing_held : Holdings
 nothing_held = record { schema = None; folders = λ name. None }
 
--- where the input and the store tell, as far as the command asks them; the store before the command and after it
+-- Where the input and the store tell, as far as the command asks them; the store before the command and after it. What a
+-- session makes of them hangs on its lanes, and is said by itself.
 abbrev pub WhereAsked : Command → Option (List ℕ) → Option Holdings → Option Holdings → (List ℕ → Holdings → Holdings → Type 0) → Type 0
 WhereAsked (commands.Pick wanted) input store after P = IfSome input (λ octets. P octets nothing_held nothing_held)
 WhereAsked commands.Describe input store after P = IfSome input (λ octets. P octets nothing_held nothing_held)
@@ -196,6 +201,7 @@ WhereAsked (commands.Retrieve root workers) input store after P = IfSome input (
 WhereAsked (commands.List root) input store after P = IfSome input (λ octets. IfSome store (λ h. IfSome after (P octets h)))
 WhereAsked (commands.Axes root) input store after P = IfSome input (λ octets. IfSome store (λ h. IfSome after (P octets h)))
 WhereAsked (commands.Stats root) input store after P = IfSome store (λ h. IfSome after (P [] h))
+WhereAsked (commands.Session root) input store after P = Unit {0}
 
 -- What a status says of a command, of its input and of its store.
 abbrev pub Runs : Command → Status → Object Holdings → Object (List ℕ) → Object (List ℕ) → Object (List ℕ) → Type 0
@@ -238,6 +244,7 @@ Calm command Limit input output report = AreCalm input output ⊎ (StoresFields 
 abbrev pub ReadsOut : Command → Option (List ℕ) → Option (List ℕ) → Type 0
 ReadsOut (commands.Generate count) before after = after ≡ before
 ReadsOut (commands.Stats root) before after = after ≡ before
+ReadsOut (commands.Session root) before after = IfSome before (λ octets. after ≡ Some [])
 ReadsOut (commands.Pick wanted) before after = IfSome before (λ octets. after ≡ Some [])
 ReadsOut commands.Describe before after = IfSome before (λ octets. after ≡ Some [])
 ReadsOut (commands.Values decimals) before after = IfSome before (λ octets. after ≡ Some [])
@@ -318,3 +325,4 @@ Leaves (commands.Retrieve root workers) s calm full input left h i = Stays h i
 Leaves (commands.List root) s calm full input left h i = Stays h i
 Leaves (commands.Axes root) s calm full input left h i = Stays h i
 Leaves (commands.Stats root) s calm full input left h i = Stays h i
+Leaves (commands.Session root) s calm full input left h i = Unit {0}

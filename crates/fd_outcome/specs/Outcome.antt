@@ -141,6 +141,7 @@ outcome (commands.Retrieve root workers) h names input = retrieved h (asked_of h
 outcome (commands.List root) h names input = printed_of list_text h names (rules_of h.schema then λ rules. partial_in input)
 outcome (commands.Axes root) h names input = printed_of axes_text h names (rules_of h.schema then λ rules. partial_in input)
 outcome (commands.Stats root) h names input = stats_printed h names (rules_of h.schema)
+outcome (commands.Session root) h names input = None
 
 -- What the command may have written, or fronts of it, where it stops before its end: `retrieve` of what it finds and of
 -- the lines of its misses; a listing of its lines; `generate` of its messages; `pick`, `create` and `archive` nothing.
@@ -177,3 +178,4 @@ early (commands.Retrieve root workers) h names input = retrieved_early h (asked_
 early (commands.List root) h names input = output_early (outcome (commands.List root) h names input)
 early (commands.Axes root) h names input = output_early (outcome (commands.Axes root) h names input)
 early (commands.Stats root) h names input = output_early (outcome (commands.Stats root) h names input)
+early (commands.Session root) h names input = nothing_early

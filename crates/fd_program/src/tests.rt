@@ -1,6 +1,8 @@
 // The top call over objects in memory, and once over real files.
 ghost use Rattle.std.specs.Prelude.{◌≡◌, List, ℕ, false};
 
+mod sessions;
+
 use crate::Open;
 use crate::top::fdb;
 use fd_disk::Store;

@@ -9,6 +9,7 @@ ghost use Rattle.fd_io.specs.Streams.{Takes};
 ghost use Rattle.fd_outcome.specs.Causes.{table_full};
 ghost use Rattle.fd_outcome.specs.Objects.{object};
 ghost use Rattle.fd_outcome.specs.Ran.{Ran};
+ghost use Rattle.fd_session.specs.Sessions.{OfSession, SessionRan};
 
 use fd_archive::archive;
 use fd_contents::{axes, list, stats};
@@ -16,6 +17,7 @@ use fd_disk::{Folder, Sealed, Shelf, Store};
 use fd_io::{Gate, Sink, Source};
 use fd_outcome::{Listing, Status, tell, tell_no_memory};
 use fd_retrieve::retrieve;
+use fd_session::session;
 use fd_streams::{create, generate, pick, write_list};
 use fd_words::{Command, read_command};
 use std::alloc::Global;
@@ -80,6 +82,10 @@ where
         → ¬ (Rose (S.faults store.old) (S.faults store.new))
         → IfSome (command_of (texts words.now)) (λ command. Completes command result (I.left input.old) (S.has store.old) (S.has store.new)) }
 
+    // A session of a script: why no lane ran, or how the steps of its lanes ended, over the table before and the batches that
+    // were listed, and what the store holds then.
+    ensures session { IfSome (command_of (texts words.now)) (λ command. OfSession command (SessionRan F result (object (S.has store.old) (S.has store.new) (S.faults store.old) (S.faults store.new)) (object (I.left input.old) (I.left input.new) (I.faults input.old) (I.faults input.new)) (object (K.taken output.old) (K.taken output.new) (K.faults output.old) (K.faults output.new)) (object (E.taken report.old) (E.taken report.new) (E.faults report.old) (E.faults report.new)))) }
+
     // A fault is told only where a count rose.
     ensures input_fault { result ≡ Status.InputFault → Rose (I.faults input.old) (I.faults input.new) }
     ensures output_fault { result ≡ Status.OutputFault → Rose (K.faults output.old) (K.faults output.new) ⊎ Rose (E.faults report.old) (E.faults report.new) }
@@ -116,6 +122,7 @@ where
     requires home { (name : List ℕ) → S.out store.old name ≡ false }
     requires within { IsWithinLimits command.now }
     ensures ran { Ran command.now result (object (S.has store.old) (S.has store.new) (S.faults store.old) (S.faults store.new)) (object (I.left input.old) (I.left input.new) (I.faults input.old) (I.faults input.new)) (object (K.taken output.old) (K.taken output.new) (K.faults output.old) (K.faults output.new)) (object (E.taken report.old) (E.taken report.new) (E.faults report.old) (E.faults report.new)) }
+    ensures session { OfSession command.now (SessionRan F result (object (S.has store.old) (S.has store.new) (S.faults store.old) (S.faults store.new)) (object (I.left input.old) (I.left input.new) (I.faults input.old) (I.faults input.new)) (object (K.taken output.old) (K.taken output.new) (K.faults output.old) (K.faults output.new)) (object (E.taken report.old) (E.taken report.new) (E.faults report.old) (E.faults report.new))) }
     ensures home { (name : List ℕ) → S.out store.new name ≡ false }
 {
     match command {
@@ -135,5 +142,6 @@ where
         Command::List(root) => list(rt, alloc, root, store, input, output, report),
         Command::Axes(root) => axes(rt, alloc, root, store, input, output, report),
         Command::Stats(root) => stats(rt, alloc, root, store, output, report),
+        Command::Session(root) => session(rt, alloc, root, store, input, output, report, gate),
     }
 }

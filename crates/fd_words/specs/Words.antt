@@ -87,12 +87,13 @@ abbrev pub workers_in : Option Text → Option ℕ
 workers_in None = Some 1
 workers_in (Some text) = worker_number text
 
--- the commands that list what a store holds
+-- the commands that have a root and no option, and list what a store holds or run lanes in it
 abbrev pub listing_of : Text → Text → Option Command
 listing_of name root =
     if bytes_eq name (codes "list") then Some (commands.List root)
     else if bytes_eq name (codes "axes") then Some (commands.Axes root)
     else if bytes_eq name (codes "stats") then Some (commands.Stats root)
+    else if bytes_eq name (codes "session") then Some (commands.Session root)
     else None
 
 -- The commands that have a root. A command has its line here, and its words their form, once it is written.
@@ -129,3 +130,4 @@ IsWithinLimits (commands.Retrieve root workers) = (1 ≤ workers) × (workers �
 IsWithinLimits (commands.List root) = Unit {0}
 IsWithinLimits (commands.Axes root) = Unit {0}
 IsWithinLimits (commands.Stats root) = Unit {0}
+IsWithinLimits (commands.Session root) = Unit {0}

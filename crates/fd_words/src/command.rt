@@ -41,6 +41,8 @@ pub enum Command {
     Axes(Root),
     /// A line for each dataset.
     Stats(Root),
+    /// The lanes of a script, side by side.
+    Session(Root),
 }
 
 /// The command that the words ask for, or none where they have no form.
@@ -122,7 +124,7 @@ fn rooted(
     Ok(listing_of(name, root))
 }
 
-/// A command that lists what a store holds.
+/// A command that lists what a store holds, or runs lanes in it.
 fn listing_of(name: &str, root: Root) -> Option<Command>
     ensures command { result ≡ listing_of name.now root }
     ensures within { IfSome result IsWithinLimits }
@@ -135,6 +137,9 @@ fn listing_of(name: &str, root: Root) -> Option<Command>
     }
     if name == "stats" {
         return Some(Command::Stats(root));
+    }
+    if name == "session" {
+        return Some(Command::Session(root));
     }
     None
 }

@@ -1,6 +1,7 @@
 use Rattle.std.proofs.Common.{sym, subst}
 use Rattle.fd_outcome.specs.Objects.{object}
 use Rattle.fd_outcome.specs.Ran.{Ran}
+use Rattle.fd_session.proofs.Commands.{session_ran}
 use Rattle.fd_program.proofs.top.run.Goals as goal
 
 pub returns-in-Pick-clause-ran : goal.returns-in-Pick-clause-ran
@@ -32,3 +33,39 @@ returns-in-Axes-clause-ran g c = subst (λ command. Ran command c.axes.result (o
 
 pub returns-in-Stats-clause-ran : goal.returns-in-Stats-clause-ran
 returns-in-Stats-clause-ran g c = subst (λ command. Ran command c.stats.result (object (g.S.Store.has c.args.store.now) (g.S.Store.has c.stats.new.store) (g.S.Store.faults c.args.store.now) (g.S.Store.faults c.stats.new.store)) (object (g.I.Source.left c.args.input.now) (g.I.Source.left c.args.input.now) (g.I.Source.faults c.args.input.now) (g.I.Source.faults c.args.input.now)) (object (g.K.Sink.taken c.args.output.now) (g.K.Sink.taken c.stats.new.output) (g.K.Sink.faults c.args.output.now) (g.K.Sink.faults c.stats.new.output)) (object (g.E.Sink.taken c.args.report.now) (g.E.Sink.taken c.stats.new.report) (g.E.Sink.faults c.args.report.now) (g.E.Sink.faults c.stats.new.report))) (sym c.in-Stats.is) (c.stats.ensures.ran _ _)
+
+pub returns-in-Session-clause-ran : goal.returns-in-Session-clause-ran
+returns-in-Session-clause-ran g c = subst (λ command. Ran command c.session.result (object (g.S.Store.has c.args.store.now) (g.S.Store.has c.session.new.store) (g.S.Store.faults c.args.store.now) (g.S.Store.faults c.session.new.store)) (object (g.I.Source.left c.args.input.now) (g.I.Source.left c.session.new.input) (g.I.Source.faults c.args.input.now) (g.I.Source.faults c.session.new.input)) (object (g.K.Sink.taken c.args.output.now) (g.K.Sink.taken c.session.new.output) (g.K.Sink.faults c.args.output.now) (g.K.Sink.faults c.session.new.output)) (object (g.E.Sink.taken c.args.report.now) (g.E.Sink.taken c.session.new.report) (g.E.Sink.faults c.args.report.now) (g.E.Sink.faults c.session.new.report))) (sym c.in-Session.is) (session_ran _ _ _ _ _ _ _ c.session.ensures.ran)
+
+pub returns-in-Session-clause-session : goal.returns-in-Session-clause-session
+returns-in-Session-clause-session g c = rw c.in-Session.is c.session.ensures.ran
+
+pub returns-in-Pick-clause-session : goal.returns-in-Pick-clause-session
+returns-in-Pick-clause-session g c = rw c.in-Pick.is tt
+
+pub returns-in-Describe-clause-session : goal.returns-in-Describe-clause-session
+returns-in-Describe-clause-session g c = rw c.in-Describe.is tt
+
+pub returns-in-Values-clause-session : goal.returns-in-Values-clause-session
+returns-in-Values-clause-session g c = rw c.in-Values.is tt
+
+pub returns-in-Generate-clause-session : goal.returns-in-Generate-clause-session
+returns-in-Generate-clause-session g c = rw c.in-Generate.is tt
+
+pub returns-in-Create-clause-session : goal.returns-in-Create-clause-session
+returns-in-Create-clause-session g c = rw c.in-Create.is tt
+
+pub returns-in-Archive-clause-session : goal.returns-in-Archive-clause-session
+returns-in-Archive-clause-session g c = rw c.in-Archive.is tt
+
+pub returns-in-Retrieve-clause-session : goal.returns-in-Retrieve-clause-session
+returns-in-Retrieve-clause-session g c = rw c.in-Retrieve.is tt
+
+pub returns-in-List-clause-session : goal.returns-in-List-clause-session
+returns-in-List-clause-session g c = rw c.in-List.is tt
+
+pub returns-in-Axes-clause-session : goal.returns-in-Axes-clause-session
+returns-in-Axes-clause-session g c = rw c.in-Axes.is tt
+
+pub returns-in-Stats-clause-session : goal.returns-in-Stats-clause-session
+returns-in-Stats-clause-session g c = rw c.in-Stats.is tt

@@ -1,0 +1,114 @@
+//! Sessions over a store in memory.
+use super::{CREATE, CREATED, FIELD, NEVER, Row, SCHEMA, STATS, check_failing, check_rows, told};
+use fd_disk_mem::{MemStore, Op};
+use fd_outcome::Status;
+use std::alloc::{AllocError, Global};
+use std::test::Fail;
+
+const SESSION: [&str; 2] = ["session", "s"];
+
+/// One lane, which gets a field before it lists it, and after.
+const SCRIPT: &str = "dataset class=od,expver=0001,date=20240101,time=0000
+lane a class=od,expver=0001
+put 1
+get retrieve,class=od,expver=0001,date=20240101,time=00,centre=98,type=1,levtype=100,param=0.0.0,step=0,levelist=100000
+flush
+get retrieve,class=od,expver=0001,date=20240101,time=00,centre=98,type=1,levtype=100,param=0.0.0,step=0,levelist=100000
+messages
+";
+
+const TRANSCRIPT: &str = "before 0
+history a.1
+a 1 put ok
+a 2 get 0
+miss
+a 3 flush 1
+a 4 get 1
+found 183
+";
+
+/// A lane that puts a second message.
+const SECOND: &str = "dataset class=od,expver=0001,date=20240101,time=0000
+lane a class=od,expver=0001
+put 2
+messages
+";
+
+const TABLE: &str = "class=od,expver=0001,date=20240101,time=0000/toc";
+
+const LISTED: &[u8] =
+    b"class=od,expver=0001,date=20240101,time=0000 entries 1 fields 1 keys 1 bytes 183\n";
+
+/// The script, and the one field behind it.
+fn with_field(alloc: Global, script: &str) -> Result<Vec<u8>, AllocError> {
+    let mut input = Vec::from_slice(alloc, script.as_bytes())?;
+    input.extend_from_slice(&FIELD)?;
+    Ok(input)
+}
+
+/// A lane sees what it has listed, and not before; what is refused founds no table.
+#[test]
+fn a_lane_sees_what_it_has_listed(rt: HostRuntime) -> Result<(), Fail> {
+    let alloc = rt.alloc();
+    let input = with_field(alloc, SCRIPT)?;
+    let second = with_field(alloc, SECOND)?;
+    let missing = "refused SchemaMissing\n";
+    let rows = [
+        told(&SESSION, &input, Status::Refused, missing),
+        told(&CREATE, SCHEMA, Status::Done, CREATED),
+        told(
+            &SESSION,
+            b"flush\n",
+            Status::Refused,
+            "refused script 1 Dataset\n",
+        ),
+        told(
+            &SESSION,
+            &second,
+            Status::Refused,
+            "refused script 3 Message\n",
+        ),
+        told(&STATS, b"", Status::Done, ""),
+        Row {
+            words: &SESSION,
+            input: &input,
+            status: Status::Done,
+            output: &FIELD,
+            report: TRANSCRIPT,
+        },
+        Row {
+            words: &STATS,
+            input: b"",
+            status: Status::Done,
+            output: LISTED,
+            report: "",
+        },
+    ];
+    check_failing(&rt, alloc, NEVER, &rows)
+}
+
+/// The transcript of the same lane over a table whose listing fails.
+const UNLISTED: &str = "before 0
+history
+a 1 put ok
+a 2 get 0
+miss
+a 3 flush fault
+a 4 get 0
+miss
+disk failed
+";
+
+/// After a fault a lane goes on with its next step.
+#[test]
+fn a_lane_goes_on_after_a_fault(rt: HostRuntime) -> Result<(), Fail> {
+    let alloc = rt.alloc();
+    let input = with_field(alloc, SCRIPT)?;
+    let mut store = MemStore::new(alloc, 65_536, 256)?;
+    store.fail(alloc, TABLE, Op::Sync, 3)?;
+    let rows = [
+        told(&CREATE, SCHEMA, Status::Done, CREATED),
+        told(&SESSION, &input, Status::DiskFault, UNLISTED),
+    ];
+    check_rows(&rt, alloc, &mut store, &rows)
+}

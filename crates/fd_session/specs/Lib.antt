@@ -1,0 +1,9 @@
+pub mod Inputs
+pub mod Splits
+pub mod Split
+pub mod Unaccepted
+pub mod Telling
+pub mod Endings
+pub mod Writes
+pub mod Unopened
+pub mod Sessions
