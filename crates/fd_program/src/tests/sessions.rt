@@ -46,6 +46,17 @@ fn with_field(alloc: Global, script: &str) -> Result<Vec<u8>, AllocError> {
     Ok(input)
 }
 
+/// A run that ends with 0, and writes this on the output and the report.
+fn done<'a>(words: &'a [&'a str], input: &'a [u8], output: &'a [u8], report: &'a str) -> Row<'a> {
+    Row {
+        words,
+        input,
+        status: Status::Done,
+        output,
+        report,
+    }
+}
+
 /// A lane sees what it has listed, and not before; what is refused founds no table.
 #[test]
 fn a_lane_sees_what_it_has_listed(rt: HostRuntime) -> Result<(), Fail> {
@@ -69,20 +80,8 @@ fn a_lane_sees_what_it_has_listed(rt: HostRuntime) -> Result<(), Fail> {
             "refused script 3 Message\n",
         ),
         told(&STATS, b"", Status::Done, ""),
-        Row {
-            words: &SESSION,
-            input: &input,
-            status: Status::Done,
-            output: &FIELD,
-            report: TRANSCRIPT,
-        },
-        Row {
-            words: &STATS,
-            input: b"",
-            status: Status::Done,
-            output: LISTED,
-            report: "",
-        },
+        done(&SESSION, &input, &FIELD, TRANSCRIPT),
+        done(&STATS, b"", LISTED, ""),
     ];
     check_failing(&rt, alloc, NEVER, &rows)
 }
