@@ -1,6 +1,6 @@
 #!/usr/bin/env bash
 # A first walk through the store: makes one in a new folder, archives the sample stream, retrieves all of it, compares the
-# bytes, and shows what the store holds. FDB names the program, where it isn't to be built here; a folder may be given.
+# bytes, shows what the store holds, and runs a writer and a reader side by side in it. FDB names the program, where it isn't to be built here; a folder may be given.
 set -eu
 here=$(cd "$(dirname "$0")" && pwd)
 fdb=${FDB:-$here/../fdb}
@@ -24,6 +24,10 @@ step "echo list,levelist=85000 | fdb list STORE"
 echo list,levelist=85000 | "$fdb" list "$store"
 step "echo list | fdb axes STORE"
 echo list | "$fdb" axes "$store"
+step "fdb stats STORE"
+"$fdb" stats "$store"
+step "(cat samples/script; fdb generate 2) | fdb session STORE > found.grib2"
+(cat "$here/script"; "$fdb" generate 2) | "$fdb" session "$store" > "$work/found.grib2"
 step "fdb stats STORE"
 "$fdb" stats "$store"
 echo
