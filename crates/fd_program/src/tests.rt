@@ -1,6 +1,7 @@
 // The top call over objects in memory, and once over real files.
 ghost use Rattle.std.specs.Prelude.{◌≡◌, List, ℕ, false};
 
+mod crashes;
 mod sessions;
 
 use crate::Open;
