@@ -26,6 +26,7 @@ fn said<'a>(alloc: Global, words: &'a [&'a str]) -> Result<String, Fail> {
         Some(Command::List(root)) => rooted(alloc, "list", root.as_str()),
         Some(Command::Axes(root)) => rooted(alloc, "axes", root.as_str()),
         Some(Command::Stats(root)) => rooted(alloc, "stats", root.as_str()),
+        Some(Command::Session(root)) => rooted(alloc, "session", root.as_str()),
     }
 }
 
@@ -72,6 +73,7 @@ fn reads_words(rt: HostRuntime) -> Result<(), Fail> {
     check(&rt, alloc, &["list", "s"], "list s")?;
     check(&rt, alloc, &["axes", "s"], "axes s")?;
     check(&rt, alloc, &["stats", "s"], "stats s")?;
+    check(&rt, alloc, &["session", "s"], "session s")?;
     Ok(())
 }
 
