@@ -196,6 +196,7 @@ impl<F: Send, S: Store<F>> Library<F, S> {
         requires { (h : OpenDataset S.Folder) × (slice_get self.old.each number ≡ Some h) × (h.given < 65535) }
         ensures change { Changes number self.old self.new (AsksWriter S.Folder.has S.Folder.faults) }
         ensures new { IfOk result (λ a. Changes number self.old self.new (λ h g. IsNewWriter S.Folder.has room h a × (S.Folder.has g.folder ≡ S.Folder.has h.folder) × (g.lent ≡ h.lent + 1))) }
+        ensures tells { IfOk result (λ a. is_some (S.Folder.Shelf.kept a.shelf) ≡ a.told) }
         ensures refused { IfErr result (λ e. Changes number self.old self.new (λ h g. (g.lent ≡ h.lent) × OnFault e (Rose (S.Folder.faults h.folder) (S.Folder.faults g.folder) ⊎ ShelfFailed S.Folder.Shelf.writer S.Folder.Shelf.faults (h.last + 1)))) }
     {
         self.held[number as usize].archiver(alloc, room)
