@@ -1,5 +1,5 @@
 -- Pairs that are dealt to workers.
-use Rattle.std.proofs.Common.{◌≡◌, ◌≢◌, ◌==◌, ◌≤◌, ◌<◌, ◌+◌, ◌*◌, ◌/◌, ℕ, zero, suc, Bool, true, false, if◌then◌else◌, ◌&&◌, List, [], ◌∷◌, ◌++◌, map, length, All, Option, Some, None, ◌⊎◌, inl, inr, refl, sym, ap, ap₂, subst, ◌∙◌, arith}
+use Rattle.std.proofs.Common.{◌≡◌, ◌==◌, ◌≤◌, ◌<◌, ◌+◌, ◌*◌, ◌/◌, ℕ, zero, suc, Bool, true, false, if◌then◌else◌, ◌&&◌, List, [], ◌∷◌, ◌++◌, length, All, Option, Some, None, ◌⊎◌, inl, inr, refl, sym, ap, ap₂, ◌∙◌, arith}
 use Rattle.std.proofs.lemmas.Bool.Decides.{nat_tests}
 use Rattle.std.proofs.lemmas.Nat.{le-div}
 use Rattle.std.proofs.lemmas.List.Elements.{All-head, All-tail}
@@ -130,13 +130,17 @@ are_as_one deal before marked pairs listed key =
 -- ---- how many batches
 
 -- the sum of what the workers below a number have
-abbrev total : (ℕ → ℕ) → ℕ → ℕ
+abbrev pub total : (ℕ → ℕ) → ℕ → ℕ
 total f zero = 0
 total f (suc n) = total f n + f n
 
 total_same : (f g : ℕ → ℕ) (n : ℕ) → ((w : ℕ) → f w ≡ g w) → total f n ≡ total g n
 total_same f g zero same = refl
 total_same f g (suc n) same = ap₂ (λ (a b : ℕ). a + b) (total_same f g n same) (same n)
+
+pub total_first : (f : ℕ → ℕ) (n : ℕ) → total f (suc n) ≡ f 0 + total (λ w. f (suc w)) n
+total_first f zero = omega arith
+total_first f (suc n) = let e = total_first f n in omega (arith, e)
 
 -- one worker has one more
 abbrev with_one : ℕ → (ℕ → ℕ) → ℕ → ℕ
@@ -192,18 +196,18 @@ all_batches n (m ∷ ms) below =
     ∙ total_one m.worker (λ v. length (batches_by v ms)) n (All-head (λ (m : Marked). m.worker < n) m ms below)
     ∙ ap suc (all_batches n ms (All-tail (λ (m : Marked). m.worker < n) m ms below))
 
-some_pairs : (deal : List ℕ → ℕ) (n : ℕ) (ps : List Pair) → total (λ w. length (dealt_to deal w ps)) n ≤ length ps
+pub some_pairs : (deal : List ℕ → ℕ) (n : ℕ) (ps : List Pair) → total (λ w. length (dealt_to deal w ps)) n ≤ length ps
 some_pairs deal n [] = let e = none_total n in omega arith
 some_pairs deal n (p ∷ ps) =
     let e = total_same (λ w. length (dealt_to deal w (p ∷ ps))) (with_one (deal p.key) (λ v. length (dealt_to deal v ps))) n (dealt_length deal p ps) in
     let up = total_up (deal p.key) (λ v. length (dealt_to deal v ps)) n in
     let rest = some_pairs deal n ps in omega arith
 
-total_bound : (f g : ℕ → ℕ) (n : ℕ) → ((w : ℕ) → w < n → 512 * f w ≤ g w + 512) → 512 * total f n ≤ total g n + 512 * n
+pub total_bound : (f g : ℕ → ℕ) (n : ℕ) → ((w : ℕ) → w < n → 512 * f w ≤ g w + 512) → 512 * total f n ≤ total g n + 512 * n
 total_bound f g zero each = omega arith
 total_bound f g (suc n) each = let rest = total_bound f g n (λ w lt. each w (omega arith)) in let here = each n (omega arith) in omega arith
 
-few_of : (n m k : ℕ) → 512 * n ≤ k + 512 * m → n ≤ m + k / 512
+pub few_of : (n m k : ℕ) → 512 * n ≤ k + 512 * m → n ≤ m + k / 512
 few_of n m k le = go (le_or n m)
   where
     up : (a b : ℕ) → (a ≤ b) ⊎ ((d : ℕ) × (a ≡ b + d)) → (suc a ≤ suc b) ⊎ ((d : ℕ) × (suc a ≡ suc b + d))

@@ -1,11 +1,10 @@
 -- What a worker listed in a dataset, once its pass was joined and its archiver is back.
-use Rattle.std.proofs.Common.{◌≡◌, ◌≢◌, ◌≤◌, ◌<◌, ◌+◌, ◌-◌, ℕ, zero, suc, Bool, true, false, List, [], ◌∷◌, ◌++◌, map, All, length, slice_get, Option, Some, None, is_some, Ok, refl, sym, ap, ap₂, subst, ◌∙◌, arith}
+use Rattle.std.proofs.Common.{◌≡◌, ◌<◌, ◌-◌, ℕ, true, List, [], ◌∷◌, map, All, length, Option, Some, None, is_some, Ok, refl, ap, ap₂, subst, ◌∙◌, arith}
 use mathlib.Core.List.{IsPrefix}
 use Rattle.std.proofs.lemmas.List.Elements.{All-head, All-tail}
 use Rattle.fd_disk.specs.declared.folders.FileName.{FileName}
 use Rattle.fd_disk.specs.declared.folders.FileKind.TheVariants.{Fields, Index}
 use Rattle.fd_disk.specs.Names.{name_of}
-use Rattle.fd_disk.specs.Folders.{Contents, HasBack}
 use Rattle.fd_core.specs.declared.batch.Listing.{Listing}
 use Rattle.fd_core.specs.declared.batch.Pair.{Pair}
 use Rattle.fd_core.specs.declared.table.Entry.{Entry}
@@ -28,7 +27,7 @@ module _ {H : Type 0} (kept : H → Option (FileName → Option (List ℕ))) whe
   sealed_shown w h k [] seen all = tt
   sealed_shown w h k (r ∷ rs) seen all = (get_seen h k (r.0 - 1) (listing r.1.segment) seen all.0.at, sealed_shown w h k rs seen all.1)
 
-  sealed_owned : (w : Writing H) (h : List Listing) (rs : List (ℕ × Sealing)) → AreSealed kept w h rs → AreOwned listing_of writer_of w.writer rs
+  pub sealed_owned : (w : Writing H) (h : List Listing) (rs : List (ℕ × Sealing)) → AreSealed kept w h rs → AreOwned listing_of writer_of w.writer rs
   sealed_owned w h [] all = tt
   sealed_owned w h (r ∷ rs) all = (all.0.writer, sealed_owned w h rs all.1)
 
@@ -44,7 +43,7 @@ module _ {H : Type 0} (kept : H → Option (FileName → Option (List ℕ))) whe
   -- ---- in the folder
 
   -- a segment's two files are in the folder: the entry stands for its batch
-  segment_back : (files kf : FileName → Option (List ℕ)) (s : Standing) (c : List Pair) → ((n : FileName) (bytes : List ℕ) → kf n ≡ Some bytes → files n ≡ Some bytes) → IsKept (Some kf) s → batch_of s.files ≡ Some c
+  pub segment_back : (files kf : FileName → Option (List ℕ)) (s : Standing) (c : List Pair) → ((n : FileName) (bytes : List ℕ) → kf n ≡ Some bytes → files n ≡ Some bytes) → IsKept (Some kf) s → batch_of s.files ≡ Some c
       → batch_of (files_of files s.files.entry) ≡ Some c
   unfolding batch_of
   segment_back files kf s c back kept e = go s.files.index s.files.fields refl refl e
@@ -73,7 +72,7 @@ module _ {H : Type 0} (kept : H → Option (FileName → Option (List ℕ))) whe
 abbrev pub StayOf : ℕ → (FileName → Option (List ℕ)) → (FileName → Option (List ℕ)) → Type 0
 StayOf writer old new = (n : FileName) → n.writer ≡ writer → new n ≡ old n
 
-files_stay : (old new : FileName → Option (List ℕ)) (e : Entry) → StayOf e.writer old new → files_of new e ≡ files_of old e
+pub files_stay : (old new : FileName → Option (List ℕ)) (e : Entry) → StayOf e.writer old new → files_of new e ≡ files_of old e
 files_stay old new e stay = ap₂ (λ (i f : Option (List ℕ)). record { entry = e; index = i; fields = f }) (stay (index_file e) refl) (stay (field_file e) refl)
 
 pub held_stay : (old new : FileName → Option (List ℕ)) (writer : ℕ) (rs : List (ℕ × Sealing)) → StayOf writer old new → AreOwned listing_of writer_of writer rs → Every (IsHeld old) rs → Every (IsHeld new) rs

@@ -1,13 +1,13 @@
 -- What several workers listed, in the order of the numbers.
-use Rattle.std.proofs.Common.{◌≡◌, ◌==◌, ◌≤◌, ◌<◌, ◌+◌, ℕ, zero, suc, Bool, true, false, if◌then◌else◌, List, [], ◌∷◌, ◌++◌, map, length, ◌⊎◌, inl, inr, refl, sym, ap, ap₂, subst, ◌∙◌, arith, length-append}
+use Rattle.std.proofs.Common.{◌≡◌, ◌==◌, ◌≤◌, ◌<◌, ◌+◌, ℕ, zero, suc, Bool, true, false, if◌then◌else◌, List, [], ◌∷◌, ◌++◌, length, ◌⊎◌, inl, inr, refl, sym, ap, ap₂, subst, ◌∙◌, arith, length-append}
 use Rattle.std.proofs.lemmas.List.{length-map}
 use mathlib.Core.List.{map-append}
 use mathlib.Core.Logic.{dite}
 use native.Mathlib.Decide.{ℕ_discrete}
 use Rattle.fd_numbers.specs.Numbers.{Differ, IsIn}
-use Rattle.fd_bulk.specs.Merging.{AllRise, AreMerged, Merged, Rise, joined, lane_at, numbers_from, numbers_in, those}
+use Rattle.fd_bulk.specs.Merging.{AllRise, AreMerged, Merged, Rise, joined, lane_at, numbers_in, those}
 use Rattle.fd_numbers.proofs.Numbers.{all_of_them}
-use Rattle.fd_bulk.proofs.Dealing.{equal_is, equal_not, equal_to}
+use Rattle.fd_bulk.proofs.Dealing.{equal_is, equal_to}
 
 pub in_left : (xs ys : List ℕ) (z : ℕ) → IsIn xs z → IsIn (xs ++ ys) z
 in_left [] ys z i = absurd i

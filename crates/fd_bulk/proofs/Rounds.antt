@@ -1,5 +1,5 @@
 -- What the shares of all workers make of the messages of a round.
-use Rattle.std.proofs.Common.{◌≡◌, ◌==◌, ◌&&◌, ◌||◌, ℕ, zero, suc, ◌+◌, Bool, true, false, if◌then◌else◌, List, [], ◌∷◌, ◌++◌, length, slice_get, Option, Some, None, ◌⊎◌, inl, inr, refl, sym, ap, ap₂, subst, ◌∙◌, arith}
+use Rattle.std.proofs.Common.{◌≡◌, ◌==◌, ◌&&◌, ◌||◌, ℕ, zero, suc, Bool, true, false, if◌then◌else◌, List, [], ◌∷◌, ◌++◌, slice_get, Some, refl, sym, ap, ap₂, ◌∙◌}
 use Rattle.std.specs.Str.{bytes_eq}
 use Rattle.fd_core.specs.declared.batch.Pair.{Pair}
 use Rattle.fd_library.specs.Open.{AreDistinct, among}
@@ -9,7 +9,7 @@ use Rattle.fd_bulk.specs.Dealt.{dealt}
 use Rattle.fd_bulk.specs.Dealing.{dealt_to}
 use Rattle.fd_bulk.specs.Sharing.{AreParcels, IsParcelOf, pair_of, share}
 use Rattle.fd_bulk.specs.declared.round.Parcel.{Parcel}
-use Rattle.fd_bulk.proofs.Dealing.{equal_is, equal_not, equal_to}
+use Rattle.fd_bulk.proofs.Dealing.{equal_not, equal_to}
 
 pub pairs_both : (a b : List Stored) (name : List ℕ) → pairs_for (a ++ b) name ≡ pairs_for a name ++ pairs_for b name
 pairs_both [] b name = refl
@@ -39,7 +39,7 @@ share_both w n (p ∷ a) b = go ((p.worker == w) && (p.dataset == n)) (share_bot
     go false rest = rest
 
 -- a text that stands at a place is one of the texts
-among_at : (names : List (List ℕ)) (i : ℕ) (m : List ℕ) → slice_get names i ≡ Some m → among m names ≡ true
+pub among_at : (names : List (List ℕ)) (i : ℕ) (m : List ℕ) → slice_get names i ≡ Some m → among m names ≡ true
 among_at [] i m at = absurd (cc at)
 among_at (n ∷ names) zero m at = let same : n ≡ m = cc at in ap₂ (λ (a b : Bool). a || b) (ap (bytes_eq m) same ∙ eq_refl m) refl
 among_at (n ∷ names) (suc i) m at = or_right (bytes_eq m n) (among m names) (among_at names i m at)

@@ -1,5 +1,5 @@
 -- A worker's share of a round, up to one of its messages.
-use Rattle.std.proofs.Common.{◌≡◌, ◌==◌, ◌&&◌, ◌<◌, ◌≤◌, ◌+◌, ◌^◌, ℕ, zero, suc, Bool, true, false, if◌then◌else◌, List, [], ◌∷◌, ◌++◌, take, drop, length, get_or, slice_get, slice_set, Option, Some, None, Result, Ok, Err, refl, sym, ap, ap₂, subst, ◌∙◌, arith, append_assoc, append-nil}
+use Rattle.std.proofs.Common.{◌≡◌, ◌==◌, ◌&&◌, ◌<◌, ◌≤◌, ◌+◌, ◌^◌, ℕ, zero, suc, Bool, if◌then◌else◌, List, [], ◌∷◌, ◌++◌, take, drop, length, get_or, slice_get, slice_set, Option, Some, None, Result, Ok, Err, refl, sym, ap, ap₂, subst, ◌∙◌, arith}
 use Rattle.fd_disk.specs.declared.folders.FileName.{FileName}
 use Rattle.fd_core.specs.declared.batch.Pair.{Pair}
 use Rattle.fd_core.specs.Batches.{total}
@@ -11,8 +11,8 @@ use Rattle.fd_archiver.specs.Writing.{Writing}
 use Rattle.fd_bulk.specs.declared.round.Desk.{Desk}
 use Rattle.fd_bulk.specs.declared.round.Parcel.{Parcel}
 use Rattle.fd_bulk.specs.Working.{Filling, Refused, Stage, Stored, Works}
-use Rattle.fd_bulk.specs.Sharing.{AllFit, AllWork, IsFit, IsFullAt, SameMet, StoredAt, pair_of, share}
-use Rattle.fd_bulk.proofs.Dealing.{equal_is, equal_not, equal_to}
+use Rattle.fd_bulk.specs.Sharing.{AllFit, AllWork, IsFit, IsFullAt, SameDesk, SameMet, StaysDesk, StoredAt, pair_of, share}
+use Rattle.fd_bulk.proofs.Dealing.{equal_not, equal_to}
 use Rattle.fd_bulk.proofs.Rounds.{share_both}
 use Rattle.fd_bulk.proofs.Sharing.{refused_stops, stopped_in, stored_at, work_at, work_same}
 use Rattle.fd_bulk.proofs.Storing.{total_both}
@@ -67,11 +67,36 @@ fit_at names (q ∷ ps) zero p all lt is = subst (IsFit names) (sym is) all.0
 fit_at names (q ∷ ps) (suc i) p all lt is = fit_at names ps i p all.1 (omega arith) is
 
 module _ {H X Y : Type 0} where
+  stays_same : (d : Desk (Writing H) (Pass X Y)) → StaysDesk d d
+  stays_same d = record { writer = refl; told = refl; parts = refl; opening = refl }
+
   pub same_met : (ds : List (Option (Desk (Writing H) (Pass X Y)))) → SameMet ds ds
-  same_met ds = λ n d at. (d, at, refl)
+  same_met [] = tt
+  same_met (None ∷ ds) = (tt, same_met ds)
+  same_met (Some d ∷ ds) = (stays_same d, same_met ds)
+
+  desk_on : (x y z : Option (Desk (Writing H) (Pass X Y))) → SameDesk x y → SameDesk y z → SameDesk x z
+  desk_on None None z a b = b
+  desk_on None (Some e) z a b = absurd a
+  desk_on (Some d) None z a b = absurd a
+  desk_on (Some d) (Some e) None a b = absurd b
+  desk_on (Some d) (Some e) (Some f) a b = record { writer = b.writer ∙ a.writer; told = b.told ∙ a.told; parts = b.parts ∙ a.parts; opening = b.opening ∙ a.opening }
 
   pub met_on : (ds es fs : List (Option (Desk (Writing H) (Pass X Y)))) → SameMet ds es → SameMet es fs → SameMet ds fs
-  met_on ds es fs a b = λ n d at. let p = a n d at in let q = b n p.0 p.1 in (q.0, q.1, q.2 ∙ p.2)
+  met_on [] [] fs a b = b
+  met_on [] (e ∷ es) fs a b = absurd a
+  met_on (d ∷ ds) [] fs a b = absurd a
+  met_on (d ∷ ds) (e ∷ es) [] a b = absurd b
+  met_on (d ∷ ds) (e ∷ es) (f ∷ fs) a b = (desk_on d e f a.0 b.0, met_on ds es fs a.1 b.1)
+
+  -- what it had in one dataset went on
+  pub met_there : (ds es : List (Option (Desk (Writing H) (Pass X Y)))) (n : ℕ) (d : Desk (Writing H) (Pass X Y)) → SameMet ds es → slice_get ds n ≡ Some (Some d) → (e : Desk (Writing H) (Pass X Y)) × (slice_get es n ≡ Some (Some e)) × StaysDesk d e
+  met_there [] es n d a at = absurd (cc at)
+  met_there (x ∷ ds) [] n d a at = absurd a
+  met_there (None ∷ ds) (y ∷ es) zero d a at = absurd (cc at)
+  met_there (Some c ∷ ds) (None ∷ es) zero d a at = absurd a.0
+  met_there (Some c ∷ ds) (Some e ∷ es) zero d a at = let one : c ≡ d = cc at in (e, refl, subst (λ (k : Desk (Writing H) (Pass X Y)). StaysDesk k e) one a.0)
+  met_there (x ∷ ds) (y ∷ es) (suc n) d a at = met_there ds es n d a.1 at
 
   -- the same pairs, told otherwise
   pub work_told : (kept : H → Option (FileName → Option (List ℕ))) (s : ℕ → Stage) (p q : ℕ → List Pair) (bs : List BoardId) (ms : List (List ℕ)) (ds : List (Option (Desk (Writing H) (Pass X Y)))) → ((n : ℕ) → q n ≡ p n) → AllWork kept s p 0 bs ms ds → AllWork kept s q 0 bs ms ds
@@ -98,24 +123,18 @@ get_set (z ∷ xs) zero x y at = refl
 get_set (z ∷ xs) (suc n) x y at = get_set xs n x y at
 
 module _ {H X Y : Type 0} where
-  -- the worker has another desk at one place, with the same archiver's number
-  pub met_set : (ds : List (Option (Desk (Writing H) (Pass X Y)))) (n : ℕ) (d e : Desk (Writing H) (Pass X Y)) → slice_get ds n ≡ Some (Some d) → e.archiver.writer ≡ d.archiver.writer → SameMet ds (slice_set ds n (Some e))
+  -- what the worker has at one place went on
+  pub met_set : (ds : List (Option (Desk (Writing H) (Pass X Y)))) (n : ℕ) (d e : Desk (Writing H) (Pass X Y)) → slice_get ds n ≡ Some (Some d) → StaysDesk d e → SameMet ds (slice_set ds n (Some e))
   met_set [] n d e at same = absurd (cc at)
-  met_set (x ∷ ds) zero d e at same = λ m b there. here m b there
-    where
-      here : (m : ℕ) (b : Desk (Writing H) (Pass X Y)) → slice_get (x ∷ ds) m ≡ Some (Some b) → (f : Desk (Writing H) (Pass X Y)) × (slice_get (Some e ∷ ds) m ≡ Some (Some f)) × (f.archiver.writer ≡ b.archiver.writer)
-      here zero b there = let one : d ≡ b = cc (at, there) in (e, refl, same ∙ ap (λ (k : Desk (Writing H) (Pass X Y)). k.archiver.writer) one)
-      here (suc m) b there = (b, there, refl)
-  met_set (x ∷ ds) (suc n) d e at same = λ m b there. past (met_set ds n d e at same) m b there
-    where
-      past : SameMet ds (slice_set ds n (Some e)) → (m : ℕ) (b : Desk (Writing H) (Pass X Y)) → slice_get (x ∷ ds) m ≡ Some (Some b) → (f : Desk (Writing H) (Pass X Y)) × (slice_get (x ∷ slice_set ds n (Some e)) m ≡ Some (Some f)) × (f.archiver.writer ≡ b.archiver.writer)
-      past rest zero b there = (b, there, refl)
-      past rest (suc m) b there = rest m b there
+  met_set (None ∷ ds) zero d e at same = absurd (cc at)
+  met_set (Some c ∷ ds) zero d e at same = let one : c ≡ d = cc at in (subst (λ (k : Desk (Writing H) (Pass X Y)). StaysDesk k e) (sym one) same, same_met ds)
+  met_set (None ∷ ds) (suc n) d e at same = (tt, met_set ds n d e at same)
+  met_set (Some c ∷ ds) (suc n) d e at same = (stays_same c, met_set ds n d e at same)
 
   module _ (kept : H → Option (FileName → Option (List ℕ))) (boards : List BoardId) where
     pub full_at : {F : Type 0} (fault : FlushFault F) (ps : List Pair) (n : ℕ) (ds : List (Option (Desk (Writing H) (Pass X Y)))) (e : Desk (Writing H) (Pass X Y)) → slice_get ds n ≡ Some (Some e) → Refused kept fault ps e.archiver (view e.pass) → IsFullAt fault n ds
     full_at (flushes.Disk f) ps n ds e at r = tt
-    full_at (flushes.TableFull count) ps n ds e at r = (r.1, (e, at, r.2))
+    full_at (flushes.TableFull count) ps n ds e at r = (r.1, (e, at, r.2, r.3))
     full_at flushes.NoMemory ps n ds e at r = tt
 
     -- what a worker has once it stored a message, or didn't

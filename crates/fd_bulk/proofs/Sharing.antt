@@ -1,5 +1,5 @@
 -- A worker's share, message by message.
-use Rattle.std.proofs.Common.{◌≡◌, ◌==◌, ◌&&◌, ℕ, zero, suc, ◌+◌, ◌≤◌, Bool, true, false, if◌then◌else◌, List, [], ◌∷◌, ◌++◌, length, slice_get, slice_set, Option, Some, None, Result, Ok, Err, refl, sym, ap, ap₂, subst, ◌∙◌, arith, append-nil}
+use Rattle.std.proofs.Common.{◌≡◌, ◌&&◌, ℕ, zero, suc, ◌+◌, ◌≤◌, Bool, if◌then◌else◌, List, [], ◌∷◌, ◌++◌, slice_get, slice_set, Option, Some, refl, sym, ap, ap₂, subst, ◌∙◌, arith, append-nil}
 use Rattle.fd_disk.specs.declared.folders.FileName.{FileName}
 use Rattle.fd_core.specs.declared.batch.Pair.{Pair}
 use Rattle.fd_turn.specs.declared.board.Pass.{Pass}
@@ -12,7 +12,7 @@ use Rattle.fd_archiver.specs.declared.fault.FlushFault.{FlushFault}
 use Rattle.fd_archiver.specs.declared.fault.FlushFault.TheVariants as flushes
 use Rattle.fd_bulk.specs.Working.{Filling, Refused, Stage, Stopped, Works}
 use Rattle.fd_bulk.specs.Sharing.{AllWork, DeskWorks, MayWork, pair_of, share, stopped_at}
-use Rattle.fd_bulk.proofs.Dealing.{equal_is, equal_not, equal_to}
+use Rattle.fd_bulk.proofs.Dealing.{equal_not, equal_to}
 
 module _ {H X Y : Type 0} (kept : H → Option (FileName → Option (List ℕ))) where
   -- what a worker has in the dataset at one place

@@ -1,5 +1,5 @@
 -- How far a worker comes in a dataset by one call.
-use Rattle.std.proofs.Common.{◌≡◌, ◌≢◌, ◌⊎◌, inl, inr, ℕ, zero, suc, ◌+◌, ◌-◌, ◌*◌, ◌<◌, ◌≤◌, ◌^◌, Bool, true, List, [], ◌∷◌, ◌++◌, length, slice_get, Option, Some, None, is_some, Result, Ok, Err, refl, sym, ap, ap₂, subst, ◌∙◌, arith, append_assoc, append-nil, length-append}
+use Rattle.std.proofs.Common.{◌≡◌, ◌≢◌, ◌⊎◌, inl, inr, ℕ, zero, suc, ◌+◌, ◌-◌, ◌*◌, ◌<◌, ◌≤◌, ◌^◌, Bool, true, List, [], ◌∷◌, ◌++◌, length, slice_get, Option, Some, None, IfSome, is_some, Result, Ok, Err, refl, sym, ap, subst, ◌∙◌, arith, append_assoc, append-nil, length-append}
 use mathlib.Core.List.{IsPrefix}
 use Rattle.fd_disk.specs.declared.folders.FileName.{FileName}
 use Rattle.fd_disk.specs.declared.folders.FileKind.TheVariants.{Fields, Index}
@@ -24,10 +24,10 @@ use Rattle.fd_archiver.specs.declared.fault.FlushFault.{FlushFault}
 use Rattle.fd_archiver.specs.declared.fault.FlushFault.TheVariants as flushes
 use Rattle.fd_archiver.specs.Causes as causes
 use Rattle.fd_archiver.specs.Flushing as archiver
-use Rattle.fd_archiver.specs.Flushing.{KeepsOthers, Lists, UsesOne}
-use Rattle.fd_archiver.specs.Writing.{IsKept, IsPending, IsPendingIn, IsSealedFrom, Writing, number_of}
+use Rattle.fd_archiver.specs.Flushing.{FailedBefore, KeepsOthers, Lists, UsesOne}
+use Rattle.fd_archiver.specs.Writing.{IsKept, IsPending, IsPendingIn, IsReady, IsSealedFrom, Writing, number_of}
 use Rattle.fd_bulk.specs.Merging.{Rise}
-use Rattle.fd_bulk.specs.Working.{AreSealed, CanPut, Emptied, Filling, Flushed, InDoubt, IsFilled, IsNotFull, IsSealedBy, ListedAll, PutOn, Refused, Sealing, StaysOf, Stopped, Stored, Works, pairs_in}
+use Rattle.fd_bulk.specs.Working.{AreSealed, CanPut, Emptied, Filling, Flushed, HasSealed, InDoubt, IsDoubted, IsFilled, IsNotFull, IsSealedBy, ListedAll, PutOn, Sealing, Stopped, Works, pairs_in}
 use Rattle.fd_bulk.proofs.Filled.{filled, room_at_first}
 
 -- ---- numbers that rise
@@ -98,6 +98,13 @@ kept_on number (Some f) (Some g) s keeps other kept = (
   keeps (name_of s.files.entry.writer s.files.entry.seq Index) other ∙ kept.1,
 )
 
+-- and a shelf that tells what it keeps still does
+tells_on : (number : ℕ) (a b : Option (FileName → Option (List ℕ))) → KeepsOthers number a b → is_some b ≡ is_some a
+tells_on number None None keeps = refl
+tells_on number None (Some f) keeps = absurd keeps
+tells_on number (Some f) None keeps = absurd keeps
+tells_on number (Some f) (Some g) keeps = refl
+
 others_same : (n : ℕ) (o : Option (FileName → Option (List ℕ))) → KeepsOthers n o o
 others_same n None = tt
 others_same n (Some f) = λ m other. refl
@@ -156,6 +163,7 @@ module _ {H : Type 0} (kept : H → Option (FileName → Option (List ℕ))) whe
     free = c.free;
     dataset = c.dataset;
     bounded = c.bounded;
+    tells = c.tells;
   }
 
   pub writer_fits : (pairs : List Pair) (w : Writing H) (v : View) → Works kept Filling pairs w v → w.writer ≤ 65536 * (length v.history + 1)
@@ -194,6 +202,7 @@ module _ {H : Type 0} (kept : H → Option (FileName → Option (List ℕ))) whe
       free = c.free;
       dataset = ap (λ (y : Writing H). y.dataset) rest ∙ c.dataset;
       bounded = omega (arith, c.bounded, ap (λ (y : Writing H). y.writer) rest);
+      tells = ap (λ (y : Writing H). is_some (kept y.shelf)) rest ∙ c.tells ∙ sym (ap (λ (y : Writing H). y.told) rest);
     }
 
   module _ {F : Type 0} (pairs : List Pair) (p : Pair) (w x : Writing H) (v : View) (rest : x ≡ record w { draft = x.draft }) (origin : x.draft.origin ≡ w.draft.origin)
@@ -237,6 +246,9 @@ module _ {H : Type 0} (kept : H → Option (FileName → Option (List ℕ))) whe
 
     bounded_still : x.writer ≤ 65536 * (u.opening + 1)
     bounded_still = omega (arith, c.bounded, stays.writer, opening_same)
+
+    tells_still : is_some (kept x.shelf) ≡ x.told
+    tells_still = tells_on (number_of w) (kept w.shelf) (kept x.shelf) others ∙ c.tells ∙ sym stays.told
 
     room_still : (x.draft.held.keys ≡ 2048) × (x.draft.held.bytes ≡ 131072)
     room_still = (stays.keys ∙ c.room.0, stays.bytes ∙ c.room.1)
@@ -299,6 +311,7 @@ module _ {H : Type 0} (kept : H → Option (FileName → Option (List ℕ))) whe
         free = free_still ∙ c.free;
         dataset = dataset_still;
         bounded = bounded_still;
+        tells = tells_still;
       }
 
       one_at_most : x.last ≤ w.last + 1
@@ -320,10 +333,11 @@ module _ {H : Type 0} (kept : H → Option (FileName → Option (List ℕ))) whe
         free = free_still ∙ c.free;
         dataset = dataset_still;
         bounded = bounded_still;
+        tells = tells_still;
       }
 
     -- nothing was listed
-    pub stopped : u.amount ≡ v.amount → number_of x ≡ number_of w → ((b : List Pair) → IsPending w b → IsPending x b) → InDoubt Stopped x u.doubts → Works kept Stopped pairs x u
+    pub stopped : u.amount ≡ v.amount → number_of x ≡ number_of w → ((b : List Pair) → IsPending w b → IsPending x b) → InDoubt kept Stopped x (length c.receipts) (length (pairs_in c.receipts)) u.doubts → Works kept Stopped pairs x u
     stopped amount number pending doubts = record {
       receipts = c.receipts;
       pending = c.pending;
@@ -339,6 +353,7 @@ module _ {H : Type 0} (kept : H → Option (FileName → Option (List ℕ))) whe
       free = free_still ∙ c.free;
       dataset = dataset_still;
       bounded = bounded_still;
+      tells = tells_still;
     }
 
   -- nothing was pending
@@ -358,6 +373,7 @@ module _ {H : Type 0} (kept : H → Option (FileName → Option (List ℕ))) whe
     free = c.free;
     dataset = c.dataset;
     bounded = c.bounded;
+    tells = c.tells;
   }
 
   idle_emptied : (pairs : List Pair) (w x : Writing H) (u : View) → IsPending w [] → IsFilled w → Works kept Emptied pairs x u
@@ -392,12 +408,26 @@ module _ {H : Type 0} (kept : H → Option (FileName → Option (List ℕ))) whe
           listed_emptied pairs w x v u c seen rest stays others r.number (listed r refl) (counted r refl) (sure r refl) e.0 e.1 uses full,
         )
 
+    -- the doubt after a fault: the segment that waits came to its listing
+    in_doubt : causes.DoubtsWaiting x.unlisted u.doubts → FailedBefore w x ⊎ IsReady kept x → (x.is_kept ≡ true → IfSome x.unlisted (λ s. s.files.entry.writer ≡ x.writer)) → IsDoubted kept x (length c.receipts) (length (pairs_in c.receipts)) u.doubts
+    in_doubt d (inl before) owns = absurd (let a = d.1 in let b = before.unsealed in cc (a, b))
+    in_doubt d (inr ready) owns =
+        let same : d.0 ≡ ready.segment = (let a = d.1 in let b = ready.waits in cc (a, b)) in
+        record {
+          segment = ready.segment;
+          waits = ready.waits;
+          doubts_are = d.2 ∙ ap (λ (s : Standing). listing s ∷ []) same;
+          writer = subst (λ (o : Option Standing). IfSome o (λ s. s.files.entry.writer ≡ x.writer)) ready.waits (owns ready.came);
+          files = ready.files;
+          full = c.stands.2;
+        }
+
     pub list_err : (e : FlushFault F) → ((b : List Pair) → IsPending w b → IsPending x b) → (u.amount ≡ v.amount) × (number_of x ≡ number_of w) → causes.FullAfter v u (Err e) → causes.LeavesDoubts x.unlisted v.doubts u.doubts e
-        → ListedAll kept (Err e) pairs w x u
-    list_err (flushes.Disk f) pending refused full (inl fewer) = stopped pairs w x v u c seen rest stays others refused.0 refused.1 pending (inl (still_none v.doubts u.doubts fewer c.doubts))
-    list_err (flushes.Disk f) pending refused full (inr d) = stopped pairs w x v u c seen rest stays others refused.0 refused.1 pending (inr d)
-    list_err (flushes.TableFull count) pending refused full doubts = (stopped pairs w x v u c seen rest stays others refused.0 refused.1 pending (inl (still_none v.doubts u.doubts doubts c.doubts)), full.0, full.1)
-    list_err flushes.NoMemory pending refused full doubts = stopped pairs w x v u c seen rest stays others refused.0 refused.1 pending (inl (still_none v.doubts u.doubts doubts c.doubts))
+        → causes.OnFlushDisk e (FailedBefore w x ⊎ IsReady kept x) → (x.is_kept ≡ true → IfSome x.unlisted (λ s. s.files.entry.writer ≡ x.writer)) → ((count : ℕ) → e ≡ flushes.TableFull count → HasSealed x) → ListedAll kept (Err e) pairs w x u
+    list_err (flushes.Disk f) pending refused full (inl fewer) cause owns waits = stopped pairs w x v u c seen rest stays others refused.0 refused.1 pending (inl (still_none v.doubts u.doubts fewer c.doubts))
+    list_err (flushes.Disk f) pending refused full (inr d) cause owns waits = stopped pairs w x v u c seen rest stays others refused.0 refused.1 pending (inr (in_doubt d cause owns))
+    list_err (flushes.TableFull count) pending refused full doubts cause owns waits = (stopped pairs w x v u c seen rest stays others refused.0 refused.1 pending (inl (still_none v.doubts u.doubts doubts c.doubts)), full.0, full.1, waits count refl)
+    list_err flushes.NoMemory pending refused full doubts cause owns waits = stopped pairs w x v u c seen rest stays others refused.0 refused.1 pending (inl (still_none v.doubts u.doubts doubts c.doubts))
 
   -- a put that failed stops the worker
   pub put_stopped : (pairs : List Pair) (w : Writing H) (v : View) → Works kept Filling pairs w v → Works kept Stopped pairs w v
@@ -416,4 +446,5 @@ module _ {H : Type 0} (kept : H → Option (FileName → Option (List ℕ))) whe
     free = c.free;
     dataset = c.dataset;
     bounded = c.bounded;
+    tells = c.tells;
   }

@@ -1,5 +1,5 @@
 -- What a dataset's table comes to hold by what all workers listed in it.
-use Rattle.std.proofs.Common.{◌≡◌, ◌==◌, ◌≤◌, ◌<◌, ◌+◌, ◌*◌, ◌/◌, ℕ, zero, suc, Bool, true, false, if◌then◌else◌, List, [], ◌∷◌, ◌++◌, map, take, length, All, Option, Some, None, option_map, Ok, ◌⊎◌, inl, inr, refl, sym, ap, ap₂, subst, ◌∙◌, arith, append_assoc, append-nil, length-append, Contains}
+use Rattle.std.proofs.Common.{◌≡◌, ◌==◌, ◌≤◌, ◌<◌, ◌+◌, ◌*◌, ◌/◌, ℕ, zero, suc, Bool, true, false, if◌then◌else◌, List, [], ◌∷◌, ◌++◌, map, take, length, All, Option, Some, None, option_map, Ok, refl, sym, ap, ap₂, subst, ◌∙◌, arith, append_assoc, append-nil, length-append, Contains}
 use mathlib.Core.List.{map-append}
 use Rattle.std.proofs.lemmas.List.{length-map}
 use Rattle.std.proofs.lemmas.List.Elements.{All-nil, All-cons, Contains-append_left, Contains-append_right}
@@ -10,14 +10,14 @@ use Rattle.fd_core.specs.declared.table.Entry.{Entry}
 use Rattle.fd_core.specs.Batches.{newest, of_batch, or_older, same_bytes}
 use Rattle.fd_segment.specs.Held.{Alike, batch_of}
 use Rattle.fd_segment.proofs.Keys.{eq_is, same_as_eq}
-use Rattle.fd_dataset.specs.Listed.{entries_of, listing}
+use Rattle.fd_dataset.specs.Listed.{entries_of}
 use Rattle.fd_recovery.specs.Recovered.{all_of, batches_listed, files_of}
 use Rattle.fd_outcome.specs.Store.{HasOnly}
 use Rattle.fd_bulk.specs.Adding.{AddsAllBy, AddsBy}
 use Rattle.fd_bulk.specs.Dealing.{Marked, batches_by, batches_of, dealt_to, flat}
 use Rattle.fd_bulk.specs.Gathering.{Gathered, Lane, receipts_of}
 use Rattle.fd_bulk.specs.Merging.{lane_at, those}
-use Rattle.fd_bulk.specs.Tables.{AreListed, AreTables, Every, IsHeld, listing_of, writer_of}
+use Rattle.fd_bulk.specs.Tables.{AreTables, Every, IsHeld, listing_of, writer_of}
 use Rattle.fd_bulk.specs.Working.{Sealing, pairs_in}
 use Rattle.fd_bulk.proofs.Dealing.{are_as_one, are_few, equal_to, newest_both}
 use Rattle.fd_bulk.proofs.Gathering.{batches_in, below, by_worker, gathered, lane_beyond, marked_of}
@@ -41,6 +41,17 @@ alike_length [] (c ∷ cs) a = absurd a
 alike_length (b ∷ bs) [] a = absurd a
 alike_length (b ∷ bs) (c ∷ cs) a = ap suc (alike_length bs cs a.1)
 
+pub all_long : (xs : List (Option (List Pair))) (a : List (List Pair)) → all_of xs ≡ Some a → length a ≡ length xs
+all_long [] a e = let none : [] ≡ a = cc e in sym (ap length none)
+all_long (None ∷ xs) a e = absurd (cc e)
+all_long (Some x ∷ xs) a e = go (all_of xs) (λ zs is. all_long xs zs is) e
+  where
+    go : (o : Option (List (List Pair))) → ((zs : List (List Pair)) → o ≡ Some zs → length zs ≡ length xs) → option_map (λ more. x ∷ more) o ≡ Some a → length a ≡ suc (length xs)
+    go None rest e = absurd (cc e)
+    go (Some zs) rest e =
+        let front : x ∷ zs ≡ a = cc e in
+        sym (ap length front) ∙ ap suc (rest zs refl)
+
 all_both : (xs ys : List (Option (List Pair))) (a b : List (List Pair)) → all_of xs ≡ Some a → all_of ys ≡ Some b → all_of (xs ++ ys) ≡ Some (a ++ b)
 all_both [] ys a b e f = let none : [] ≡ a = cc e in f ∙ ap (λ (zs : List (List Pair)). Some (zs ++ b)) none
 all_both (None ∷ xs) ys a b e f = absurd (cc e)
@@ -52,7 +63,7 @@ all_both (Some x ∷ xs) ys a b e f = go (all_of xs) refl (λ zs is. all_both xs
         let front : x ∷ zs ≡ a = cc e in
         ap (option_map (λ more. x ∷ more)) (rest zs is) ∙ ap (λ (cs : List (List Pair)). Some (cs ++ b)) front
 
-in_batch : (b : List Pair) (key bytes : List ℕ) → of_batch b key ≡ Some bytes → Contains b (record { key = key; bytes = bytes })
+pub in_batch : (b : List Pair) (key bytes : List ℕ) → of_batch b key ≡ Some bytes → Contains b (record { key = key; bytes = bytes })
 in_batch [] key bytes e = absurd (cc e)
 in_batch (p ∷ ps) key bytes e = go (of_batch ps key) refl (λ is. in_batch ps key bytes is) (same_bytes p.key key) refl e
   where
@@ -65,7 +76,7 @@ in_batch (p ∷ ps) key bytes e = go (of_batch ps key) refl (λ is. in_batch ps 
     go None is rest false t e = absurd (cc e)
 
 -- what is dealt to a worker is among all
-dealt_among : (deal : List ℕ → ℕ) (w : ℕ) (ps : List Pair) (x : Pair) → Contains (dealt_to deal w ps) x → Contains ps x
+pub dealt_among : (deal : List ℕ → ℕ) (w : ℕ) (ps : List Pair) (x : Pair) → Contains (dealt_to deal w ps) x → Contains ps x
 dealt_among deal w [] x c = c
 dealt_among deal w (p ∷ ps) x c = go (λ d. dealt_among deal w ps x d) (deal p.key == w) c
   where

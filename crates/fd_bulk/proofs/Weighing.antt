@@ -1,7 +1,7 @@
 -- Sums of octets by the number of workers.
-use Rattle.std.proofs.Common.{◌≡◌, ◌<◌, ◌≤◌, ◌+◌, ◌%◌, ℕ, zero, suc, List, [], ◌∷◌, ◌++◌, drop, length, get_or, sym, ap, refl, ◌∙◌, arith}
+use Rattle.std.proofs.Common.{◌≡◌, ◌<◌, ◌+◌, ◌%◌, ℕ, zero, suc, List, [], ◌∷◌, ◌++◌, drop, length, get_or, ap, refl, ◌∙◌, arith}
 use Rattle.std.specs.Prelude.{sum}
-use Rattle.std.proofs.Math.Nat.{mod-add-mod, mod-eq_of_lt}
+use Rattle.std.proofs.Math.Nat.{mod-add-mod}
 use Rattle.std.proofs.lemmas.List.Sums.{sum_by-append, sum_by-cons}
 
 pub sum_cons : (x : ℕ) (xs : List ℕ) → sum (x ∷ xs) ≡ x + sum xs
@@ -19,16 +19,6 @@ weigh_turn workers weight xs i x d lt is =
     ap (λ (n : ℕ). ((weight + x) % workers + sum (drop n xs)) % workers) up
     ∙ mod-add-mod (weight + x) workers (sum (drop (suc i) xs))
     ∙ ap (λ (n : ℕ). n % workers) (let e = ap sum (drop_one xs i d lt) ∙ sum_cons (get_or xs i d) (drop (suc i) xs) in omega (arith, e, is))
-
--- all octets are weighed
-pub weigh_end : (workers weight : ℕ) (xs : List ℕ) (i : ℕ) → length xs ≤ i → weight < workers → (weight + sum (drop i xs)) % workers ≡ weight
-weigh_end workers weight xs i le lt = ap (λ (ys : List ℕ). (weight + sum ys) % workers) (none_left xs i le) ∙ (let z : weight + sum [] ≡ weight = omega arith in ap (λ (n : ℕ). n % workers) z ∙ mod-eq_of_lt lt)
-  where
-    none_left : (ys : List ℕ) (j : ℕ) → length ys ≤ j → drop j ys ≡ []
-    none_left [] zero h = refl
-    none_left [] (suc j) h = refl
-    none_left (y ∷ ys) zero h = absurd (omega arith)
-    none_left (y ∷ ys) (suc j) h = none_left ys j (omega arith)
 
 -- texts that are weighed one after the other
 pub weighed_all : (workers d i l m a b c r : ℕ) → a ≡ (0 + d) % workers → b ≡ (a + i) % workers → c ≡ (b + l) % workers → r ≡ (c + m) % workers → r ≡ (d + (i + (l + m))) % workers

@@ -1,8 +1,11 @@
 -- What a dataset comes to hold by several workers.
 use Rattle.std.specs.Prelude.{◌≡◌, ◌≤◌, ◌+◌, ◌/◌, ℕ, List, ◌++◌, length, All, Option, Some}
+use Rattle.fd_disk.specs.declared.folders.FileName.{FileName}
 use Rattle.fd_core.specs.declared.batch.Listing.{Listing}
 use Rattle.fd_core.specs.declared.batch.Pair.{Pair}
 use Rattle.fd_core.specs.Batches.{newest, of_batch, or_older}
+use Rattle.fd_segment.specs.Held.{batch_of}
+use Rattle.fd_recovery.specs.Recovered.{files_of}
 use Rattle.fd_outcome.specs.Store.{HasOnly}
 
 -- Batches were added behind those that were there: of these pairs alone, and few for so many workers.
@@ -21,3 +24,7 @@ pub record AddsAllBy (workers : ℕ) (pairs : List Pair) (before : List (List Pa
 -- what the listing stands for, where it is told, has only these pairs
 abbrev pub IsOnlyOf : List Pair → Listing → Type 0
 IsOnlyOf pairs l = (c : List Pair) → l.batch ≡ Some c → HasOnly pairs c
+
+-- both files of the listing are among these, and stand for its batch
+abbrev pub IsHeldBy : (FileName → Option (List ℕ)) → Listing → Type 0
+IsHeldBy files l = (c : List Pair) × (l.batch ≡ Some c) × (batch_of (files_of files l.entry) ≡ Some c)

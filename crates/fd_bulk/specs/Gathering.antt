@@ -1,7 +1,5 @@
 -- What several workers listed in one history.
-use Rattle.std.specs.Prelude.{◌≡◌, ◌≤◌, ◌<◌, ◌+◌, ◌-◌, ℕ, List, [], ◌∷◌, ◌++◌, length, map, take, slice_get, Option, Some, None}
-use Rattle.fd_core.specs.declared.batch.Pair.{Pair}
-use Rattle.fd_numbers.specs.Numbers.{Differ}
+use Rattle.std.specs.Prelude.{◌≡◌, ◌-◌, ℕ, List, [], ◌∷◌, ◌++◌, length, map, take, slice_get, Option, Some, None}
 use Rattle.fd_bulk.specs.Merging.{AllRise, joined, lane_at, those}
 
 -- what a worker listed, with the numbers at which it did, and the writer of all that, where it listed under one

@@ -6,4 +6,11 @@ pub mod Adding
 pub mod Opening
 pub mod Working
 pub mod Tables
+pub mod Archived
 pub mod Sharing
+pub mod Halting
+pub mod Crewing
+pub mod Taking
+pub mod Inputs
+pub mod Columns
+pub mod Ending

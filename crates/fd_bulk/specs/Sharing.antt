@@ -17,7 +17,7 @@ use Rattle.fd_bulk.specs.declared.round.Parcel.{Parcel}
 use Rattle.fd_outcome.specs.Archiving.{Stored as Kept, pairs_for}
 use Rattle.fd_bulk.specs.Dealing.{dealt_to}
 use Rattle.fd_bulk.specs.Dealt.{dealt}
-use Rattle.fd_bulk.specs.Working.{Filling, Flushed, Stage, Stopped, Works}
+use Rattle.fd_bulk.specs.Working.{Filling, Flushed, HasSealed, Stage, Stopped, Works}
 
 -- the pair under which a message stands in its dataset
 abbrev pub pair_of : Parcel → Pair
@@ -61,18 +61,34 @@ abbrev pub stopped_at : ℕ → ℕ → Stage
 stopped_at at n = if at == n then Stopped else Filling
 
 module _ {H X Y : Type 0} where
-  -- in the dataset with this number the worker's pass has seen a table that is full
+  -- in the dataset with this number the worker's pass has seen a table that is full, and a segment waits
   abbrev pub SeesFull : ℕ → List (Option (Desk (Writing H) (Pass X Y))) → Type 0
-  SeesFull n ds = (d : Desk (Writing H) (Pass X Y)) × (slice_get ds n ≡ Some (Some d)) × (length (view d.pass).history ≡ 65535)
+  SeesFull n ds = (d : Desk (Writing H) (Pass X Y)) × (slice_get ds n ≡ Some (Some d)) × (length (view d.pass).history ≡ 65535) × HasSealed d.archiver
 
   abbrev pub IsFullAt : {F : Type 0} → FlushFault F → ℕ → List (Option (Desk (Writing H) (Pass X Y))) → Type 0
   IsFullAt (flushes.Disk f) n ds = Unit {0}
   IsFullAt (flushes.TableFull count) n ds = (count ≡ 65535) × SeesFull n ds
   IsFullAt flushes.NoMemory n ds = Unit {0}
 
-  -- the worker has met the same datasets, and has the same archivers in them
+  -- an archiver and a pass that went on: whose they are, and which part the pass is
+  pub record StaysDesk (d e : Desk (Writing H) (Pass X Y)) : Type 0 where
+    pub writer : e.archiver.writer ≡ d.archiver.writer
+    pub told : e.archiver.told ≡ d.archiver.told
+    pub parts : (view e.pass).parts ≡ (view d.pass).parts
+    pub opening : (view e.pass).opening ≡ (view d.pass).opening
+
+  abbrev pub SameDesk : Option (Desk (Writing H) (Pass X Y)) → Option (Desk (Writing H) (Pass X Y)) → Type 0
+  SameDesk None None = Unit {0}
+  SameDesk None (Some e) = ⊥
+  SameDesk (Some d) None = ⊥
+  SameDesk (Some d) (Some e) = StaysDesk d e
+
+  -- the worker has met the same datasets, and has the same archivers and parts in them
   abbrev pub SameMet : List (Option (Desk (Writing H) (Pass X Y))) → List (Option (Desk (Writing H) (Pass X Y))) → Type 0
-  SameMet old new = (n : ℕ) (d : Desk (Writing H) (Pass X Y)) → slice_get old n ≡ Some (Some d) → (e : Desk (Writing H) (Pass X Y)) × (slice_get new n ≡ Some (Some e)) × (e.archiver.writer ≡ d.archiver.writer)
+  SameMet [] [] = Unit {0}
+  SameMet [] (e ∷ es) = ⊥
+  SameMet (d ∷ ds) [] = ⊥
+  SameMet (d ∷ ds) (e ∷ es) = SameDesk d e × SameMet ds es
 
 module _ {H X Y : Type 0} (kept : H → Option (FileName → Option (List ℕ))) (boards : List BoardId) where
   -- a message can be stored by the worker that has this

@@ -1,5 +1,5 @@
 -- How far a worker has come in a dataset.
-use Rattle.std.specs.Prelude.{◌≡◌, ◌⊎◌, ◌≤◌, ◌<◌, ◌+◌, ◌-◌, ◌*◌, ◌^◌, ◌++◌, ℕ, List, [], ◌∷◌, length, slice_get, Option, Some, None, Result, Ok, Err}
+use Rattle.std.specs.Prelude.{◌≡◌, ◌⊎◌, ◌≤◌, ◌<◌, ◌+◌, ◌-◌, ◌*◌, ◌^◌, ◌++◌, ℕ, List, [], ◌∷◌, length, slice_get, Option, Some, None, is_some, Result, Ok, Err}
 use mathlib.Core.List.{IsPrefix}
 use Rattle.fd_disk.specs.declared.folders.FileName.{FileName}
 use Rattle.fd_core.specs.declared.batch.Listing.{Listing}
@@ -44,6 +44,10 @@ pub record Keeps (v w : View) : Type 0 where
   pub free : w.lock ≡ v.lock
 
 module _ {H : Type 0} where
+  -- a sealed segment waits to be listed
+  abbrev pub HasSealed : Writing H → Type 0
+  HasSealed w = (s : Standing) × (w.unlisted ≡ Some s)
+
   -- what each step leaves of an archiver
   pub record StaysOf (w x : Writing H) : Type 0 where
     pub writer : x.writer ≡ w.writer
@@ -62,14 +66,24 @@ module _ {H : Type 0} where
   IsAtStage Flushed w count size pending = (512 * count ≤ size + 512) × (pending ≡ [])
   IsAtStage Stopped w count size pending = 512 * count ≤ size + 512
 
-  -- what may be listed though no answer told of it: after a refusal the segment that waits
-  abbrev pub InDoubt : Stage → Writing H → List Listing → Type 0
-  InDoubt Filling w doubts = doubts ≡ []
-  InDoubt Emptied w doubts = doubts ≡ []
-  InDoubt Flushed w doubts = doubts ≡ []
-  InDoubt Stopped w doubts = (doubts ≡ []) ⊎ ((s : Standing) × (w.unlisted ≡ Some s) × (doubts ≡ listing s ∷ []))
-
   module _ (kept : H → Option (FileName → Option (List ℕ))) where
+    -- The segment that waits may be listed: it came to its listing, so that the shelf keeps its files. Each batch that was
+    -- listed before has at least 512 pairs.
+    pub record IsDoubted (w : Writing H) (count size : ℕ) (doubts : List Listing) : Type 0 where
+      pub segment : Standing
+      pub waits : w.unlisted ≡ Some segment
+      pub doubts_are : doubts ≡ listing segment ∷ []
+      pub writer : segment.files.entry.writer ≡ w.writer
+      pub files : IsKept (kept w.shelf) segment
+      pub full : 512 * count ≤ size
+
+    -- what may be listed though no answer told of it: after a refusal the segment that waits
+    abbrev pub InDoubt : Stage → Writing H → ℕ → ℕ → List Listing → Type 0
+    InDoubt Filling w count size doubts = doubts ≡ []
+    InDoubt Emptied w count size doubts = doubts ≡ []
+    InDoubt Flushed w count size doubts = doubts ≡ []
+    InDoubt Stopped w count size doubts = (doubts ≡ []) ⊎ IsDoubted w count size doubts
+
     -- a batch that was listed at its number, sealed by this archiver from its pairs; the shelf keeps its files
     pub record IsSealedBy (w : Writing H) (history : List Listing) (r : ℕ × Sealing) : Type 0 where
       pub at : slice_get history (r.0 - 1) ≡ Some (listing r.1.segment)
@@ -83,7 +97,7 @@ module _ {H : Type 0} where
     AreSealed w history (r ∷ rs) = IsSealedBy w history r × AreSealed w history rs
 
     -- These pairs were dealt to a worker in a dataset and stored: some are listed, by as many entries as its pass counts,
-    -- and the others are pending.
+    -- and the others are pending. The shelf tells what it keeps where the archiver says so.
     pub record Works (stage : Stage) (pairs : List Pair) (w : Writing H) (v : View) : Type 0 where
       pub receipts : List (ℕ × Sealing)
       pub pending : List Pair
@@ -95,10 +109,11 @@ module _ {H : Type 0} where
       pub is_pending : IsPending w pending
       pub room : (w.draft.held.keys ≡ 2048) × (w.draft.held.bytes ≡ 131072)
       pub stands : IsAtStage stage w (length receipts) (length (pairs_in receipts)) pending
-      pub doubts : InDoubt stage w v.doubts
+      pub doubts : InDoubt stage w (length receipts) (length (pairs_in receipts)) v.doubts
       pub free : v.lock ≡ Free
       pub dataset : w.dataset ≡ v.subject
       pub bounded : w.writer ≤ greatest_writer v.opening
+      pub tells : is_some (kept w.shelf) ≡ w.told
 
     -- some pairs were stored, and there is room in number for one more of this length
     pub record CanPut (size : ℕ) (w : Writing H) (v : View) : Type 0 where
@@ -119,7 +134,7 @@ module _ {H : Type 0} where
     -- what a refusal leaves
     abbrev pub Refused : {F : Type 0} → FlushFault F → List Pair → Writing H → View → Type 0
     Refused (flushes.Disk f) pairs x v = Works Stopped pairs x v
-    Refused (flushes.TableFull count) pairs x v = Works Stopped pairs x v × (count ≡ 65535) × (length v.history ≡ 65535)
+    Refused (flushes.TableFull count) pairs x v = Works Stopped pairs x v × (count ≡ 65535) × (length v.history ≡ 65535) × HasSealed x
     Refused flushes.NoMemory pairs x v = Works Stopped pairs x v
 
     -- how far it comes by listing what is pending

@@ -8,7 +8,7 @@ use crate::working::{list, store};
 use fd_archiver::{Archiver, FlushFault};
 use fd_bytes::Bytes;
 use fd_dataset::{Dataset, DatasetPass};
-use fd_disk::{Disk, Sealed, Shelf};
+use fd_disk::{Disk, Folder, Sealed, Shelf};
 use fd_io::Gate;
 use fd_schema::Place;
 use std::alloc::Global;
@@ -52,6 +52,9 @@ pub(crate) type WorkerJob<F, T, H> = Job<
     DatasetPass<F, T, <H as Shelf<F>>::Sealed>,
     FlushFault<F>,
 >;
+
+/// The job of a worker over the datasets of a store.
+pub(crate) type FolderJob<F, D> = WorkerJob<F, <D as Folder<F>>::Table, <D as Folder<F>>::Shelf>;
 
 // Stores a message of this worker.
 fn store_parcel<F: Send + Drop, T: Disk<F>, H: Shelf<F>, R: Wait>(

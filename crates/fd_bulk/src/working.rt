@@ -50,7 +50,10 @@ where
 {
     match archiver.flush(rt, alloc, dataset, pass) {
         Ok(_) => Ok(()),
-        Err(fault) => Err(fault),
+        Err(fault) => {
+            archiver.waiting_is_kept();
+            Err(fault)
+        }
     }
 }
 

@@ -1,4 +1,4 @@
-use Rattle.std.proofs.Common.{◌≡◌, ◌∙◌, ◌+◌, ◌%◌, [], ◌∷◌, ap, sym, sum, string_bytes, ℕ, List}
+use Rattle.std.proofs.Common.{◌∙◌, ◌+◌, ◌%◌, [], ◌∷◌, ap, sym, sum, string_bytes, ℕ, List}
 use Rattle.fd_bulk.proofs.Weighing.{sum_key, weighed_all}
 use Rattle.fd_bulk.proofs.dealt.dealt.Goals as goal
 

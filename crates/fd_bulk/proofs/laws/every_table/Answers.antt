@@ -1,4 +1,3 @@
-use Rattle.fd_bulk.proofs.Lanes.{works_lane}
 use Rattle.fd_bulk.proofs.Tables.{are_tables}
 use Rattle.fd_bulk.proofs.laws.every_table.Goals as goal
 

@@ -1,6 +1,6 @@
-use Rattle.std.proofs.Common.{rules, arith, ◌≡◌, ◌∙◌, ◌<◌, ap, sym, subst, slice_get, Some, None}
+use Rattle.std.proofs.Common.{rules, arith, ◌≡◌, ◌∙◌, ◌<◌, sym, subst, slice_get, Some, None}
 use Rattle.fd_turn.specs.Passes.{view}
-use Rattle.fd_bulk.specs.Working.{Filling, Flushed, Stage, Works}
+use Rattle.fd_bulk.specs.Working.{Flushed, Stage, Works}
 use Rattle.fd_bulk.specs.Sharing.{AllWork, SameMet, with_stage}
 use Rattle.fd_bulk.proofs.Listing.{listed_none, listed_or}
 use Rattle.fd_bulk.proofs.Sharing.{work_at}
@@ -62,7 +62,7 @@ returns-in-Some-clause-met g c =
     let d = c.in-Some.desk in
     let there = get_there ds c.args.n c.index_mut.result.now c.requires.can.inside c.index_mut.ensures.value in
     let at : slice_get ds c.args.n ≡ Some (Some d) = cc (there, c.in-Some.is) in
-    met_set ds c.args.n d (record { archiver = c.list.new.archiver; pass = c.list.new.pass }) at c.list.ensures.stays.writer
+    met_set ds c.args.n d (record { archiver = c.list.new.archiver; pass = c.list.new.pass }) at (record { writer = c.list.ensures.stays.writer; told = c.list.ensures.stays.told; parts = c.list.ensures.keeps.parts; opening = c.list.ensures.keeps.opening })
 
 pub returns-in-Some-clause-lists : goal.returns-in-Some-clause-lists
 returns-in-Some-clause-lists g c =

@@ -1,5 +1,4 @@
-use Rattle.std.proofs.Common.{rules, arith, ◌≡◌, ◌<◌, ◌≤◌, ◌+◌, ◌∙◌, ℕ, sym, subst, length, refl}
-use Rattle.fd_bulk.specs.Working.{Filling}
+use Rattle.std.proofs.Common.{rules, arith, ◌<◌, ◌≤◌, ◌∙◌, ℕ, sym, subst, length, refl}
 use Rattle.fd_bulk.specs.Sharing.{ListedTo, listed_below}
 use Rattle.fd_bulk.proofs.Listing.{listing_begins, listing_ends, listing_turns, next_fills}
 use Rattle.fd_bulk.proofs.Shares.{met_on, same_met}

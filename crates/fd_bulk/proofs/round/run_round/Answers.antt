@@ -1,9 +1,8 @@
-use Rattle.std.proofs.Common.{rules, arith, ◌≡◌, ◌≤◌, ◌<◌, get_or, sym, subst}
+use Rattle.std.proofs.Common.{rules, arith, ◌<◌, get_or, sym, subst}
 use mir.Syntax.{of_param}
 use denote.Exit.{unseen}
 use denote.Param.Send.{Quiet-if}
 use Rattle.fd_bulk.specs.Sharing.{CanShare, Shared}
-use Rattle.fd_bulk.proofs.Stored.{round_stored}
 use Rattle.fd_bulk.proofs.round.run_round.Goals as goal
 
 pub for_each_mut-requires-clause-accepts : goal.for_each_mut-requires-clause-accepts

@@ -1,9 +1,9 @@
-use Rattle.std.proofs.Common.{rules, arith, ◌≡◌, ◌<◌, ◌≤◌, ◌+◌, ◌++◌, ◌∷◌, [], ◌∙◌, List, ℕ, Some, None, ap, sym, subst, length, take, refl, append_assoc, append-nil}
+use Rattle.std.proofs.Common.{rules, ◌≡◌, ◌<◌, ◌≤◌, ◌+◌, ◌++◌, ◌∷◌, [], ◌∙◌, List, ℕ, ap, sym, subst, length, take, append_assoc, append-nil}
 use Rattle.fd_core.specs.declared.batch.Pair.{Pair}
 use Rattle.fd_bulk.specs.declared.round.Parcel.{Parcel}
 use Rattle.fd_bulk.specs.Working.{Filling}
 use Rattle.fd_bulk.specs.Sharing.{Sharing, SharedTo, share}
-use Rattle.fd_bulk.proofs.Shares.{fit_at, get_there, met_on, same_met, share_more, share_other, share_room, take_all, work_told}
+use Rattle.fd_bulk.proofs.Shares.{fit_at, get_there, met_on, met_there, same_met, share_more, share_other, share_room, take_all, work_told}
 use Rattle.fd_bulk.proofs.round.run_share.Goals.{then-parcel-worker+in-Ok, else-parcel-worker}
 use Rattle.fd_bulk.proofs.round.run_share.Goals as goal
 
@@ -17,7 +17,7 @@ store_parcel-requires-clause-can g c κs within =
     let lt : i < length ps = search rules in
     let mine : p.worker ≡ c.args.worker = search rules in
     let had = r.met i p (get_there ps i p lt c.index-parcels-at.is) mine in
-    let has = inv.met p.dataset had.0 had.1 in
+    let has = met_there c.args.job.now.desks.items c.loop-at.job.desks.items p.dataset had.0 inv.met had.1 in
     record {
       names = r.names;
       pairs = λ n. r.pairs n ++ share c.args.worker n (take i ps);

@@ -1,5 +1,4 @@
-use Rattle.std.proofs.Common.{arith, ◌≡◌, ◌∙◌, ◌+◌, ◌<◌, ◌^◌, List, ℕ, ap, sym, subst, length, slice_get, Some}
-use Rattle.fd_core.specs.declared.batch.Pair.{Pair}
+use Rattle.std.proofs.Common.{arith, ◌≡◌, ◌∙◌, List, ℕ, ap, sym, subst, length, slice_get, Some}
 use Rattle.fd_schema.specs.Rules.{file_key}
 use Rattle.fd_schema.specs.Reading.{seen_place}
 use Rattle.fd_turn.specs.Passes.{view}
@@ -61,7 +60,7 @@ returns-clause-met g c =
     let d = c.in-Some.desk in
     let o = c.index_mut.ensures.value ∙ at_place ds n (Some r.desk) r.at c.index_mut.result.now in
     let at : slice_get ds n ≡ Some (Some d) = cc (r.at, o, c.in-Some.is) in
-    met_set ds n d (record { archiver = c.store.new.archiver; pass = c.store.new.pass }) at c.store.ensures.stays.writer
+    met_set ds n d (record { archiver = c.store.new.archiver; pass = c.store.new.pass }) at (record { writer = c.store.ensures.stays.writer; told = c.store.ensures.stays.told; parts = c.store.ensures.keeps.parts; opening = c.store.ensures.keeps.opening })
 
 pub returns-clause-stores : goal.returns-clause-stores
 returns-clause-stores g c =

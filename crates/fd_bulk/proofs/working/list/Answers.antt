@@ -1,3 +1,4 @@
+use Rattle.std.proofs.Common.{Err, ap}
 use Rattle.fd_turn.specs.Passes.{view}
 use Rattle.fd_bulk.proofs.Storing.{list_err, list_ok, number_left, writer_fits}
 use Rattle.fd_bulk.proofs.working.list.Goals as goal
@@ -17,4 +18,4 @@ pub returns-in-Err-clause-lists : goal.returns-in-Err-clause-lists
 returns-in-Err-clause-lists g c =
     let e = c.flush.ensures in
     let i = c.in-Err.ensures in
-    λ pairs works. list_err g.H.Shelf.kept g.row.F.Denot pairs c.args.archiver.now c.flush.new.self (view c.args.pass.now) (view c.flush.new.pass) works e.seen e.rest e.same e.others c.in-Err.fault i.pending i.refused i.full i.doubts
+    λ pairs works. list_err g.H.Shelf.kept g.row.F.Denot pairs c.args.archiver.now c.flush.new.self (view c.args.pass.now) (view c.flush.new.pass) works e.seen e.rest e.same e.others c.in-Err.fault i.pending i.refused i.full i.doubts i.cause c.waiting_is_kept.ensures.writer (λ count is. let r = i.waits count (ap (λ e. Err e) is) in (r.segment, r.waits))

@@ -1,0 +1,268 @@
+-- How far a stream was gone over, and what was dealt of it.
+use Rattle.std.proofs.Common.{◌≡◌, inl, inr, ◌≤◌, ◌<◌, ◌^◌, ℕ, ◌+◌, Bool, false, List, [], ◌∷◌, ◌++◌, length, Option, Some, None, IfSome, Ok, Err, sym, ap, subst, ◌∙◌, arith, append_assoc, append-nil, length-append}
+use Rattle.fd_disk.specs.declared.folders.FileName.{FileName}
+use Rattle.fd_disk.specs.Folders.{Contents, Holdings, folder_at}
+use Rattle.fd_sections.specs.declared.refusal.BadAt.{BadAt}
+use Rattle.fd_sections.specs.Message.{Sections, message_octets}
+use Rattle.fd_sections.specs.Progress.{Progress}
+use Rattle.fd_sections.specs.Splitting.{answer, progress, waiting}
+use Rattle.fd_sections.specs.Stream.{Takes, first, from_mark}
+use Rattle.fd_sections.proofs.Laws.{reading_takes}
+use Rattle.fd_sections.proofs.Pending.{pending_le, waited}
+use Rattle.fd_sections.proofs.StreamLaws.{before_mark, first_at-takes}
+use Rattle.fd_key.specs.Keys.{key_of}
+use Rattle.fd_key.specs.Pairs.{Pair}
+use Rattle.fd_schema.specs.Rules.{Rule, Texts, place_from}
+use Rattle.fd_turn.specs.declared.board.Pass.{Pass}
+use Rattle.fd_archiver.specs.declared.fault.FlushFault.{FlushFault}
+use Rattle.fd_archiver.specs.Writing.{Writing}
+use Rattle.fd_library.specs.Open.{OpenDatasets, names_of}
+use Rattle.fd_outcome.specs.Causes.{BadFile, BadTable}
+use Rattle.fd_outcome.specs.Store.{Stands}
+use Rattle.fd_outcome.specs.Archiving.{Stored, datasets_in, is_too_many, stored_at}
+use Rattle.fd_bulk.specs.declared.bulk.BulkFault.{BulkFault}
+use Rattle.fd_bulk.specs.declared.bulk.BulkFault.TheVariants as faults
+use Rattle.fd_bulk.specs.declared.round.Job.{Job}
+use Rattle.fd_bulk.specs.declared.round.Parcel.{Parcel}
+use Rattle.fd_bulk.specs.Crewing.{AreMet, CanRun, Deals, RanAs, TooManyAt, Undealt, Waits, message_at, octets_of}
+use Rattle.fd_bulk.specs.Inputs.{CanGo, EndedThere, EndsFor, GoesOn, Going, PlacedAs, WentOn, is_unread}
+use Rattle.fd_bulk.specs.Taking.{StoredOn}
+use Rattle.fd_bulk.proofs.Opened.{deals_closes}
+use Rattle.fd_bulk.proofs.Steps.{ended_later, ended_now, ends_there, placed_ends, stored_is, stored_more, stored_nothing, too_many_ends, unopened_ends, went_none, went_one}
+use Rattle.fd_bulk.proofs.Takings.{answered, refused_at}
+
+octets_push : (all : List Stored) (s : Stored) → octets_of (all ++ s ∷ []) ≡ octets_of all + length s.pair.bytes
+octets_push [] s = omega arith
+octets_push (x ∷ xs) s = omega (arith, octets_push xs s)
+
+pub message_limit : (p : Progress) (m : Sections) → answer p (first p.rest) ≡ Ok (Some m) → length (message_octets m) ≤ 134217728
+message_limit p m e =
+    let t = answered p (first p.rest) m e in
+    (reading_takes (message_octets m) m (first_at-takes (from_mark p.rest) m t.0 t.1).read).indicator.limit
+
+-- the message and what comes behind it are no more than there was
+message_fits : (p : Progress) (m : Sections) (r : List ℕ) → first p.rest ≡ Takes m r → length (message_octets m) + length r ≤ length p.rest
+message_fits p m r e =
+    let b = before_mark p.rest in
+    let l = first_at-takes (from_mark p.rest) m r e in
+    omega (arith, ap length b.1, length-append b.0 (from_mark p.rest), ap length l.whole, length-append (message_octets m) r)
+
+module _ {D H X Y F : Type 0} (has : D → Option Contents) (kept : H → Option (FileName → Option (List ℕ))) where
+  -- ---- why a message isn't dealt, and what stands then
+
+  module _ (start : Option Holdings) (all waiting : List Stored) where
+    placed_stands : {Z : Type 0} (rules : List Rule) (given : List Pair) (m : Sections) (now : Option Holdings) (l : OpenDatasets D) (ps : List (Pass X Y)) (js : List (Job (Writing H) (Pass X Y) (FlushFault F))) (parcels : List Parcel) (n : ℕ) (fault : BulkFault Z)
+        → n ≡ length (all ++ waiting) + 1 → Deals has kept start now all waiting (datasets_in (all ++ waiting)) l ps js parcels → PlacedAs rules given n m (Err fault) → EndsFor has kept start now all waiting l ps js parcels fault
+    placed_stands rules given m now l ps js parcels n (faults.Input f) count d h = absurd h
+    placed_stands rules given m now l ps js parcels n (faults.Message at) count d h = absurd h
+    placed_stands rules given m now l ps js parcels n (faults.Cut t) count d h = absurd h
+    placed_stands rules given m now l ps js parcels n (faults.Key k why) count d h = (deals_closes has kept start all waiting now (datasets_in (all ++ waiting)) l ps js parcels d, d.met, h.0 ∙ count)
+    placed_stands rules given m now l ps js parcels n (faults.NoRule k text) count d h = (deals_closes has kept start all waiting now (datasets_in (all ++ waiting)) l ps js parcels d, d.met, h.0 ∙ count)
+    placed_stands rules given m now l ps js parcels n faults.Disk count d h = absurd h
+    placed_stands rules given m now l ps js parcels n (faults.NotATable dataset at want found) count d h = absurd h
+    placed_stands rules given m now l ps js parcels n (faults.Damaged dataset damage) count d h = absurd h
+    placed_stands rules given m now l ps js parcels n (faults.TableFull k) count d h = absurd h
+    placed_stands rules given m now l ps js parcels n (faults.TooMany k) count d h = absurd h
+    placed_stands rules given m now l ps js parcels n faults.InputLimit count d h = absurd h
+    placed_stands rules given m now l ps js parcels n faults.NoMemory count d h = inl (deals_closes has kept start all waiting now (datasets_in (all ++ waiting)) l ps js parcels d)
+
+    dealt_stands : {Z : Type 0} (name : List ℕ) (now : Option Holdings) (l : OpenDatasets D) (ps : List (Pass X Y)) (js : List (Job (Writing H) (Pass X Y) (FlushFault F))) (parcels : List Parcel) (fault : BulkFault Z)
+        → Undealt has kept start now all waiting name (datasets_in (all ++ waiting)) fault l ps js parcels → EndsFor has kept start now all waiting l ps js parcels fault
+    dealt_stands name now l ps js parcels (faults.Input f) h = absurd h
+    dealt_stands name now l ps js parcels (faults.Message at) h = absurd h
+    dealt_stands name now l ps js parcels (faults.Cut t) h = absurd h
+    dealt_stands name now l ps js parcels (faults.Key k why) h = absurd h
+    dealt_stands name now l ps js parcels (faults.NoRule k text) h = absurd h
+    dealt_stands name now l ps js parcels faults.Disk h = inl h
+    dealt_stands name now l ps js parcels (faults.NotATable dataset at want found) h =
+        (h.0, subst (λ (x : List ℕ). IfSome start (λ s. Stands x (folder_at s x) (BadTable (record { at = at; want = want; found = found })))) (sym h.1) h.2)
+    dealt_stands name now l ps js parcels (faults.Damaged dataset damage) h = (h.0, subst (λ (x : List ℕ). IfSome start (λ s. Stands x (folder_at s x) (BadFile damage))) (sym h.1) h.2)
+    dealt_stands name now l ps js parcels (faults.TableFull k) h = absurd h
+    dealt_stands name now l ps js parcels (faults.TooMany k) h = (h.0, h.1, tt)
+    dealt_stands name now l ps js parcels faults.InputLimit h = absurd h
+    dealt_stands name now l ps js parcels faults.NoMemory h = inl h
+
+  -- ---- one message
+
+  module _ (rules : List Rule) (given : List Pair) (start before : Option Holdings) (all waits : List Stored) (l : OpenDatasets D) (ps : List (Pass X Y)) (js : List (Job (Writing H) (Pass X Y) (FlushFault F))) (parcels : List Parcel) (p : Progress) (few : p.fed ≤ 68719476736)
+      (g : Going has kept start before all waits l ps js parcels p) where
+    few_octets : octets_of (all ++ waits) < 2 ^ 63
+    few_octets = let sum = g.sum in omega (arith, sum, few)
+
+    pub gone_none : (now : Option Holdings) (q : Progress) → now ≡ before → answer p (first p.rest) ≡ Ok None → q ≡ progress p (first p.rest) → WentOn has kept rules given p q start now (all ++ waits) l ps js parcels
+    gone_none now q same e goes =
+        let is : q ≡ waiting p = goes ∙ waited p (first p.rest) e in
+        let sum = g.sum in
+        let rest : length q.rest ≤ length p.rest = rw is (pending_le p.rest) in
+        let fed : q.fed ≡ p.fed = ap (λ (x : Progress). x.fed) is in
+        record {
+          all = all;
+          waiting = waits;
+          on = went_none rules given p q (all ++ waits) e goes;
+          going = record {
+            deals = subst (λ (n : Option Holdings). Deals has kept start n all waits (datasets_in (all ++ waits)) l ps js parcels) (sym same) g.deals;
+            sum = omega (arith, sum, rest, fed);
+            given = ap (λ (x : Progress). x.given) is ∙ g.given;
+          };
+        }
+
+    module _ (m : Sections) (n : ℕ) (e : answer p (first p.rest) ≡ Ok (Some m)) (count : n ≡ p.given) (octets : List ℕ) (whole : octets ≡ message_octets m) (key : List Pair) (place : Texts) (keyed_is : key_of m given ≡ Ok key) (placed : place_from 0 rules key ≡ Some place) where
+      message_is : stored_at place m ≡ message_at place octets
+      message_is = ap (message_at place) (sym whole)
+
+      pub gone_one : (now : Option Holdings) (l₂ : OpenDatasets D) (qs : List (Pass X Y)) (ks : List (Job (Writing H) (Pass X Y) (FlushFault F))) (more : List Parcel) (q : Progress) → q ≡ progress p (first p.rest) → is_too_many (datasets_in (all ++ waits)) place.dataset ≡ false
+          → Deals has kept start now all (waits ++ message_at place octets ∷ []) (datasets_in (all ++ (waits ++ message_at place octets ∷ []))) l₂ qs ks more → WentOn has kept rules given p q start now (all ++ waits) l₂ qs ks more
+      gone_one now l₂ qs ks more q goes room d =
+          let s : Stored = message_at place octets in
+          let t = answered p (first p.rest) m e in
+          let q-is : q ≡ progress p (Takes m t.0) = goes ∙ ap (progress p) t.1 in
+          let fits = message_fits p m t.0 t.1 in
+          let sum = g.sum in
+          let long = ap length whole in
+          let rest : length q.rest ≡ length t.0 = ap (λ (x : Progress). length x.rest) q-is in
+          let fed : q.fed ≡ p.fed = ap (λ (x : Progress). x.fed) q-is in
+          let one : q.given ≡ p.given + 1 = ap (λ (x : Progress). x.given) q-is in
+          let so_far = g.given in
+          let all_is : all ++ (waits ++ s ∷ []) ≡ (all ++ waits) ++ s ∷ [] = sym (append_assoc all waits (s ∷ [])) in
+          let size : octets_of (all ++ (waits ++ s ∷ [])) ≡ octets_of (all ++ waits) + length octets = ap octets_of all_is ∙ octets_push (all ++ waits) s in
+          let number : length (all ++ (waits ++ s ∷ [])) ≡ length (all ++ waits) + 1 = ap length all_is ∙ length-append (all ++ waits) (s ∷ []) in
+          record {
+            all = all;
+            waiting = waits ++ s ∷ [];
+            on = went_one rules given p q m n s (all ++ waits) (all ++ (waits ++ s ∷ [])) e goes count
+                (stored_is rules given (datasets_in (all ++ waits)) (n + 1) m key keyed_is place placed room ∙ ap (λ (x : Stored). Ok x) message_is) all_is;
+            going = record { deals = d; sum = omega (arith, size, fits, sum, long, rest, fed); given = omega (arith, one, so_far, number) };
+          }
+
+      -- its dataset isn't opened, or the store failed
+      dealt_ends : (Z : Type 0) (now : Option Holdings) (l₂ : OpenDatasets D) (qs : List (Pass X Y)) (ks : List (Job (Writing H) (Pass X Y) (FlushFault F))) (more : List Parcel) (fault : BulkFault Z) → TooManyAt {A = Unit {0}} (is_too_many (datasets_in (all ++ waits)) place.dataset) (Err fault)
+          → Undealt has kept start now all waits place.dataset (datasets_in (all ++ waits)) fault l₂ qs ks more → (past : Bool) (others : List ℕ) → Rattle.fd_bulk.specs.Inputs.EndsTaken fault (Rattle.fd_bulk.specs.Taking.taken_from rules given (datasets_in (all ++ waits)) p past others)
+      dealt_ends Z now l₂ qs ks more (faults.Input f) too h past others = absurd h
+      dealt_ends Z now l₂ qs ks more (faults.Message at) too h past others = absurd h
+      dealt_ends Z now l₂ qs ks more (faults.Cut t) too h past others = absurd h
+      dealt_ends Z now l₂ qs ks more (faults.Key k why) too h past others = absurd h
+      dealt_ends Z now l₂ qs ks more (faults.NoRule k text) too h past others = absurd h
+      dealt_ends Z now l₂ qs ks more faults.Disk too h past others = tt
+      dealt_ends Z now l₂ qs ks more (faults.NotATable dataset at want found) too h past others = unopened_ends rules given (datasets_in (all ++ waits)) p m n e count key place keyed_is placed dataset h.1 too past others
+      dealt_ends Z now l₂ qs ks more (faults.Damaged dataset damage) too h past others = unopened_ends rules given (datasets_in (all ++ waits)) p m n e count key place keyed_is placed dataset h.1 too past others
+      dealt_ends Z now l₂ qs ks more (faults.TableFull k) too h past others = absurd h
+      dealt_ends Z now l₂ qs ks more (faults.TooMany k) too h past others = too_many_ends rules given (datasets_in (all ++ waits)) p m n e count key place keyed_is placed Z k h.2 too past others
+      dealt_ends Z now l₂ qs ks more faults.InputLimit too h past others = absurd h
+      dealt_ends Z now l₂ qs ks more faults.NoMemory too h past others = tt
+
+      pub ended_dealt : {Z : Type 0} (now : Option Holdings) (l₂ : OpenDatasets D) (qs : List (Pass X Y)) (ks : List (Job (Writing H) (Pass X Y) (FlushFault F))) (more : List Parcel) (fault : BulkFault Z) → TooManyAt {A = Unit {0}} (is_too_many (datasets_in (all ++ waits)) place.dataset) (Err fault)
+          → Undealt has kept start now all waits place.dataset (datasets_in (all ++ waits)) fault l₂ qs ks more → EndedThere has kept rules given p start now (all ++ waits) l₂ qs ks more fault
+      ended_dealt now l₂ qs ks more fault too h = record {
+        all = all;
+        waiting = waits;
+        on = ended_now rules given fault p (all ++ waits) (dealt_ends _ now l₂ qs ks more fault too h);
+        ends = dealt_stands start all waits place.dataset now l₂ qs ks more fault h;
+        sum = few_octets;
+      }
+
+    -- it has no place
+    pub ended_placed : {Z : Type 0} (m : Sections) (n : ℕ) → answer p (first p.rest) ≡ Ok (Some m) → n ≡ p.given → (fault : BulkFault Z) → PlacedAs rules given (n + 1) m (Err fault) → EndedThere has kept rules given p start before (all ++ waits) l ps js parcels fault
+    ended_placed m n e count fault h = record {
+      all = all;
+      waiting = waits;
+      on = ended_now rules given fault p (all ++ waits) (placed_ends rules given (datasets_in (all ++ waits)) p m n e count fault h);
+      ends = placed_stands start all waits rules given m before l ps js parcels (n + 1) fault (let so_far = g.given in omega (arith, count, so_far)) g.deals h;
+      sum = few_octets;
+    }
+
+    -- the stream is refused
+    pub ended_stream : (Z : Type 0) (at : BadAt) → answer p (first p.rest) ≡ Err at → EndedThere has kept {Z = Z} rules given p start before (all ++ waits) l ps js parcels (faults.Message at)
+    ended_stream Z at e = record {
+      all = all;
+      waiting = waits;
+      on = ended_now rules given (faults.Message at) p (all ++ waits) (ends_there rules given Z (datasets_in (all ++ waits)) p at e);
+      ends = (deals_closes has kept start all waits before (datasets_in (all ++ waits)) l ps js parcels g.deals, g.deals.met, (refused_at p (first p.rest) at e).1 ∙ ap (λ (n : ℕ). n + 1) g.given);
+      sum = few_octets;
+    }
+
+    pub gone_nowhere : WentOn has kept rules given p p start before (all ++ waits) l ps js parcels
+    gone_nowhere = record { all = all; waiting = waits; on = stored_nothing rules given p (all ++ waits); going = g }
+
+    -- ---- the round
+
+    pub can_run : CanRun has kept l ps js parcels
+    can_run = record { start = start; now = before; lost = 0; all = all; waiting = waits; crewed = g.deals.crewed; waits = g.deals.waits; sum = few_octets }
+
+    module _ (now : Option Holdings) (same : now ≡ before) (qs : List (Pass X Y)) (ks : List (Job (Writing H) (Pass X Y) (FlushFault F))) (more : List Parcel) (none : more ≡ []) where
+      none_waits : Waits (names_of l.each) [] ks more
+      none_waits = subst (λ (xs : List Parcel). Waits (names_of l.each) [] ks xs) (sym none) (record { parcels_are = tt; fit = tt; met = λ i x at. absurd (cc at) })
+
+      all_now : (all ++ waits) ++ [] ≡ all ++ waits
+      all_now = append-nil (all ++ waits)
+
+      pub gone_round : (Z : Type 0) → RanAs has kept {Z = Z} start before 0 (all ++ waits) (Ok tt) l qs ks → Going has kept start now (all ++ waits) [] l qs ks more p
+      gone_round Z c = subst (λ (n : Option Holdings). Going has kept start n (all ++ waits) [] l qs ks more p) (sym same) (record {
+        deals = record {
+          crewed = c;
+          waits = none_waits;
+          met = subst (λ (xs : List Stored). AreMet (datasets_in xs) (names_of l.each)) (sym all_now) g.deals.met;
+          untouched = g.deals.untouched;
+        };
+        sum = let sum = g.sum in let same = ap octets_of all_now in omega (arith, sum, same);
+        given = g.given ∙ ap length (sym all_now);
+      })
+
+      -- a worker stopped
+      pub halts_round : {Z : Type 0} (fault : BulkFault Z) → RanAs has kept start before 0 (all ++ waits) (Err fault) l qs ks → EndsFor has kept start before all waits l qs ks more fault
+      halts_round (faults.Input f) c = absurd c.1
+      halts_round (faults.Message at) c = absurd c.1
+      halts_round (faults.Cut t) c = absurd c.1
+      halts_round (faults.Key k why) c = absurd c.1
+      halts_round (faults.NoRule k text) c = absurd c.1
+      halts_round faults.Disk c = inr (record { lost = 0; crewed = c.0; none = none }, tt)
+      halts_round (faults.NotATable dataset at want found) c = absurd c.1
+      halts_round (faults.Damaged dataset damage) c = absurd c.1
+      halts_round (faults.TableFull k) c = (record { lost = 0; crewed = c.0; none = none }, c.1)
+      halts_round (faults.TooMany k) c = absurd c.1
+      halts_round faults.InputLimit c = absurd c.1
+      halts_round faults.NoMemory c = inr (record { lost = 0; crewed = c.0; none = none }, tt)
+
+      halts_ends : {Z : Type 0} (fault : BulkFault Z) → RanAs has kept start before 0 (all ++ waits) (Err fault) l qs ks → (t : Rattle.fd_outcome.specs.Archiving.Taken) → Rattle.fd_bulk.specs.Inputs.EndsTaken fault t
+      halts_ends (faults.Input f) c t = absurd c.1
+      halts_ends (faults.Message at) c t = absurd c.1
+      halts_ends (faults.Cut x) c t = absurd c.1
+      halts_ends (faults.Key k why) c t = absurd c.1
+      halts_ends (faults.NoRule k text) c t = absurd c.1
+      halts_ends faults.Disk c t = tt
+      halts_ends (faults.NotATable dataset at want found) c t = absurd c.1
+      halts_ends (faults.Damaged dataset damage) c t = absurd c.1
+      halts_ends (faults.TableFull k) c t = tt
+      halts_ends (faults.TooMany k) c t = absurd c.1
+      halts_ends faults.InputLimit c t = absurd c.1
+      halts_ends faults.NoMemory c t = tt
+
+      pub ended_round : {Z : Type 0} (fault : BulkFault Z) → RanAs has kept start before 0 (all ++ waits) (Err fault) l qs ks → EndedThere has kept rules given p start now (all ++ waits) l qs ks more fault
+      ended_round fault c = subst (λ (n : Option Holdings). EndedThere has kept rules given p start n (all ++ waits) l qs ks more fault) (sym same) (record {
+        all = all;
+        waiting = waits;
+        on = ended_now rules given fault p (all ++ waits) (λ past others. halts_ends fault c _);
+        ends = halts_round fault c;
+        sum = few_octets;
+      })
+
+  -- ---- one part after another
+
+  module _ (rules : List Rule) (given : List Pair) (start middle : Option Holdings) (a : List Stored) (l : OpenDatasets D) (ps : List (Pass X Y)) (js : List (Job (Writing H) (Pass X Y) (FlushFault F))) (parcels : List Parcel) (p q : Progress) (w : WentOn has kept rules given p q start middle a l ps js parcels) where
+    pub gone_more : (now : Option Holdings) (l₂ : OpenDatasets D) (qs : List (Pass X Y)) (ks : List (Job (Writing H) (Pass X Y) (FlushFault F))) (more : List Parcel) (r : Progress) → WentOn has kept rules given q r start now (w.all ++ w.waiting) l₂ qs ks more → WentOn has kept rules given p r start now a l₂ qs ks more
+    gone_more now l₂ qs ks more r v = record { all = v.all; waiting = v.waiting; on = stored_more rules given p q r a (w.all ++ w.waiting) (v.all ++ v.waiting) w.on v.on; going = v.going }
+
+    pub ended_more : {Z : Type 0} (now : Option Holdings) (l₂ : OpenDatasets D) (qs : List (Pass X Y)) (ks : List (Job (Writing H) (Pass X Y) (FlushFault F))) (more : List Parcel) (fault : BulkFault Z) → EndedThere has kept rules given q start now (w.all ++ w.waiting) l₂ qs ks more fault → EndedThere has kept rules given p start now a l₂ qs ks more fault
+    ended_more now l₂ qs ks more fault v = record { all = v.all; waiting = v.waiting; on = ended_later rules given fault p q a (w.all ++ w.waiting) (v.all ++ v.waiting) w.on v.on; ends = v.ends; sum = v.sum }
+
+    module _ (few : q.fed ≤ 68719476736) (now : Option Holdings) (same : now ≡ middle) (qs : List (Pass X Y)) (ks : List (Job (Writing H) (Pass X Y) (FlushFault F))) (more : List Parcel) (none : more ≡ []) where
+      -- and the round was stored
+      pub gone_run : (Z : Type 0) → RanAs has kept {Z = Z} start middle 0 (w.all ++ w.waiting) (Ok tt) l qs ks → WentOn has kept rules given p q start now a l qs ks more
+      gone_run Z c = record {
+        all = w.all ++ w.waiting;
+        waiting = [];
+        on = subst (StoredOn rules given p q a) (sym (append-nil (w.all ++ w.waiting))) w.on;
+        going = gone_round rules given start middle w.all w.waiting l ps js parcels q few w.going now same qs ks more none Z c;
+      }
+
+      pub ended_run : {Z : Type 0} (fault : BulkFault Z) → RanAs has kept start middle 0 (w.all ++ w.waiting) (Err fault) l qs ks → EndedThere has kept rules given p start now a l qs ks more fault
+      ended_run fault c = ended_more now l qs ks more fault (ended_round rules given start middle w.all w.waiting l ps js parcels q few w.going now same qs ks more none fault c)

@@ -1,0 +1,245 @@
+-- An input that is read piece by piece: what is dealt at each turn, and at each exit.
+use Rattle.std.proofs.Common.{◌≡◌, inl, ◌≤◌, ◌<◌, ◌^◌, ℕ, ◌+◌, Bool, true, false, List, [], ◌++◌, length, Option, Some, None, Result, Ok, Err, refl, sym, ap, subst, ◌∙◌, append_assoc, append-nil, arith, length-append}
+use Rattle.std.specs.Prelude.{IfSome}
+use Rattle.std.specs.Io.KnownBytes.{Keeps}
+use Rattle.fd_disk.specs.declared.folders.FileName.{FileName}
+use Rattle.fd_disk.specs.Folders.{Contents, Holdings}
+use Rattle.fd_io.specs.Streams.{Gives, IsAtEnd}
+use Rattle.fd_sections.specs.declared.refusal.Truncated.{Truncated}
+use Rattle.fd_sections.specs.Progress.{Progress}
+use Rattle.fd_sections.specs.Splitting.{start, fed, finished}
+use Rattle.fd_sections.specs.Stream.{First, Unmarked, Partial, Refuses, Takes, first, first_at}
+use Rattle.fd_key.specs.Pairs.{Pair}
+use Rattle.fd_schema.specs.Rules.{Rule}
+use Rattle.fd_turn.specs.declared.board.Pass.{Pass}
+use Rattle.fd_archiver.specs.declared.fault.FlushFault.{FlushFault}
+use Rattle.fd_archiver.specs.Writing.{Writing}
+use Rattle.fd_library.specs.Open.{OpenDatasets}
+use Rattle.fd_outcome.specs.Limits.{input_limit}
+use Rattle.fd_outcome.specs.Archiving.{Stored, Taken, datasets_in, taken}
+use Rattle.fd_outcome.proofs.InputLemmas.{gives_nothing}
+use Rattle.fd_bulk.specs.declared.bulk.BulkFault.{BulkFault}
+use Rattle.fd_bulk.specs.declared.bulk.BulkFault.TheVariants as faults
+use Rattle.fd_bulk.specs.declared.reading.Counts.{Counts}
+use Rattle.fd_bulk.specs.declared.round.Job.{Job}
+use Rattle.fd_bulk.specs.declared.round.Parcel.{Parcel}
+use Rattle.fd_bulk.specs.Archived.{HasRead}
+use Rattle.fd_bulk.specs.Crewing.{Closes, Deals, octets_of}
+use Rattle.fd_bulk.specs.Inputs.{EndedOn, EndedThere, EndsAfter, EndsFor, EndsOf, EndsTaken, Going, InputDealt, Midway, Reads, WentOn, is_unread}
+use Rattle.fd_bulk.specs.Taking.{IsWaiting, Seen, StoredOn, taken_from}
+use Rattle.fd_bulk.proofs.Inputs.{ended_in, held_of, seen_more, seen_nothing, taken_cut, taken_past, taken_whole}
+use Rattle.fd_bulk.proofs.Opened.{deals_closes}
+use Rattle.fd_bulk.proofs.Steps.{ended_now}
+
+abbrev Text : Type 0
+Text = Option (List ℕ)
+
+-- ---- what was read
+
+read_on : (a b c : Text) (piece : List ℕ) (P Q : List ℕ → Type 0) → Reads a b P → Gives b c piece → ((seen : List ℕ) → P seen → Q (seen ++ piece)) → Reads a c Q
+read_on None b c piece P Q r gives step = tt
+read_on (Some octets) None c piece P Q r gives step = absurd r
+read_on (Some octets) (Some left) None piece P Q r gives step = absurd gives
+read_on (Some octets) (Some left) (Some after) piece P Q r gives step =
+    (r.0 ++ piece, r.1 ∙ ap (λ (t : List ℕ). r.0 ++ t) gives ∙ sym (append_assoc r.0 piece after), step r.0 r.2)
+
+-- what holds of all that was read and of what is left
+read_so : (a b : Text) (P : List ℕ → Type 0) (Q : List ℕ → Type 0) → Reads a b P → ((octets seen left : List ℕ) → b ≡ Some left → octets ≡ seen ++ left → P seen → Q octets) → IfSome a Q
+read_so None b P Q r to = tt
+read_so (Some octets) None P Q r to = absurd r
+read_so (Some octets) (Some left) P Q r to = to octets r.0 left refl r.1 r.2
+
+read_nothing : (a : Text) (P : List ℕ → Type 0) → P [] → Reads a a P
+read_nothing None P p = tt
+read_nothing (Some octets) P p = ([], refl, p)
+
+none_left : (b : Text) (left : List ℕ) → b ≡ Some left → IsAtEnd b → left ≡ []
+none_left b left e end = subst IsAtEnd e end
+
+some_left : (b c : Text) (piece left : List ℕ) → b ≡ Some left → Gives b c piece → length piece ≤ length left
+some_left b None piece left e gives = absurd (subst (λ (x : Text). Gives x None piece) e gives)
+some_left b (Some after) piece left e gives =
+    let is : left ≡ piece ++ after = subst (λ (x : Text). Gives x (Some after) piece) e gives in
+    omega (arith, ap length is, length-append piece after)
+
+still_left : (b c : Text) (left : List ℕ) → b ≡ Some left → Keeps b c → c ≡ Some left
+still_left None c left e keeps = absurd cc
+still_left (Some x) None left e keeps = absurd keeps
+still_left (Some x) (Some y) left e keeps = ap (λ (z : List ℕ). Some z) keeps ∙ e
+
+waiting_first : IsWaiting start
+unfolding first_at
+waiting_first = refl
+
+pub waiting_start : (p : Progress) → p ≡ start → IsWaiting p
+waiting_start p e = subst IsWaiting (sym e) waiting_first
+
+pub at_end : (a b c : Text) (P : List ℕ → Type 0) (piece : List ℕ) → Reads a b P → IsAtEnd b → Gives b c piece → piece ≡ [] → IfSome a (λ octets. c ≡ Some [])
+at_end None b c P piece r end gives z = tt
+at_end (Some octets) None c P piece r end gives z = absurd r
+at_end (Some octets) (Some left) None P piece r end gives z = absurd gives
+at_end (Some octets) (Some left) (Some after) P piece r end gives z =
+    let is : left ≡ [] ++ after = gives ∙ ap (λ (x : List ℕ). x ++ after) z in
+    ap (λ (x : List ℕ). Some x) (sym is ∙ end)
+
+pub not_both : (b : Bool) (P : Type 0) → b ≡ false → b ≡ true → P
+not_both true P f t = absurd (cc f)
+not_both false P f t = absurd (cc t)
+
+-- the message that is cut is the next
+cut_number : (p : Progress) (t : Truncated) (f : First) → Err t ≡ finished p f → t.number ≡ p.given + 1
+cut_number p t Unmarked e = absurd cc
+cut_number p t (Partial h w) e = let k : t ≡ record { number = p.given + 1; have = h; want = w } = cc in ap (λ (x : Truncated). x.number) k
+cut_number p t (Refuses bad) e = absurd cc
+cut_number p t (Takes m r) e = absurd cc
+
+module _ {D H X Y F : Type 0} (has : D → Option Contents) (kept : H → Option (FileName → Option (List ℕ))) where
+  -- a failed read isn't a cause
+  pub not_unread : {Z : Type 0} (first_has now : Option Holdings) (all waiting : List Stored) (l : OpenDatasets D) (ps : List (Pass X Y)) (js : List (Job (Writing H) (Pass X Y) (FlushFault F))) (parcels : List Parcel) (fault : BulkFault Z) → EndsFor has kept first_has now all waiting l ps js parcels fault → is_unread fault ≡ false
+  not_unread first_has now all waiting l ps js parcels (faults.Input f) e = absurd e
+  not_unread first_has now all waiting l ps js parcels (faults.Message at) e = refl
+  not_unread first_has now all waiting l ps js parcels (faults.Cut t) e = refl
+  not_unread first_has now all waiting l ps js parcels (faults.Key number why) e = refl
+  not_unread first_has now all waiting l ps js parcels (faults.NoRule number text) e = refl
+  not_unread first_has now all waiting l ps js parcels faults.Disk e = refl
+  not_unread first_has now all waiting l ps js parcels (faults.NotATable dataset at want found) e = refl
+  not_unread first_has now all waiting l ps js parcels (faults.Damaged dataset damage) e = refl
+  not_unread first_has now all waiting l ps js parcels (faults.TableFull count) e = refl
+  not_unread first_has now all waiting l ps js parcels (faults.TooMany count) e = refl
+  not_unread first_has now all waiting l ps js parcels faults.InputLimit e = refl
+  not_unread first_has now all waiting l ps js parcels faults.NoMemory e = refl
+
+  module _ (rules : List Rule) (given : List Pair) (left : Text) (start_has : Option Holdings) where
+    -- it ended for a cause
+    pub ended_for : {Z : Type 0} (fault : BulkFault Z) (after : Text) (now : Option Holdings) (all waiting : List Stored) (l : OpenDatasets D) (ps : List (Pass X Y)) (js : List (Job (Writing H) (Pass X Y) (FlushFault F))) (parcels : List Parcel) → EndsFor has kept start_has now all waiting l ps js parcels fault
+        → IfSome left (λ octets. EndsAfter fault (all ++ waiting) (taken rules given octets)) → octets_of (all ++ waiting) < 2 ^ 63 → InputDealt has kept rules given left after start_has now l ps js parcels (Err fault)
+    ended_for (faults.Input f) after now all waiting l ps js parcels e c sum = absurd e
+    ended_for (faults.Message at) after now all waiting l ps js parcels e c sum = record { all = all; waiting = waiting; stands = e; comes = c; sum = sum }
+    ended_for (faults.Cut t) after now all waiting l ps js parcels e c sum = record { all = all; waiting = waiting; stands = e; comes = c; sum = sum }
+    ended_for (faults.Key number why) after now all waiting l ps js parcels e c sum = record { all = all; waiting = waiting; stands = e; comes = c; sum = sum }
+    ended_for (faults.NoRule number text) after now all waiting l ps js parcels e c sum = record { all = all; waiting = waiting; stands = e; comes = c; sum = sum }
+    ended_for faults.Disk after now all waiting l ps js parcels e c sum = record { all = all; waiting = waiting; stands = e; comes = c; sum = sum }
+    ended_for (faults.NotATable dataset at want found) after now all waiting l ps js parcels e c sum = record { all = all; waiting = waiting; stands = e; comes = c; sum = sum }
+    ended_for (faults.Damaged dataset damage) after now all waiting l ps js parcels e c sum = record { all = all; waiting = waiting; stands = e; comes = c; sum = sum }
+    ended_for (faults.TableFull count) after now all waiting l ps js parcels e c sum = record { all = all; waiting = waiting; stands = e; comes = c; sum = sum }
+    ended_for (faults.TooMany count) after now all waiting l ps js parcels e c sum = record { all = all; waiting = waiting; stands = e; comes = c; sum = sum }
+    ended_for faults.InputLimit after now all waiting l ps js parcels e c sum = record { all = all; waiting = waiting; stands = e; comes = c; sum = sum }
+    ended_for faults.NoMemory after now all waiting l ps js parcels e c sum = record { all = all; waiting = waiting; stands = e; comes = c; sum = sum }
+
+    -- ---- the turns
+
+    pub begun : (l : OpenDatasets D) (ps : List (Pass X Y)) (js : List (Job (Writing H) (Pass X Y) (FlushFault F))) (parcels : List Parcel) (p : Progress) → p ≡ start → Deals has kept start_has start_has [] [] [] l ps js parcels → Midway has kept rules given left left start_has start_has l ps js parcels p
+    begun l ps js parcels p is deals = record {
+      all = [];
+      waiting = [];
+      going = record {
+        deals = deals;
+        sum = let a = ap (λ (x : Progress). length x.rest) is in let b = ap (λ (x : Progress). x.fed) is in omega (arith, a, b);
+        given = ap (λ (x : Progress). x.given) is;
+      };
+      reads = read_nothing left (Seen rules given p []) (seen_nothing rules given p is);
+    }
+
+    -- a piece was fed
+    pub fed_going : (now : Option Holdings) (l : OpenDatasets D) (ps : List (Pass X Y)) (js : List (Job (Writing H) (Pass X Y) (FlushFault F))) (parcels : List Parcel) (p q : Progress) (piece : List ℕ) (all waiting : List Stored) → q ≡ fed p piece → Going has kept start_has now all waiting l ps js parcels p → Going has kept start_has now all waiting l ps js parcels q
+    fed_going now l ps js parcels p q piece all waiting is g =
+        let sum = g.sum in
+        record {
+          deals = g.deals;
+          sum = let a = ap (λ (x : Progress). length x.rest) is in let b = ap (λ (x : Progress). x.fed) is in omega (arith, a, b, sum, length-append p.rest piece);
+          given = ap (λ (x : Progress). x.given) is ∙ g.given;
+        }
+
+    module _ (before : Option Holdings) (mid : Text) (l : OpenDatasets D) (ps : List (Pass X Y)) (js : List (Job (Writing H) (Pass X Y) (FlushFault F))) (parcels : List Parcel) (p : Progress) (m : Midway has kept rules given left mid start_has before l ps js parcels p) where
+      abbrev so_far : List Stored
+      so_far = m.all ++ m.waiting
+
+      few_octets : p.fed ≤ input_limit → octets_of so_far < 2 ^ 63
+      few_octets le = let g = m.going in let sum = g.sum in omega (arith, sum, le)
+
+      pub turned : (after : Text) (now : Option Holdings) (l₂ : OpenDatasets D) (qs : List (Pass X Y)) (ks : List (Job (Writing H) (Pass X Y) (FlushFault F))) (more : List Parcel) (q n : Progress) (piece : List ℕ) → Gives mid after piece → q ≡ fed p piece → WentOn has kept rules given q n start_has now so_far l₂ qs ks more → n.fed ≡ q.fed
+          → Midway has kept rules given left after start_has now l₂ qs ks more n
+      turned after now l₂ qs ks more q n piece gives is w same_fed = record {
+        all = w.all;
+        waiting = w.waiting;
+        going = w.going;
+        reads = read_on left mid after piece (Seen rules given p so_far) (Seen rules given n (w.all ++ w.waiting)) m.reads gives (λ seen s.
+            seen_more rules given p n so_far (w.all ++ w.waiting) seen piece s (subst (λ (x : Progress). StoredOn rules given x n so_far (w.all ++ w.waiting)) is w.on) (same_fed ∙ ap (λ (x : Progress). x.fed) is));
+      }
+
+      -- ---- the exits
+
+      -- the octets are those that were gone over, and then this piece
+      abbrev Followed : List ℕ → List ℕ → Type 0
+      Followed piece both = (seen : List ℕ) × Seen rules given p so_far seen × (both ≡ seen ++ piece)
+
+      module _ {Z : Type 0} (e : BulkFault Z) where
+        ends_in : (after : Text) (piece : List ℕ) (b : List Stored) → Gives mid after piece → p.fed + length piece ≤ input_limit → EndedOn e (taken_from rules given (datasets_in so_far) (fed p piece)) so_far b → IfSome left (λ octets. EndsAfter e b (taken rules given octets))
+        ends_in after piece b gives le on =
+            read_so left after (Followed piece) (λ octets. EndsAfter e b (taken rules given octets)) (read_on left mid after piece (Seen rules given p so_far) (Followed piece) m.reads gives (λ seen s. (seen, s, refl))) (λ octets both rest x all h.
+            ended_in rules given e p so_far b octets h.0 piece rest h.1 (subst (λ (y : List ℕ). octets ≡ y ++ rest) h.2 all) (let f = h.1 in let g = f.fed in omega (arith, g, le, length-append h.0 piece)) on)
+
+        pub stopped_there : (after : Text) (now : Option Holdings) (l₂ : OpenDatasets D) (qs : List (Pass X Y)) (ks : List (Job (Writing H) (Pass X Y) (FlushFault F))) (more : List Parcel) (q : Progress) (piece : List ℕ) → Gives mid after piece → p.fed + length piece ≤ input_limit → q ≡ fed p piece → EndedThere has kept rules given q start_has now so_far l₂ qs ks more e
+            → InputDealt has kept rules given left after start_has now l₂ qs ks more (Err e)
+        stopped_there after now l₂ qs ks more q piece gives le is t =
+            ended_for e after now t.all t.waiting l₂ qs ks more t.ends (ends_in after piece (t.all ++ t.waiting) gives le (subst (λ (x : Progress). EndedOn e (taken_from rules given (datasets_in so_far) x) so_far (t.all ++ t.waiting)) is t.on)) t.sum
+
+        nothing_behind : ((past : Bool) (more : List ℕ) → EndsTaken e (taken_from rules given (datasets_in so_far) (fed p []) past more)) → p.fed ≤ input_limit → IfSome left (λ octets. EndsAfter e so_far (taken rules given octets))
+        nothing_behind t le = ends_in mid [] so_far (gives_nothing mid) (omega (arith, le)) (ended_now rules given e (fed p []) so_far t)
+
+      closes : Closes has kept start_has before m.all m.waiting l ps js parcels
+      closes = let g = m.going in deals_closes has kept start_has m.all m.waiting before (datasets_in so_far) l ps js parcels g.deals
+
+      pub starved : (Z : Type 0) (after : Text) → p.fed ≤ input_limit → InputDealt has kept rules given left after start_has before l ps js {Z = Z} parcels (Err faults.NoMemory)
+      starved Z after le = record { all = m.all; waiting = m.waiting; stands = inl closes; comes = nothing_behind faults.NoMemory (λ past more. tt) le; sum = few_octets le }
+
+      pub past : (Z : Type 0) (after : Text) (piece : List ℕ) → Gives mid after piece → 0 < length piece → p.fed ≡ input_limit → IsWaiting p → InputDealt has kept rules given left after start_has before l ps js {Z = Z} parcels (Err faults.InputLimit)
+      past Z after piece gives some full waits = record {
+        all = m.all;
+        waiting = m.waiting;
+        stands = (closes, m.going.deals.met, tt);
+        comes = read_so left mid (Seen rules given p so_far) (λ octets. EndsAfter faults.InputLimit so_far (taken rules given octets)) m.reads (λ octets seen rest x all s.
+            taken_past rules given p so_far octets seen rest s all full (let h = some_left mid after piece rest x gives in omega (arith, h, some)) waits);
+        sum = few_octets (omega (arith, full));
+      }
+
+      pub unread : (Z : Type 0) (fault : Z) (after : Text) → Keeps mid after → p.fed ≤ input_limit → IsWaiting p → InputDealt has kept rules given left after start_has before l ps js {Z = Z} parcels (Err (faults.Input fault))
+      unread Z fault after keeps le waits = record {
+        all = m.all;
+        waiting = m.waiting;
+        stands = m.going.deals;
+        comes = read_so left mid (Seen rules given p so_far) (λ octets. HasRead rules given octets after so_far) m.reads (λ octets seen rest x all s.
+            let f : EndsAfter {Z = Z} faults.NoMemory so_far (taken rules given octets) =
+            ended_in rules given faults.NoMemory p so_far so_far octets seen [] rest s (all ∙ ap (λ (y : List ℕ). y ++ rest) (sym (append-nil seen))) (let g = s.fed in omega (arith, g, le, length-append seen [])) (ended_now rules given faults.NoMemory (fed p []) so_far (λ past more. tt)) in
+            record {
+              seen = seen;
+              rest = rest;
+              octets_are = all;
+              left_is = still_left mid after rest x keeps;
+              whole = held_of rules given p so_far seen s waits;
+              front = (f.rest.stored, ap (λ (t : Taken). t.stored) f.is);
+            });
+        sum = few_octets le;
+      }
+
+      -- the input is at its end
+      pub ended_at_end : {Z : Type 0} (result : Result Counts (BulkFault Z)) → IsAtEnd mid → p.fed ≤ input_limit → IsWaiting p → EndsOf result p → (after : Text) → InputDealt has kept rules given left after start_has before l ps js parcels result
+      ended_at_end (Ok counts) end le waits (count, junk) after = record {
+        all = m.all;
+        waiting = m.waiting;
+        stands = m.going.deals;
+        comes = (
+          count ∙ m.going.given,
+          read_so left mid (Seen rules given p so_far) (λ octets. taken rules given octets ≡ record { stored = so_far; refusal = None; junk = counts.junk }) m.reads (λ octets seen rest x all s.
+              taken_whole rules given p so_far octets seen counts.junk s (all ∙ ap (λ (y : List ℕ). seen ++ y) (none_left mid rest x end)) le waits junk),
+        );
+        sum = few_octets le;
+      }
+      ended_at_end (Err fault) end le waits (t, is, cut) after = rw is (record {
+        all = m.all;
+        waiting = m.waiting;
+        stands = (closes, m.going.deals.met, let g = m.going in cut_number p t (first p.rest) cut ∙ ap (λ (n : ℕ). n + 1) g.given);
+        comes = read_so left mid (Seen rules given p so_far) (λ octets. EndsAfter (faults.Cut t) so_far (taken rules given octets)) m.reads (λ octets seen rest x all s.
+            taken_cut rules given p so_far octets seen t s (all ∙ ap (λ (y : List ℕ). seen ++ y) (none_left mid rest x end)) le cut);
+        sum = few_octets le;
+      })

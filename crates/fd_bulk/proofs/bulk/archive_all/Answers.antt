@@ -1,0 +1,10 @@
+use Rattle.fd_bulk.proofs.Finishing.{deals_none, starved_first}
+use Rattle.fd_bulk.proofs.bulk.archive_all.Goals as goal
+
+pub returns-in_default-clause-archived : goal.returns-in_default-clause-archived
+returns-in_default-clause-archived g c = starved_first _ g.S.Folder.Folder.has c.args.workers c.args.schema.now c.args.given.now (g.I.Source.left c.args.input.now) (g.I.Source.left c.args.input.now) (g.S.Store.has c.args.store.now) c.args.opener.now.library.each c.requires.none.0
+
+pub archive_by-requires-clause-begun : goal.archive_by-requires-clause-begun
+archive_by-requires-clause-begun g c κs within =
+    let n = c.in-Ok.ensures in
+    deals_none g.S.Folder.Folder.has g.S.Folder.Shelf.Shelf.kept (g.S.Store.has c.args.store.now) c.args.workers c.args.opener.now.library c.in-Ok.crew.passes.items c.in-Ok.crew.jobs.items c.in-Ok.crew.parcels.items c.requires.workers.0 c.requires.workers.1 n.workers n.met_none n.none.0 n.none.1 c.requires.none.0 c.requires.none.1

@@ -1,0 +1,188 @@
+//! The messages of an input, archived by several workers.
+ghost use Rattle.std.specs.Prelude.{◌≡◌, ◌≤◌, [], List, ℕ, Option, Some, Ok, IfSome, OnOk, false, is_some, length};
+ghost use Rattle.fd_bytes.specs.Causes.{Rose};
+ghost use Rattle.fd_schema.specs.Grammar.{IsSchema};
+ghost use Rattle.fd_library.specs.Open.{OutAre};
+ghost use Rattle.fd_bulk.specs.declared.bulk.BulkFault.TheVariants as faults;
+ghost use Rattle.fd_bulk.specs.Archived.{Archived, IsRead, OnDisk, OnInput};
+ghost use Rattle.fd_bulk.specs.Crewing.{Deals};
+
+use crate::crew::Crew;
+use crate::opener::Opener;
+use crate::reading::{Counts, list_input};
+use fd_bytes::NoMemory;
+use fd_disk::{Folder, Store};
+use fd_io::{Gate, Source};
+use fd_key::{Given, KeyFault};
+use fd_schema::Schema;
+use fd_sections::{BadAt, Truncated};
+use fd_segment::Damage;
+use std::alloc::Global;
+use std::sync::Wait;
+use std::thread::Threads;
+
+/// What was archived of an input.
+#[derive(Clone, Copy, Debug, PartialEq, Eq)]
+pub struct Bulk {
+    /// How many fields.
+    pub fields: u64,
+    /// In how many datasets.
+    pub datasets: u32,
+    /// How many octets were skipped.
+    pub junk: u64,
+}
+
+/// Why an input wasn't archived, or not all of it. Messages count from 1.
+#[derive(Drop)]
+pub enum BulkFault<X> {
+    /// A read of the input failed.
+    Input(X),
+    /// A message is no GRIB 2 message.
+    Message(BadAt),
+    /// The last message is cut.
+    Cut(Truncated),
+    /// The message of this number has no key, for this reason.
+    Key {
+        number: u64,
+        fault: KeyFault,
+    },
+    /// No rule admits the key of the message of this number, which has this text.
+    NoRule {
+        number: u64,
+        key: String,
+    },
+    /// A call of the store failed, or of what it handed out.
+    Disk,
+    /// The bytes are no table of the dataset.
+    NotATable {
+        /// The dataset.
+        dataset: String,
+        /// The place of the first octet against the format.
+        at: u64,
+        /// The octet of the format.
+        want: u8,
+        /// The octet that stands there.
+        found: Option<u8>,
+    },
+    /// A listed file of the dataset is damaged.
+    Damaged {
+        /// The dataset.
+        dataset: String,
+        /// What is wrong.
+        damage: Damage,
+    },
+    /// A dataset's table has so many entries, 65,535.
+    TableFull {
+        count: u32,
+    },
+    /// There would be so many datasets, 2,049.
+    TooMany {
+        count: u32,
+    },
+    /// The input is longer than an input may be.
+    InputLimit,
+    /// An allocation was refused.
+    NoMemory,
+}
+
+impl<X> From<NoMemory> for BulkFault<X> {
+    ghost from_gives = { λ _ e. e ≡ faults.NoMemory };
+
+    fn from(_: NoMemory) -> BulkFault<X> {
+        BulkFault::NoMemory
+    }
+}
+
+/// Archives the messages of an input under their keys and the given pairs, each in the dataset that the schema says, by so
+/// many workers, at most 8. The opener has no dataset open yet; afterwards each pass and archiver is back with it.
+///
+/// Messages are dealt to the workers by their places, so that those of one key stay in their order. They come in rounds: a
+/// round ends with its 64th message, or with that by which its messages have 134,217,728 octets. Worker w, from 1, passes
+/// the gate with w and r before its share of round r, from 1, also where its share is empty. All is listed at the end, and
+/// before a refusal of the input or a failed read is told; else a batch is listed only where it is full. A fault of the
+/// store is handed to the store's count; of several refusals that of the lowest message is told. Where a listing is in doubt
+/// after a fault, its files are in the dataset's folder.
+pub fn archive_all<
+    F: Send + Drop,
+    X: Drop,
+    S: Store<F>,
+    I: Source<X>,
+    G: Gate,
+    R: Threads + Wait + Sync,
+>(
+    rt: &R,
+    alloc: Global,
+    input: &mut I,
+    given: &Given,
+    schema: &Schema,
+    workers: u32,
+    opener: &mut Opener<F, S>,
+    store: &mut S,
+    gate: &G,
+) -> Result<Bulk, BulkFault<X>>
+where
+    requires schema { IsSchema schema.now }
+    requires workers { (1 ≤ workers) × (workers ≤ 8) }
+    requires none { (opener.old.library.each ≡ []) × (opener.old.library.boards ≡ []) }
+    requires home { (name : List ℕ) → S.out store.old name ≡ false }
+    ensures archived { Archived S.Folder.has workers schema.now given.now (I.left input.old) (I.left input.new) (S.has store.old) (S.has store.new) opener.new.library.each result }
+    ensures out { OutAre opener.new.library.each (S.out store.new) }
+    ensures to_end { IfSome (I.left input.old) (λ octets. OnOk result (I.left input.new ≡ Some [])) }
+    ensures calm { IsRead result (I.faults input.new ≡ I.faults input.old) }
+    ensures read { OnInput result (Rose (I.faults input.old) (I.faults input.new)) }
+    ensures disk { OnDisk result (Rose (S.faults store.old) (S.faults store.new)) }
+    ensures told { is_some (S.has store.new) ≡ is_some (S.has store.old) }
+    ensures later { S.faults store.old ≤ S.faults store.new }
+{
+    let Ok(mut crew) = Crew::new(alloc, workers) else {
+        return Err(BulkFault::NoMemory);
+    };
+    archive_by(
+        rt, alloc, input, given, schema, &mut crew, opener, store, gate,
+    )
+}
+
+// The same, by these workers, who have met no dataset.
+fn archive_by<
+    F: Send + Drop,
+    X: Drop,
+    S: Store<F>,
+    I: Source<X>,
+    G: Gate,
+    R: Threads + Wait + Sync,
+>(
+    rt: &R,
+    alloc: Global,
+    input: &mut I,
+    given: &Given,
+    schema: &Schema,
+    crew: &mut Crew<F, S>,
+    opener: &mut Opener<F, S>,
+    store: &mut S,
+    gate: &G,
+) -> Result<Bulk, BulkFault<X>>
+where
+    requires schema { IsSchema schema.now }
+    requires out { OutAre opener.old.library.each (S.out store.old) }
+    requires begun { Deals S.Folder.has S.Folder.Shelf.kept (S.has store.old) (S.has store.old) [] [] [] opener.old.library crew.old.passes.items crew.old.jobs.items crew.old.parcels.items }
+    ensures archived { Archived S.Folder.has (length crew.old.jobs.items) schema.now given.now (I.left input.old) (I.left input.new) (S.has store.old) (S.has store.new) opener.new.library.each result }
+    ensures out { OutAre opener.new.library.each (S.out store.new) }
+    ensures to_end { IfSome (I.left input.old) (λ octets. OnOk result (I.left input.new ≡ Some [])) }
+    ensures calm { IsRead result (I.faults input.new ≡ I.faults input.old) }
+    ensures read { OnInput result (Rose (I.faults input.old) (I.faults input.new)) }
+    ensures disk { OnDisk result (Rose (S.faults store.old) (S.faults store.new)) }
+    ensures told { is_some (S.has store.new) ≡ is_some (S.has store.old) }
+    ensures later { S.faults store.old ≤ S.faults store.new }
+{
+    let found = list_input(rt, alloc, input, given, schema, crew, opener, store, gate);
+    let datasets = opener.datasets().len() as u32;
+    crew.end(rt, opener);
+    match found {
+        Ok(Counts { fields, junk }) => Ok(Bulk {
+            fields,
+            datasets,
+            junk,
+        }),
+        Err(fault) => Err(fault),
+    }
+}

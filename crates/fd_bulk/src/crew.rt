@@ -1,0 +1,443 @@
+//! The workers between the rounds: datasets are opened, and messages are dealt.
+ghost use Rattle.std.specs.Prelude.{◌≡◌, ◌==◌, ◌≤◌, ◌<◌, ◌+◌, ◌++◌, ◌∷◌, [], ◌^◌, ℕ, List, Option, Some, All, true, false, is_some, length, slice_get, IfErr, IfOk, IsSome, OnOk};
+ghost use Rattle.fd_bytes.specs.Causes.{Rose};
+ghost use Rattle.fd_disk.specs.Folders.{Holdings, WhereTold};
+ghost use Rattle.fd_bulk.specs.Archived.{Grows, GrowsAll, IsBack, IsSure};
+ghost use Rattle.fd_schema.specs.Rules.{file_key};
+ghost use Rattle.fd_schema.specs.Reading.{seen_place};
+ghost use Rattle.fd_library.specs.Open.{OutAre, names_of};
+ghost use Rattle.fd_outcome.specs.Archiving.{Stored, datasets_in, is_too_many};
+ghost use Rattle.fd_bulk.specs.Opening.{AreOpen};
+ghost use Rattle.fd_turn.specs.Passes.{view};
+ghost use Rattle.fd_library.specs.Calls.{Changes};
+ghost use Rattle.fd_bulk.specs.Ending.{CanEndOne, EndedAs, IsShorter, column};
+ghost use Rattle.fd_bulk.specs.Halting.{Each, Halted, HasOneMore, HaveMetNone, HaveRoom, IsLower, IsQuiet, IsSameJob, IsTold, OnStore};
+ghost use Rattle.fd_bulk.specs.Crewing.{CanEnd, CanFinish, CanRun, CanSeat, Closes, Crewed, Deals, DealtAs, Finished, FinishedAs, HasFull, IsUnopened, OpenedAs, RanAs, Running, SeatedAs, SeeFull, Stopping, TooManyAt, Waits, message_at, octets_of};
+
+use crate::bulk::BulkFault;
+use crate::dealt::dealt;
+use crate::handing::hand_back_all;
+use crate::opener::Opener;
+use crate::round::{Desk, FolderJob, Halt, Job, Parcel, list_round, run_round};
+use fd_archiver::FlushFault;
+use fd_bytes::{Bytes, NoMemory};
+use fd_disk::{Disk, Down, Folder, Shelf, Store};
+use fd_io::Gate;
+use fd_library::FolderPass;
+use fd_recovery::OpenFault;
+use fd_schema::Place;
+use fd_segment::Room;
+use std::alloc::Global;
+use std::sync::Wait;
+use std::thread::Threads;
+
+/// How many keys a batch may have, and how many bytes of keys.
+const ROOM: Room = Room {
+    keys: 2048,
+    bytes: 131_072,
+};
+
+/// How many messages a round has, and by how many octets it ends before.
+const MESSAGES: usize = 64;
+
+const OCTETS: u64 = 134_217_728;
+
+/// The workers, the passes of the datasets from which theirs are split, by the datasets' numbers, and the messages of the
+/// round that is dealt.
+#[derive(Drop)]
+pub(crate) struct Crew<F: Send, S: Store<F>> {
+    pub(crate) passes: Vec<FolderPass<F, S::Folder>>,
+    pub(crate) jobs: Vec<FolderJob<F, S::Folder>>,
+    pub(crate) parcels: Vec<Parcel>,
+    octets: u64,
+    round: u32,
+}
+
+impl<F: Send + Drop, S: Store<F>> Crew<F, S> {
+    /// So many workers, who have met no dataset.
+    pub(crate) fn new(alloc: Global, workers: u32) -> Result<Crew<F, S>, NoMemory>
+        ensures workers { IfOk result (λ c. length c.jobs.items ≡ workers) }
+        ensures met_none { IfOk result (λ c. HaveMetNone c.jobs.items) }
+        ensures none { IfOk result (λ c. (c.passes.items ≡ []) × (c.parcels.items ≡ [])) }
+    {
+        let mut jobs = Vec::new(alloc);
+        for _worker in 0..workers {
+            jobs.push(Job {
+                desks: Vec::new(alloc),
+                halt: None,
+            })?;
+        }
+        Ok(Crew {
+            passes: Vec::new(alloc),
+            jobs,
+            parcels: Vec::new(alloc),
+            octets: 0,
+            round: 1,
+        })
+    }
+
+    /// No message is dealt.
+    pub(crate) fn is_empty(&self) -> bool
+        ensures { result ≡ (length self.now.parcels.items == 0) }
+    {
+        self.parcels.is_empty()
+    }
+
+    /// The round is full.
+    pub(crate) fn is_full(&self) -> bool {
+        self.parcels.len() >= MESSAGES || self.octets >= OCTETS
+    }
+
+    // The number of the dataset with this text, which is opened by the first call.
+    fn opened<X: Drop>(
+        &mut self,
+        alloc: Global,
+        opener: &mut Opener<F, S>,
+        store: &mut S,
+        name: &str,
+    ) -> Result<u32, BulkFault<X>>
+        requires short { length name.now ≤ 255 }
+        requires sound { AreOpen opener.old.library }
+        requires out { OutAre opener.old.library.each (S.out store.old) }
+        requires long { length self.old.passes.items ≡ length opener.old.library.each }
+        ensures sound { AreOpen opener.new.library }
+        ensures out { OutAre opener.new.library.each (S.out store.new) }
+        ensures opens { (start : Option Holdings) (all waiting : List Stored) → Deals S.Folder.has S.Folder.Shelf.kept start (S.has store.old) all waiting (datasets_in (all ++ waiting)) opener.old.library self.old.passes.items self.old.jobs.items self.old.parcels.items
+            → OpenedAs S.Folder.has S.Folder.Shelf.kept start (S.has store.new) all waiting name.now (datasets_in (all ++ waiting)) result opener.new.library self.new.passes.items self.new.jobs.items self.new.parcels.items }
+        ensures too_many { (start : Option Holdings) (all waiting : List Stored) → Deals S.Folder.has S.Folder.Shelf.kept start (S.has store.old) all waiting (datasets_in (all ++ waiting)) opener.old.library self.old.passes.items self.old.jobs.items self.old.parcels.items
+            → TooManyAt (is_too_many (datasets_in (all ++ waiting)) name.now) result }
+        ensures jobs { length self.new.jobs.items ≡ length self.old.jobs.items }
+        ensures parcels { self.new.parcels ≡ self.old.parcels }
+        ensures cause { IfErr result (λ e. OnStore e (Rose (S.faults store.old) (S.faults store.new))) }
+        ensures told { is_some (S.has store.new) ≡ is_some (S.has store.old) }
+        ensures later { S.faults store.old ≤ S.faults store.new }
+    {
+        let Ok(()) = self.passes.reserve(1) else {
+            return Err(BulkFault::NoMemory);
+        };
+        let Ok(()) = make_room(self.jobs.as_mut_slice()) else {
+            return Err(BulkFault::NoMemory);
+        };
+        let found = match opener.dataset(alloc, store, name, true) {
+            Ok(found) => found,
+            Err(fault) => return Err(unopened(alloc, store, name, fault)),
+        };
+        let number = made(found);
+        if (number as usize) < self.passes.len() {
+            return Ok(number);
+        }
+        let pass = opener.seat(number);
+        self.passes.push_reserved(pass);
+        add_dataset(self.jobs.as_mut_slice());
+        Ok(number)
+    }
+
+    // The worker has an archiver and a pass in this dataset.
+    fn seated<X: Drop>(
+        &mut self,
+        alloc: Global,
+        opener: &mut Opener<F, S>,
+        store: &mut S,
+        worker: u32,
+        number: u32,
+    ) -> Result<(), BulkFault<X>>
+        requires can { CanSeat S.Folder.has S.Folder.Shelf.kept worker number opener.old.library self.old.passes.items self.old.jobs.items }
+        ensures sound { AreOpen opener.new.library }
+        ensures names { names_of opener.new.library.each ≡ names_of opener.old.library.each }
+        ensures seats { (start : Option Holdings) (all waiting : List Stored) (datasets : List (List ℕ)) → Deals S.Folder.has S.Folder.Shelf.kept start (S.has store.old) all waiting datasets opener.old.library self.old.passes.items self.old.jobs.items self.old.parcels.items
+            → SeatedAs S.Folder.has S.Folder.Shelf.kept start (S.has store.old) all waiting worker number datasets result opener.new.library self.new.passes.items self.new.jobs.items self.new.parcels.items }
+        ensures jobs { length self.new.jobs.items ≡ length self.old.jobs.items }
+        ensures parcels { self.new.parcels ≡ self.old.parcels }
+        ensures has { S.has store.new ≡ S.has store.old }
+        ensures out { S.out store.new ≡ S.out store.old }
+        ensures cause { IfErr result (λ e. OnStore e (Rose (S.faults store.old) (S.faults store.new))) }
+        ensures later { S.faults store.old ≤ S.faults store.new }
+    {
+        let n = number as usize;
+        if self.jobs[worker as usize].desks[n].is_some() {
+            return Ok(());
+        }
+        let archiver = match opener.archiver(alloc, number, ROOM) {
+            Ok(archiver) => archiver,
+            Err(Down::Fault(fault)) => {
+                store.note(fault);
+                return Err(BulkFault::Disk);
+            }
+            Err(Down::NoMemory) => return Err(BulkFault::NoMemory),
+        };
+        let pass = opener.datasets()[n].split(&mut self.passes[n]);
+        self.jobs[worker as usize].desks[n] = Some(Desk { archiver, pass });
+        Ok(())
+    }
+
+    /// Deals a message to a worker, and opens its dataset.
+    pub(crate) fn deal<X: Drop>(
+        &mut self,
+        alloc: Global,
+        opener: &mut Opener<F, S>,
+        store: &mut S,
+        place: Place,
+        octets: &[u8],
+    ) -> Result<(), BulkFault<X>>
+        requires short { length (seen_place place).dataset ≤ 255 }
+        requires key { length (file_key (seen_place place)) ≤ 256 }
+        requires bytes { length octets.now ≤ 134217728 }
+        requires out { OutAre opener.old.library.each (S.out store.old) }
+        requires deals { (start : Option Holdings) × ((all : List Stored) × ((waiting : List Stored) × Deals S.Folder.has S.Folder.Shelf.kept start (S.has store.old) all waiting (datasets_in (all ++ waiting)) opener.old.library self.old.passes.items self.old.jobs.items self.old.parcels.items)) }
+        ensures out { OutAre opener.new.library.each (S.out store.new) }
+        ensures deals { (start : Option Holdings) (all waiting : List Stored) → Deals S.Folder.has S.Folder.Shelf.kept start (S.has store.old) all waiting (datasets_in (all ++ waiting)) opener.old.library self.old.passes.items self.old.jobs.items self.old.parcels.items
+            → DealtAs S.Folder.has S.Folder.Shelf.kept start (S.has store.new) all waiting (message_at (seen_place place) octets.now) result opener.new.library self.new.passes.items self.new.jobs.items self.new.parcels.items }
+        ensures too_many { (start : Option Holdings) (all waiting : List Stored) → Deals S.Folder.has S.Folder.Shelf.kept start (S.has store.old) all waiting (datasets_in (all ++ waiting)) opener.old.library self.old.passes.items self.old.jobs.items self.old.parcels.items
+            → TooManyAt (is_too_many (datasets_in (all ++ waiting)) (seen_place place).dataset) result }
+        ensures jobs { length self.new.jobs.items ≡ length self.old.jobs.items }
+        ensures cause { IfErr result (λ e. OnStore e (Rose (S.faults store.old) (S.faults store.new))) }
+        ensures told { is_some (S.has store.new) ≡ is_some (S.has store.old) }
+        ensures later { S.faults store.old ≤ S.faults store.new }
+    {
+        let Ok(()) = self.parcels.reserve(1) else {
+            return Err(BulkFault::NoMemory);
+        };
+        let Ok(bytes) = Bytes::from_slice(alloc, octets) else {
+            return Err(BulkFault::NoMemory);
+        };
+        let worker = dealt(self.jobs.len() as u32, &place);
+        let dataset = self.opened(alloc, opener, store, place.dataset.as_str())?;
+        match self.seated(alloc, opener, store, worker, dataset) {
+            Ok(()) => {}
+            Err(fault) => return Err(fault),
+        }
+        self.octets = self.octets.saturating_add(octets.len() as u64);
+        self.parcels.push_reserved(Parcel {
+            worker,
+            dataset,
+            place,
+            bytes,
+        });
+        Ok(())
+    }
+
+    /// Stores the messages that were dealt.
+    pub(crate) fn run<X: Drop, G: Gate, R: Threads + Wait + Sync>(
+        &mut self,
+        rt: &R,
+        alloc: Global,
+        opener: &Opener<F, S>,
+        store: &mut S,
+        gate: &G,
+    ) -> Result<(), BulkFault<X>>
+        requires can { CanRun S.Folder.has S.Folder.Shelf.kept opener.now.library self.old.passes.items self.old.jobs.items self.old.parcels.items }
+        ensures ran { (start now : Option Holdings) (lost : ℕ) (all waiting : List Stored) → Crewed S.Folder.has (Running S.Folder.Shelf.kept (length self.old.jobs.items) all) start now lost opener.now.library self.old.passes.items self.old.jobs.items
+            → Waits (names_of opener.now.library.each) waiting self.old.jobs.items self.old.parcels.items
+            → RanAs S.Folder.has S.Folder.Shelf.kept start now lost (all ++ waiting) result opener.now.library self.new.passes.items self.new.jobs.items }
+        ensures none { self.new.parcels.items ≡ [] }
+        ensures has { S.has store.new ≡ S.has store.old }
+        ensures out { S.out store.new ≡ S.out store.old }
+        ensures jobs { length self.new.jobs.items ≡ length self.old.jobs.items }
+        ensures cause { IfErr result (λ e. OnStore e (Rose (S.faults store.old) (S.faults store.new))) }
+        ensures later { S.faults store.old ≤ S.faults store.new }
+    {
+        run_round(
+            rt,
+            alloc,
+            gate,
+            self.round,
+            opener.datasets(),
+            self.parcels.as_slice(),
+            self.jobs.as_mut_slice(),
+        );
+        self.round = self.round.saturating_add(1);
+        self.octets = 0;
+        self.parcels.clear();
+        halted(self.jobs.as_mut_slice(), store)
+    }
+
+    /// Lists what is pending.
+    pub(crate) fn list_all<X: Drop, R: Threads + Wait + Sync>(
+        &mut self,
+        rt: &R,
+        alloc: Global,
+        opener: &Opener<F, S>,
+        store: &mut S,
+    ) -> Result<(), BulkFault<X>>
+        requires can { CanFinish S.Folder.has S.Folder.Shelf.kept opener.now.library self.old.passes.items self.old.jobs.items }
+        ensures lists { (start now : Option Holdings) (lost : ℕ) (all : List Stored) → Crewed S.Folder.has (Running S.Folder.Shelf.kept (length self.old.jobs.items) all) start now lost opener.now.library self.old.passes.items self.old.jobs.items
+            → FinishedAs S.Folder.has S.Folder.Shelf.kept start now lost all result opener.now.library self.new.passes.items self.new.jobs.items }
+        ensures has { S.has store.new ≡ S.has store.old }
+        ensures out { S.out store.new ≡ S.out store.old }
+        ensures jobs { length self.new.jobs.items ≡ length self.old.jobs.items }
+        ensures cause { IfErr result (λ e. OnStore e (Rose (S.faults store.old) (S.faults store.new))) }
+        ensures later { S.faults store.old ≤ S.faults store.new }
+    {
+        list_round(rt, alloc, opener.datasets(), self.jobs.as_mut_slice());
+        halted(self.jobs.as_mut_slice(), store)
+    }
+
+    // Gives back what the workers have of the dataset with this number, which is the last, and its pass.
+    fn end_one<R: Wait>(
+        &mut self,
+        rt: &R,
+        opener: &mut Opener<F, S>,
+        number: u32,
+        pass: FolderPass<F, S::Folder>,
+    )
+        requires sound { AreOpen opener.old.library }
+        requires can { CanEndOne number opener.old.library pass self.old.jobs.items }
+        ensures sound { AreOpen opener.new.library }
+        ensures passes { self.new.passes.items ≡ self.old.passes.items }
+        ensures shorter { Each (λ i. IsShorter number) self.old.jobs.items self.new.jobs.items }
+        ensures ended { Changes number opener.old.library opener.new.library (EndedAs S.Folder.has S.Folder.faults S.Folder.Shelf.kept (view pass) (column number self.old.jobs.items)) }
+    {
+        let mut pass = pass;
+        hand_back_all(opener, number, &mut pass, self.jobs.as_mut_slice());
+        opener.datasets()[number as usize].catch_up(rt, &mut pass);
+        opener.unseat(number, pass);
+    }
+
+    /// Gives all passes and archivers back. What is pending is lost.
+    pub(crate) fn end<R: Wait>(&mut self, rt: &R, opener: &mut Opener<F, S>)
+        requires can { CanEnd S.Folder.has S.Folder.Shelf.kept opener.old.library self.old.passes.items self.old.jobs.items }
+        ensures names { names_of opener.new.library.each ≡ names_of opener.old.library.each }
+        ensures grows { (start now : Option Holdings) (lost : ℕ) (all : List Stored) → Crewed S.Folder.has (Stopping S.Folder.Shelf.kept (length self.old.jobs.items) all) start now lost opener.old.library self.old.passes.items self.old.jobs.items
+            → WhereTold start now (Grows S.Folder.has (length self.old.jobs.items) all opener.new.library.each) × All (IsBack S.Folder.has (length self.old.jobs.items) all) opener.new.library.each }
+        ensures all { (start now : Option Holdings) (lost : ℕ) (all : List Stored) → Crewed S.Folder.has (Finished S.Folder.Shelf.kept (length self.old.jobs.items) all) start now lost opener.old.library self.old.passes.items self.old.jobs.items
+            → WhereTold start now (GrowsAll S.Folder.has (length self.old.jobs.items) all opener.new.library.each) × All (λ h. IsBack S.Folder.has (length self.old.jobs.items) all h × IsSure S.Folder.has h) opener.new.library.each }
+        ensures full { (start now : Option Holdings) (lost : ℕ) (all : List Stored) → Crewed S.Folder.has (Stopping S.Folder.Shelf.kept (length self.old.jobs.items) all) start now lost opener.old.library self.old.passes.items self.old.jobs.items
+            → SeeFull self.old.jobs.items → HasFull all opener.new.library.each }
+    {
+        while let Some(pass) = self.passes.pop() {
+            let number = self.passes.len() as u32;
+            self.end_one(rt, opener, number, pass);
+        }
+    }
+}
+
+// The number of a dataset that was made where there was none.
+fn made(found: Option<u32>) -> u32
+    requires { IsSome found }
+    ensures { found ≡ Some result }
+{
+    let Some(number) = found else { unreachable!() };
+    number
+}
+
+// Makes room for one dataset more at each worker.
+fn make_room<A, P, E>(jobs: &mut [Job<A, P, E>]) -> Result<(), NoMemory>
+    ensures same { Each (λ i. IsSameJob) jobs.old jobs.new }
+    ensures room { OnOk result (HaveRoom jobs.new) }
+{
+    for w in 0..jobs.len() {
+        match jobs[w].desks.reserve(1) {
+            Ok(()) => {}
+            Err(_) => return Err(NoMemory),
+        }
+    }
+    Ok(())
+}
+
+// Adds a dataset that no worker has met.
+fn add_dataset<A, P, E>(jobs: &mut [Job<A, P, E>])
+    requires room { HaveRoom jobs.old }
+    ensures added { Each (λ i. HasOneMore) jobs.old jobs.new }
+{
+    for w in 0..jobs.len() {
+        jobs[w].desks.push_reserved(None);
+    }
+}
+
+// A worker's refusal, as it is told. A fault of the store is counted.
+fn told<F: Send, X: Drop, S: Store<F>>(store: &mut S, fault: FlushFault<F>) -> BulkFault<X>
+where
+    ensures told { IsTold fault result }
+    ensures has { S.has store.new ≡ S.has store.old }
+    ensures out { S.out store.new ≡ S.out store.old }
+    ensures cause { OnStore result (Rose (S.faults store.old) (S.faults store.new)) }
+    ensures later { S.faults store.old ≤ S.faults store.new }
+{
+    match fault {
+        FlushFault::Disk(met) => {
+            store.note(met);
+            BulkFault::Disk
+        }
+        FlushFault::TableFull { count } => BulkFault::TableFull { count },
+        FlushFault::NoMemory => BulkFault::NoMemory,
+    }
+}
+
+// The lower of two refusals.
+fn lower<X: Drop>(
+    first: Option<Halt<BulkFault<X>>>,
+    other: Halt<BulkFault<X>>,
+) -> Halt<BulkFault<X>>
+    ensures { IsLower first other result }
+{
+    match first {
+        None => other,
+        Some(first) => { if other.at < first.at { other } else { first } }
+    }
+}
+
+// The faults of the store that workers met are counted; the refusal of the lowest message is told.
+fn halted<A, P, F: Send, X: Drop, S: Store<F>>(
+    jobs: &mut [Job<A, P, FlushFault<F>>],
+    store: &mut S,
+) -> Result<(), BulkFault<X>>
+where
+    ensures quiet { Each (λ i. IsQuiet) jobs.old jobs.new }
+    ensures halted { Halted jobs.old result }
+    ensures has { S.has store.new ≡ S.has store.old }
+    ensures out { S.out store.new ≡ S.out store.old }
+    ensures cause { IfErr result (λ e. OnStore e (Rose (S.faults store.old) (S.faults store.new))) }
+    ensures later { S.faults store.old ≤ S.faults store.new }
+{
+    let mut first: Option<Halt<BulkFault<X>>> = None;
+    for w in 0..jobs.len() {
+        match jobs[w].halt.take() {
+            None => {}
+            Some(Halt { at, fault }) => {
+                let fault = told(store, fault);
+                first = Some(lower(first, Halt { at, fault }));
+            }
+        }
+    }
+    match first {
+        None => Ok(()),
+        Some(Halt { at: _, fault }) => Err(fault),
+    }
+}
+
+// Why a dataset wasn't opened. A fault of the store is counted.
+fn unopened<F: Send, X: Drop, S: Store<F>>(
+    alloc: Global,
+    store: &mut S,
+    name: &str,
+    fault: OpenFault<F>,
+) -> BulkFault<X>
+where
+    ensures told { IsUnopened name.now fault result }
+    ensures has { S.has store.new ≡ S.has store.old }
+    ensures out { S.out store.new ≡ S.out store.old }
+    ensures cause { OnStore result (Rose (S.faults store.old) (S.faults store.new)) }
+    ensures later { S.faults store.old ≤ S.faults store.new }
+{
+    match fault {
+        OpenFault::Disk(fault) => {
+            store.note(fault);
+            BulkFault::Disk
+        }
+        OpenFault::NotATable { at, want, found } => match String::from_str(alloc, name) {
+            Ok(dataset) => BulkFault::NotATable {
+                dataset,
+                at,
+                want,
+                found,
+            },
+            Err(_) => BulkFault::NoMemory,
+        },
+        OpenFault::Damaged(damage) => match String::from_str(alloc, name) {
+            Ok(dataset) => BulkFault::Damaged { dataset, damage },
+            Err(_) => BulkFault::NoMemory,
+        },
+        OpenFault::TooMany { count } => BulkFault::TooMany { count },
+        OpenFault::NoMemory => BulkFault::NoMemory,
+    }
+}
