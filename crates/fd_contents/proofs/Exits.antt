@@ -17,8 +17,8 @@ use Rattle.fd_outcome.specs.declared.status.Status.{Status}
 use Rattle.fd_outcome.specs.declared.status.Status.TheVariants.{Done, Missed, Words, Refused, InputFault, OutputFault, DiskFault, NoMemory, Damaged, Limit}
 use Rattle.fd_outcome.specs.Asking.{rules_of}
 use Rattle.fd_outcome.specs.Causes as causes
-use Rattle.fd_outcome.specs.Causes.{Cause, damaged_line, table_full, telling}
-use Rattle.fd_outcome.specs.Ends.{Calm, Ends, Leaves, Opens, ReadsOut, Troubles, UsesStore, disk_failed, input_failed, no_memory, output_failed, troubles}
+use Rattle.fd_outcome.specs.Causes.{Broken, Cause, damaged_line, table_full, telling}
+use Rattle.fd_outcome.specs.Ends.{Calm, Ends, IsBroken, Leaves, Opens, ReadsOut, Troubles, UsesStore, disk_failed, input_failed, no_memory, output_failed, troubles}
 use Rattle.fd_outcome.specs.Objects.{Failed, Failures, IsCalm, Object, failures, object}
 use Rattle.fd_outcome.specs.Outcome.{Early, Outcome, both, early, lines_early, lines_of, nothing_early, outcome, output_early, printed, printed_of, refused, stats_lines, stats_of, stats_printed}
 use Rattle.fd_outcome.specs.Ran.{Ran}
@@ -46,12 +46,13 @@ uses commands.Describe is = absurd is
 uses (commands.Values decimals) is = absurd is
 uses (commands.Generate count) is = absurd is
 uses (commands.Create root) is = absurd is
-uses (commands.Archive root given) is = absurd is
+uses (commands.Archive root given workers) is = absurd is
 uses (commands.Retrieve root workers) is = absurd is
 uses (commands.List root) is = tt
 uses (commands.Axes root) is = tt
 uses (commands.Stats root) is = tt
 uses (commands.Session root) is = absurd is
+uses (commands.Trial root count workers) is = absurd is
 
 opens : (command : Command) → IsListing command → (h : Holdings) (names : List (List ℕ)) (octets name : List ℕ) → Contains names name → Opens command h names octets name
 opens (commands.Pick wanted) is h names octets name c = absurd is
@@ -59,12 +60,28 @@ opens commands.Describe is h names octets name c = absurd is
 opens (commands.Values decimals) is h names octets name c = absurd is
 opens (commands.Generate count) is h names octets name c = absurd is
 opens (commands.Create root) is h names octets name c = absurd is
-opens (commands.Archive root given) is h names octets name c = absurd is
+opens (commands.Archive root given workers) is h names octets name c = absurd is
 opens (commands.Retrieve root workers) is h names octets name c = absurd is
 opens (commands.List root) is h names octets name c = c
 opens (commands.Axes root) is h names octets name c = c
 opens (commands.Stats root) is h names octets name c = c
 opens (commands.Session root) is h names octets name c = absurd is
+opens (commands.Trial root count workers) is h names octets name c = absurd is
+
+-- what is broken stands there before
+broken_there : (command : Command) → IsListing command → (h i : Holdings) (name : List ℕ) (broken : Broken) → Stands name (folder_at h name) broken → IsBroken command h i name broken
+broken_there (commands.Pick wanted) is h i name broken x = absurd is
+broken_there commands.Describe is h i name broken x = absurd is
+broken_there (commands.Values decimals) is h i name broken x = absurd is
+broken_there (commands.Generate count) is h i name broken x = absurd is
+broken_there (commands.Create root) is h i name broken x = absurd is
+broken_there (commands.Archive root given workers) is h i name broken x = absurd is
+broken_there (commands.Retrieve root workers) is h i name broken x = absurd is
+broken_there (commands.List root) is h i name broken x = x
+broken_there (commands.Axes root) is h i name broken x = x
+broken_there (commands.Stats root) is h i name broken x = x
+broken_there (commands.Session root) is h i name broken x = absurd is
+broken_there (commands.Trial root count workers) is h i name broken x = absurd is
 
 early_is : (command : Command) → IsListing command → (h : Holdings) (names : List (List ℕ)) (octets : List ℕ) → early command h names octets ≡ output_early (outcome command h names octets)
 early_is (commands.Pick wanted) is h names octets = absurd is
@@ -72,12 +89,13 @@ early_is commands.Describe is h names octets = absurd is
 early_is (commands.Values decimals) is h names octets = absurd is
 early_is (commands.Generate count) is h names octets = absurd is
 early_is (commands.Create root) is h names octets = absurd is
-early_is (commands.Archive root given) is h names octets = absurd is
+early_is (commands.Archive root given workers) is h names octets = absurd is
 early_is (commands.Retrieve root workers) is h names octets = absurd is
 early_is (commands.List root) is h names octets = refl
 early_is (commands.Axes root) is h names octets = refl
 early_is (commands.Stats root) is h names octets = refl
 early_is (commands.Session root) is h names octets = absurd is
+early_is (commands.Trial root count workers) is h names octets = absurd is
 
 leaves_by : (command : Command) → IsListing command → (s : Status) (calm full : Type 0) (input left : Option (List ℕ)) (before now : Option Holdings) → WhereTold before now Stays → WhereTold before now (Leaves command s calm full input left)
 leaves_by (commands.Pick wanted) is s calm full input left before now stays = absurd is
@@ -85,12 +103,13 @@ leaves_by commands.Describe is s calm full input left before now stays = absurd 
 leaves_by (commands.Values decimals) is s calm full input left before now stays = absurd is
 leaves_by (commands.Generate count) is s calm full input left before now stays = absurd is
 leaves_by (commands.Create root) is s calm full input left before now stays = absurd is
-leaves_by (commands.Archive root given) is s calm full input left before now stays = absurd is
+leaves_by (commands.Archive root given workers) is s calm full input left before now stays = absurd is
 leaves_by (commands.Retrieve root workers) is s calm full input left before now stays = absurd is
 leaves_by (commands.List root) is s calm full input left before now stays = stays
 leaves_by (commands.Axes root) is s calm full input left before now stays = stays
 leaves_by (commands.Stats root) is s calm full input left before now stays = stays
 leaves_by (commands.Session root) is s calm full input left before now stays = absurd is
+leaves_by (commands.Trial root count workers) is s calm full input left before now stays = absurd is
 
 -- what holds where the objects tell
 pub seen_at : (command : Command) (input : Option (List ℕ)) (store : Option Holdings) (P : List ℕ → Holdings → Type 0) → WhereSeen command input store P → (octets : List ℕ) (h : Holdings) → Seen command input octets → store ≡ Some h → P octets h
@@ -99,12 +118,13 @@ seen_at commands.Describe input store P w octets h d e = w octets h d e
 seen_at (commands.Values decimals) input store P w octets h d e = w octets h d e
 seen_at (commands.Generate count) input store P w octets h d e = subst (λ o. P o h) (sym d) (w h e)
 seen_at (commands.Create root) input store P w octets h d e = w octets h d e
-seen_at (commands.Archive root given) input store P w octets h d e = w octets h d e
+seen_at (commands.Archive root given workers) input store P w octets h d e = w octets h d e
 seen_at (commands.Retrieve root workers) input store P w octets h d e = w octets h d e
 seen_at (commands.List root) input store P w octets h d e = w octets h d e
 seen_at (commands.Axes root) input store P w octets h d e = w octets h d e
 seen_at (commands.Stats root) input store P w octets h d e = subst (λ o. P o h) (sym d) (w h e)
 seen_at (commands.Session root) input store P w octets h d e = w octets h d e
+seen_at (commands.Trial root count workers) input store P w octets h d e = subst (λ o. P o h) (sym d) (w h e)
 
 -- ---- how a listing ends, by its outcome
 
@@ -185,7 +205,7 @@ module _ (command : Command) (is : IsListing command) (before now : Option Holdi
 
   broken_ran : InPart → (name : List ℕ) (broken : causes.Broken) → ((h : Holdings) (names : List (List ℕ)) → before ≡ Some h → AreNames h names → Contains names name × Stands name (folder_at h name) broken) → ToldAs Damaged (damaged_line name broken) → Out
   broken_ran part name broken says told = early_ran part Damaged (damaged_line name broken) told refl refl (λ e. absurd (apart is_input_fault Damaged InputFault refl refl e)) refl (λ e. absurd (apart is_disk_fault Damaged DiskFault refl refl e)) tt
-      (λ octets h i names d e an. let s = says h names e an in (name, broken, opens command is h names octets name s.0, s.1, refl))
+      (λ octets h i names d e an. let s = says h names e an in (name, broken, opens command is h names octets name s.0, broken_there command is h i name broken s.1, refl))
 
   -- the store or a dataset ends the lines
   pub halted : {A : Type 0} (stop : Stop A) → ToldStop stop result report.before report.now report.faults_before report.faults_now → OfDataset stop → IfSome before (λ h. (names : List (List ℕ)) → AreNames h names → IsBrokenOf stop h names)

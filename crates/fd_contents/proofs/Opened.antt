@@ -69,14 +69,10 @@ entries_in_files : (ss : List Standing) → map (λ (f : Files). f.entry) (map (
 entries_in_files [] = refl
 entries_in_files (s ∷ ss) = ap (λ l. s.files.entry ∷ l) (entries_in_files ss)
 
-entries_listed : (ss : List Standing) → map (λ l. l.entry) (map listing ss) ≡ map (λ s. s.files.entry) ss
-entries_listed [] = refl
-entries_listed (s ∷ ss) = ap (λ l. s.files.entry ∷ l) (entries_listed ss)
-
-module _ (h : Holdings) (o : Open) (open_ : IsOpenIn h o) (same : map listing o.shown ≡ map listing o.segments) where
+module _ (h : Holdings) (o : Open) (open_ : IsOpenIn h o) where
   shown_entries : map (λ s. s.files.entry) o.shown ≡ open_.listed.entries
   shown_entries =
-      sym (entries_listed o.shown) ∙ ap (map (λ l. l.entry)) same ∙ entries_listed o.segments ∙ sym (entries_in_files o.segments)
+      sym (entries_in_files o.shown)
       ∙ ap (map (λ (f : Files). f.entry)) open_.listed.files ∙ entries_at open_.listed.entries (folder_at h o.name)
 
   table_entries : entries_in o.name (folder_at h o.name).table ≡ Some open_.listed.entries
@@ -106,11 +102,11 @@ module _ (h : Holdings) (o : Open) (open_ : IsOpenIn h o) (same : map listing o.
 
 -- ---- damage
 
-pub stands_at : (h : Holdings) (o : Open) (d : Damage) → IsOpenIn h o → IsAmongBad o.segments d → Stands o.name (folder_at h o.name) (BadFile d)
+pub stands_at : (h : Holdings) (o : Open) (d : Damage) → IsOpenIn h o → IsAmongBad o.shown d → Stands o.name (folder_at h o.name) (BadFile d)
 stands_at h o d open_ (s, there, bad) =
     let v = folder_at h o.name in
     let l = open_.listed in
-    let has = contains_mapped (λ (x : Standing). x.files) o.segments s there in
+    let has = contains_mapped (λ (x : Standing). x.files) o.shown s there in
     let e = contains_of (files_of v.files) l.entries s.files (subst (λ fs. Contains fs s.files) l.files has) in
     let moved : IsBadIndex e.0 (v.files (index_file e.0)) d = subst (λ (f : Files). IsBadIndex f.entry f.index d) (sym e.2) bad in
     (l.table, l.entries, l.table_is, l.lists, inr (e.0, e.1, inl moved))
@@ -140,18 +136,18 @@ pub on_err : {A E P Q : Type 0} → (P → Q) → (r : Result A E) → OnErr r P
 on_err f (Ok x) p = tt
 on_err f (Err e) p = f p
 
-module _ (o : Open) (l : Lines) (shown : List Standing) (name : List ℕ) (P : List ℕ → Type 0) (shown_is : shown ≡ o.shown) (name_is : name ≡ o.name) (same : map listing o.shown ≡ map listing o.segments) where
+module _ (o : Open) (l : Lines) (shown : List Standing) (name : List ℕ) (P : List ℕ → Type 0) (shown_is : shown ≡ o.shown) (name_is : name ≡ o.name) where
   pub list_took : (ks : List Keyword) → l ≡ lines.List ks → ((t : List (List Pair)) → Tells (map listing shown) t → P (list_text ks name t)) → (h : Holdings) (text : List ℕ) → IsOpenIn h o → text_for l h o.name ≡ Some text → P text
   list_took ks is took h text open_ e =
-      let x = list_told h o open_ same ks text (subst (λ k. text_for k h o.name ≡ Some text) is e) in
+      let x = list_told h o open_ ks text (subst (λ k. text_for k h o.name ≡ Some text) is e) in
       subst P x.2 (subst (λ n. P (list_text ks n x.0)) name_is (took x.0 (subst (λ s. Tells (map listing s) x.0) (sym shown_is) x.1)))
 
   pub axes_took : (ks : List Keyword) → l ≡ lines.Axes ks → ((t : List (List Pair)) → Tells (map listing shown) t → P (axes_text ks name t)) → (h : Holdings) (text : List ℕ) → IsOpenIn h o → text_for l h o.name ≡ Some text → P text
   axes_took ks is took h text open_ e =
-      let x = axes_told h o open_ same ks text (subst (λ k. text_for k h o.name ≡ Some text) is e) in
+      let x = axes_told h o open_ ks text (subst (λ k. text_for k h o.name ≡ Some text) is e) in
       subst P x.2 (subst (λ n. P (axes_text ks n x.0)) name_is (took x.0 (subst (λ s. Tells (map listing s) x.0) (sym shown_is) x.1)))
 
   pub stats_took : l ≡ lines.Stats → ((t : List (List Pair)) → Tells (map listing shown) t → P (stats_text name (map (λ s. s.files.entry) shown) t)) → (h : Holdings) (text : List ℕ) → IsOpenIn h o → text_for l h o.name ≡ Some text → P text
   stats_took is took h text open_ e =
-      let x = stats_told h o open_ same text (subst (λ k. text_for k h o.name ≡ Some text) is e) in
+      let x = stats_told h o open_ text (subst (λ k. text_for k h o.name ≡ Some text) is e) in
       subst P x.2 (subst (λ n. P (stats_text n (map (λ s. s.files.entry) o.shown) x.0)) name_is (subst (λ s. P (stats_text name (map (λ y. y.files.entry) s) x.0)) shown_is (took x.0 (subst (λ s. Tells (map listing s) x.0) (sym shown_is) x.1))))

@@ -62,22 +62,24 @@ IsListing commands.Describe = ⊥
 IsListing (commands.Values decimals) = ⊥
 IsListing (commands.Generate count) = ⊥
 IsListing (commands.Create root) = ⊥
-IsListing (commands.Archive root given) = ⊥
+IsListing (commands.Archive root given workers) = ⊥
 IsListing (commands.Retrieve root workers) = ⊥
 IsListing (commands.List root) = Unit {0}
 IsListing (commands.Axes root) = Unit {0}
 IsListing (commands.Stats root) = Unit {0}
 IsListing (commands.Session root) = ⊥
+IsListing (commands.Trial root count workers) = ⊥
 
 -- of what the input and the store tell, as far as the command asks them
 abbrev pub WhereSeen : Command → Option (List ℕ) → Option Holdings → (List ℕ → Holdings → Type 0) → Type 0
 WhereSeen (commands.Generate count) input store P = (h : Holdings) → store ≡ Some h → P [] h
 WhereSeen (commands.Stats root) input store P = (h : Holdings) → store ≡ Some h → P [] h
+WhereSeen (commands.Trial root count workers) input store P = (h : Holdings) → store ≡ Some h → P [] h
 WhereSeen (commands.Pick wanted) input store P = (octets : List ℕ) (h : Holdings) → input ≡ Some octets → store ≡ Some h → P octets h
 WhereSeen commands.Describe input store P = (octets : List ℕ) (h : Holdings) → input ≡ Some octets → store ≡ Some h → P octets h
 WhereSeen (commands.Values decimals) input store P = (octets : List ℕ) (h : Holdings) → input ≡ Some octets → store ≡ Some h → P octets h
 WhereSeen (commands.Create root) input store P = (octets : List ℕ) (h : Holdings) → input ≡ Some octets → store ≡ Some h → P octets h
-WhereSeen (commands.Archive root given) input store P = (octets : List ℕ) (h : Holdings) → input ≡ Some octets → store ≡ Some h → P octets h
+WhereSeen (commands.Archive root given workers) input store P = (octets : List ℕ) (h : Holdings) → input ≡ Some octets → store ≡ Some h → P octets h
 WhereSeen (commands.Retrieve root workers) input store P = (octets : List ℕ) (h : Holdings) → input ≡ Some octets → store ≡ Some h → P octets h
 WhereSeen (commands.List root) input store P = (octets : List ℕ) (h : Holdings) → input ≡ Some octets → store ≡ Some h → P octets h
 WhereSeen (commands.Axes root) input store P = (octets : List ℕ) (h : Holdings) → input ≡ Some octets → store ≡ Some h → P octets h

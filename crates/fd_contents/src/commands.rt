@@ -16,14 +16,12 @@ use fd_outcome::{Status, tell_output_failed};
 use fd_retrieve::tell_stop;
 use fd_words::Root;
 use std::alloc::Global;
-use std::sync::Wait;
 
 /// Writes a line for each key that the partial request on the input asks for: `DATASET INDEX DATUM LENGTH NUMBER`, dataset by
 /// dataset in byte order, and of a dataset by index text and then datum text, with the length of the key's newest message
 /// and the number of the entry that has it. No folder of the store is out, and none is out afterwards; nothing is made in
 /// the store.
-pub fn list<F: Send + Drop, X: Drop, S: Store<F>, I: Source<X>, K: Sink<X>, E: Sink<X>, R: Wait>(
-    rt: &R,
+pub fn list<F: Send + Drop, X: Drop, S: Store<F>, I: Source<X>, K: Sink<X>, E: Sink<X>>(
     alloc: Global,
     root: &Root,
     store: &mut S,
@@ -37,7 +35,7 @@ where
     ensures home { (name : List ℕ) → S.out store.new name ≡ false }
 {
     match partial(alloc, root.as_str(), store, input) {
-        Ok(partial) => printed(rt, alloc, &Lines::List(partial), store, output, report),
+        Ok(partial) => printed(alloc, &Lines::List(partial), store, output, report),
         Err(stop) => tell_stop(alloc, store, report, stop),
     }
 }
@@ -45,8 +43,7 @@ where
 /// Writes a line for each index text of the keys that the partial request on the input asks for, and each name in their
 /// datum texts: `DATASET INDEX NAME=V/W`, dataset by dataset in byte order, with index texts, names and values in byte order.
 /// No folder of the store is out, and none is out afterwards; nothing is made in the store.
-pub fn axes<F: Send + Drop, X: Drop, S: Store<F>, I: Source<X>, K: Sink<X>, E: Sink<X>, R: Wait>(
-    rt: &R,
+pub fn axes<F: Send + Drop, X: Drop, S: Store<F>, I: Source<X>, K: Sink<X>, E: Sink<X>>(
     alloc: Global,
     root: &Root,
     store: &mut S,
@@ -60,15 +57,14 @@ where
     ensures home { (name : List ℕ) → S.out store.new name ≡ false }
 {
     match partial(alloc, root.as_str(), store, input) {
-        Ok(partial) => printed(rt, alloc, &Lines::Axes(partial), store, output, report),
+        Ok(partial) => printed(alloc, &Lines::Axes(partial), store, output, report),
         Err(stop) => tell_stop(alloc, store, report, stop),
     }
 }
 
 /// Writes a line for each dataset that has a table: `DATASET entries n fields f keys k bytes b`, in byte order. The input isn't
 /// read. No folder of the store is out, and none is out afterwards; nothing is made in the store.
-pub fn stats<F: Send + Drop, X: Drop, S: Store<F>, K: Sink<X>, E: Sink<X>, R: Wait>(
-    rt: &R,
+pub fn stats<F: Send + Drop, X: Drop, S: Store<F>, K: Sink<X>, E: Sink<X>>(
     alloc: Global,
     root: &Root,
     store: &mut S,
@@ -81,14 +77,13 @@ where
     ensures home { (name : List ℕ) → S.out store.new name ≡ false }
 {
     match ruled(alloc, root.as_str(), store) {
-        Ok(()) => printed(rt, alloc, &Lines::Stats, store, output, report),
+        Ok(()) => printed(alloc, &Lines::Stats, store, output, report),
         Err(stop) => tell_stop(alloc, store, report, stop),
     }
 }
 
 /// Writes the lines of all datasets, and on the report only what ends them early.
-fn printed<F: Send + Drop, X: Drop, S: Store<F>, K: Sink<X>, E: Sink<X>, R: Wait>(
-    rt: &R,
+fn printed<F: Send + Drop, X: Drop, S: Store<F>, K: Sink<X>, E: Sink<X>>(
     alloc: Global,
     lines: &Lines,
     store: &mut S,
@@ -101,7 +96,7 @@ where
         → Ran command result (object before (S.has store.new) faults (S.faults store.new)) input (object (K.taken output.old) (K.taken output.new) (K.faults output.old) (K.faults output.new)) (object (E.taken report.old) (E.taken report.new) (E.faults report.old) (E.faults report.new)) }
     ensures home { (name : List ℕ) → S.out store.new name ≡ false }
 {
-    match print(rt, alloc, lines, store, output) {
+    match print(alloc, lines, store, output) {
         Ok(()) => Status::Done,
         Err(Halt::Unwritten(_)) => tell_output_failed(report),
         Err(Halt::Stop(stop)) => tell_stop(alloc, store, report, stop),

@@ -1,10 +1,10 @@
 // The lines of all datasets, one dataset after the other.
-ghost use Rattle.std.specs.Prelude.{◌≡◌, ◌≤◌, [], ◌∷◌, List, ℕ, Some, false, is_some, length, map, IfOk, IfErr, IfSome, OnErr, OnOk};
+ghost use Rattle.std.specs.Prelude.{◌≡◌, ◌≤◌, [], ◌∷◌, List, ℕ, Some, false, is_some, length, IfOk, IfErr, IfSome, OnErr, OnOk};
 ghost use Rattle.fd_bytes.specs.Causes.{Rose};
 ghost use Rattle.fd_disk.specs.Folders.{Holdings, WhereTold};
-ghost use Rattle.fd_dataset.specs.Listed.{listing};
 ghost use Rattle.fd_io.specs.Streams.{Takes, TakesFront};
 ghost use Rattle.fd_schema.specs.Seen.{texts};
+ghost use Rattle.fd_inventory.specs.Indexes.{IsAmongBad, OnLines};
 ghost use Rattle.fd_outcome.specs.Store.{AreNames, Stays, has_table};
 ghost use Rattle.fd_retrieve.specs.Open.{IsOpenIn};
 ghost use Rattle.fd_retrieve.specs.Ready.{IsBrokenOf};
@@ -12,13 +12,13 @@ ghost use Rattle.fd_retrieve.specs.Stops.{OfDataset};
 ghost use Rattle.fd_contents.specs.Halts.{IsWrite, OnStop, OnUnwritten};
 ghost use Rattle.fd_contents.specs.Texts.{text_for, texts_for};
 
-use crate::lines::{Lines, damage_of, write_lines};
+use crate::lines::{Lines, write_lines};
 use fd_disk::{Down, Folder, Sealed, Store};
 use fd_inventory::LinesFault;
 use fd_io::Sink;
 use fd_retrieve::{Broken, Opened, Stop, has_table, open, unopened};
+use fd_segment::Damage;
 use std::alloc::Global;
-use std::sync::Wait;
 
 /// Why the lines weren't written to their end.
 #[derive(Drop)]
@@ -31,8 +31,7 @@ pub(crate) enum Halt<F, X> {
 
 /// Opens a dataset of the store, and gives it back; `None` exactly where there is no table. A dataset whose text has more
 /// than 255 bytes has none.
-fn opened_at<F: Send + Drop, S: Store<F>, R: Wait>(
-    rt: &R,
+fn opened_at<F: Send + Drop, S: Store<F>>(
     alloc: Global,
     store: &mut S,
     name: &str,
@@ -41,7 +40,6 @@ where
     requires home { (n : List ℕ) → S.out store.old n ≡ false }
     ensures opened { IfOk result (λ o. IfSome o (λ r. (r.name ≡ name.now) × IfSome (S.has store.old) (λ h. IsOpenIn h r))) }
     ensures short { IfOk result (λ o. IfSome o (λ r. length r.name ≤ 255)) }
-    ensures same { IfOk result (λ o. IfSome o (λ r. map listing r.shown ≡ map listing r.segments)) }
     ensures none { IfOk result (λ o. IfSome (S.has store.old) (λ h. is_some o ≡ has_table h name.now)) }
     ensures broken { IfErr result (λ e. IfSome (S.has store.old) (λ h. IsBrokenOf e h (name.now ∷ []))) }
     ensures of { IfErr result OfDataset }
@@ -56,24 +54,19 @@ where
             Err(Down::NoMemory) => Err(Stop::NoMemory),
         };
     }
-    match open(rt, alloc, store, name) {
+    match open(alloc, store, name) {
         Ok(opened) => Ok(opened),
         Err(fault) => Err(unopened(alloc, name, fault)),
     }
 }
 
-/// What is damaged in a dataset whose lines met a damage. Where none is met any more, nothing can be said of the files, as
-/// where memory is refused.
-fn damaged<F: Send, Z: Sealed<F>>(alloc: Global, dataset: &Opened<F, Z>) -> Stop<F>
+/// A damage that the lines of a dataset met.
+fn damaged<F: Send, Z: Sealed<F>>(alloc: Global, dataset: &Opened<F, Z>, damage: Damage) -> Stop<F>
 where
+    requires { IsAmongBad dataset.now.shown damage }
     ensures broken { (h : Holdings) → IsOpenIn h dataset.now → IsBrokenOf result h (dataset.now.name ∷ []) }
     ensures of { OfDataset result }
 {
-    let damage = match damage_of(alloc, dataset.segments()) {
-        Ok(Some(damage)) => damage,
-        Ok(None) | Err(Down::NoMemory) => return Stop::NoMemory,
-        Err(Down::Fault(fault)) => return Stop::Disk(fault),
-    };
     match String::from_str(alloc, dataset.name()) {
         Ok(dataset) => Stop::Broken {
             dataset,
@@ -90,6 +83,7 @@ fn halted<F: Send + Drop, Z: Sealed<F>, X>(
     fault: LinesFault<F, X>,
 ) -> Halt<F, X>
 where
+    requires damaged { OnLines fault (IsAmongBad dataset.now.shown) }
     ensures broken { OnStop result (λ stop. (h : Holdings) → IsOpenIn h dataset.now → IsBrokenOf stop h (dataset.now.name ∷ [])) }
     ensures of { OnStop result OfDataset }
     ensures write { OnUnwritten result (IsWrite fault) }
@@ -97,14 +91,13 @@ where
     match fault {
         LinesFault::Disk(fault) => Halt::Stop(Stop::Disk(fault)),
         LinesFault::Write(fault) => Halt::Unwritten(fault),
-        LinesFault::Damaged(_) => Halt::Stop(damaged(alloc, dataset)),
+        LinesFault::Damaged(damage) => Halt::Stop(damaged(alloc, dataset, damage)),
         LinesFault::NoMemory => Halt::Stop(Stop::NoMemory),
     }
 }
 
 /// Writes the lines of one dataset, whose folder isn't out; none where it has no table. It is given back.
-fn print_one<F: Send + Drop, X: Drop, S: Store<F>, K: Sink<X>, R: Wait>(
-    rt: &R,
+fn print_one<F: Send + Drop, X: Drop, S: Store<F>, K: Sink<X>>(
     alloc: Global,
     lines: &Lines,
     store: &mut S,
@@ -123,7 +116,7 @@ where
     ensures home { (n : List ℕ) → S.out store.new n ≡ false }
     ensures later { S.faults store.old ≤ S.faults store.new }
 {
-    let opened = match opened_at(rt, alloc, store, name) {
+    let opened = match opened_at(alloc, store, name) {
         Ok(Some(opened)) => opened,
         Ok(None) => return Ok(()),
         Err(stop) => return Err(Halt::Stop(stop)),
@@ -135,8 +128,7 @@ where
 }
 
 /// Writes the lines of the datasets of these names, in their order.
-fn print_each<F: Send + Drop, X: Drop, S: Store<F>, K: Sink<X>, R: Wait>(
-    rt: &R,
+fn print_each<F: Send + Drop, X: Drop, S: Store<F>, K: Sink<X>>(
     alloc: Global,
     lines: &Lines,
     store: &mut S,
@@ -156,7 +148,7 @@ where
     ensures later { S.faults store.old ≤ S.faults store.new }
 {
     for i in 0..names.len() {
-        match print_one(rt, alloc, lines, store, &names[i], output) {
+        match print_one(alloc, lines, store, &names[i], output) {
             Ok(()) => {}
             Err(halt) => return Err(halt),
         }
@@ -165,8 +157,7 @@ where
 }
 
 /// Writes the lines of all datasets of the store, in the order of their texts. Each is given back before the next is opened.
-pub(crate) fn print<F: Send + Drop, X: Drop, S: Store<F>, K: Sink<X>, R: Wait>(
-    rt: &R,
+pub(crate) fn print<F: Send + Drop, X: Drop, S: Store<F>, K: Sink<X>>(
     alloc: Global,
     lines: &Lines,
     store: &mut S,
@@ -189,7 +180,7 @@ where
         Err(Down::Fault(fault)) => return Err(Halt::Stop(Stop::Disk(fault))),
         Err(Down::NoMemory) => return Err(Halt::Stop(Stop::NoMemory)),
     };
-    match print_each(rt, alloc, lines, store, &names, output) {
+    match print_each(alloc, lines, store, &names, output) {
         Ok(()) => Ok(()),
         Err(halt) => Err(halt),
     }

@@ -14,10 +14,10 @@ fn said<'a>(alloc: Global, words: &'a [&'a str]) -> Result<String, Fail> {
         Some(Command::Values(Some(decimals))) => Ok(format!(in alloc; "values {decimals}")?),
         Some(Command::Generate(count)) => Ok(format!(in alloc; "generate {count}")?),
         Some(Command::Create(root)) => rooted(alloc, "create", root.as_str()),
-        Some(Command::Archive(root, given)) => {
+        Some(Command::Archive(root, given, workers)) => {
             let count = given.len();
             let root = root.as_str();
-            Ok(format!(in alloc; "archive {root} {count}")?)
+            Ok(format!(in alloc; "archive {root} {count} {workers}")?)
         }
         Some(Command::Retrieve(root, workers)) => {
             let root = root.as_str();
@@ -27,6 +27,10 @@ fn said<'a>(alloc: Global, words: &'a [&'a str]) -> Result<String, Fail> {
         Some(Command::Axes(root)) => rooted(alloc, "axes", root.as_str()),
         Some(Command::Stats(root)) => rooted(alloc, "stats", root.as_str()),
         Some(Command::Session(root)) => rooted(alloc, "session", root.as_str()),
+        Some(Command::Trial(root, count, workers)) => {
+            let root = root.as_str();
+            Ok(format!(in alloc; "trial {root} {count} {workers}")?)
+        }
     }
 }
 
@@ -50,12 +54,12 @@ fn reads_words(rt: HostRuntime) -> Result<(), Fail> {
     check(&rt, alloc, &["values", "--decimals", "30"], "values 30")?;
     check(&rt, alloc, &["generate", "000100000"], "generate 100000")?;
     check(&rt, alloc, &["create", "s"], "create s")?;
-    check(&rt, alloc, &["archive", "s"], "archive s 0")?;
+    check(&rt, alloc, &["archive", "s"], "archive s 0 1")?;
     check(
         &rt,
         alloc,
-        &["archive", "--with=class=od", "s"],
-        "archive s 1",
+        &["archive", "--with=class=od", "--workers=8", "s"],
+        "archive s 1 8",
     )?;
     check(&rt, alloc, &["retrieve", "a b"], "retrieve a b 1")?;
     check(
@@ -74,6 +78,13 @@ fn reads_words(rt: HostRuntime) -> Result<(), Fail> {
     check(&rt, alloc, &["axes", "s"], "axes s")?;
     check(&rt, alloc, &["stats", "s"], "stats s")?;
     check(&rt, alloc, &["session", "s"], "session s")?;
+    check(
+        &rt,
+        alloc,
+        &["trial", "s", "--workers", "4", "400"],
+        "trial s 400 4",
+    )?;
+    check(&rt, alloc, &["trial", "s", "1"], "trial s 1 1")?;
     Ok(())
 }
 
@@ -107,7 +118,14 @@ fn refuses_words(rt: HostRuntime) -> Result<(), Fail> {
     check(&rt, alloc, &["create", "s", "t"], "none")?;
     check(&rt, alloc, &["archive", "s", "--with", "step=0"], "none")?;
     check(&rt, alloc, &["archive", "s", "--with"], "none")?;
-    check(&rt, alloc, &["archive", "s", "--workers", "2"], "none")?;
+    check(&rt, alloc, &["archive", "s", "--workers", "9"], "none")?;
+    check(&rt, alloc, &["trial", "s"], "none")?;
+    check(&rt, alloc, &["trial", "400", "s"], "none")?;
+    check(&rt, alloc, &["trial", "s", "0"], "none")?;
+    check(&rt, alloc, &["trial", "s", "100001"], "none")?;
+    check(&rt, alloc, &["trial", "-s", "1"], "none")?;
+    check(&rt, alloc, &["trial", "s", "1", "2"], "none")?;
+    check(&rt, alloc, &["trial", "s", "1", "--workers=0"], "none")?;
     check(&rt, alloc, &["retrieve", "s", "--workers", "0"], "none")?;
     check(&rt, alloc, &["retrieve", "s", "--workers=9"], "none")?;
     check(&rt, alloc, &["retrieve", "s", "--workers"], "none")?;

@@ -1,5 +1,5 @@
 -- A run of any command that calls the store: what its objects tell, and how it has ended.
-use Rattle.std.proofs.Common.{◌≡◌, ◌∙◌, ℕ, Bool, true, false, List, [], Option, Some, None, refl, sym, subst, inl, inr}
+use Rattle.std.proofs.Common.{◌≡◌, ◌∙◌, ℕ, false, List, [], Option, Some, None, refl, sym, subst, inl, inr}
 use Rattle.std.specs.Prelude.{◌⊎◌, IfSome}
 use Rattle.fd_bytes.specs.Causes.{Rose}
 use Rattle.fd_io.specs.Streams.{Takes}
@@ -24,12 +24,13 @@ Seen commands.Describe input octets = input ≡ Some octets
 Seen (commands.Values decimals) input octets = input ≡ Some octets
 Seen (commands.Generate count) input octets = octets ≡ []
 Seen (commands.Create root) input octets = input ≡ Some octets
-Seen (commands.Archive root given) input octets = input ≡ Some octets
+Seen (commands.Archive root given workers) input octets = input ≡ Some octets
 Seen (commands.Retrieve root workers) input octets = input ≡ Some octets
 Seen (commands.List root) input octets = input ≡ Some octets
 Seen (commands.Axes root) input octets = input ≡ Some octets
 Seen (commands.Stats root) input octets = octets ≡ []
 Seen (commands.Session root) input octets = input ≡ Some octets
+Seen (commands.Trial root count workers) input octets = octets ≡ []
 
 module _ (P : List ℕ → Holdings → Holdings → Type 0) (input : Option (List ℕ)) (store after : Option Holdings) where
   of_store : (octets : List ℕ) (s a : Option Holdings) → store ≡ s → after ≡ a → ((h i : Holdings) → store ≡ Some h → after ≡ Some i → P octets h i) → IfSome s (λ h. IfSome a (P octets h))
@@ -48,12 +49,13 @@ module _ (P : List ℕ → Holdings → Holdings → Type 0) (input : Option (Li
   where_seen (commands.Values decimals) uses all = absurd uses
   where_seen (commands.Generate count) uses all = absurd uses
   where_seen (commands.Create root) uses all = of_input input refl all
-  where_seen (commands.Archive root given) uses all = of_input input refl all
+  where_seen (commands.Archive root given workers) uses all = of_input input refl all
   where_seen (commands.Retrieve root workers) uses all = of_input input refl all
   where_seen (commands.List root) uses all = of_input input refl all
   where_seen (commands.Axes root) uses all = of_input input refl all
   where_seen (commands.Stats root) uses all = of_store [] store after refl refl (λ h i. all [] h i refl)
   where_seen (commands.Session root) uses all = tt
+  where_seen (commands.Trial root count workers) uses all = of_store [] store after refl refl (λ h i. all [] h i refl)
 
 module _ (command : Command) (uses : UsesStore command) (store : Object Holdings) (input output report : Object (List ℕ)) (result : Status) where
   abbrev pub Fs : Failures

@@ -26,12 +26,13 @@ module _ (P Q : List ℕ → Holdings → Holdings → Type 0) (to : (octets : L
   where_asked (commands.Values decimals) input store after p = of_input input p
   where_asked (commands.Generate count) input store after p = to [] nothing_held nothing_held p
   where_asked (commands.Create root) input store after p = of_both input store after p
-  where_asked (commands.Archive root given) input store after p = of_both input store after p
+  where_asked (commands.Archive root given workers) input store after p = of_both input store after p
   where_asked (commands.Retrieve root workers) input store after p = of_both input store after p
   where_asked (commands.List root) input store after p = of_both input store after p
   where_asked (commands.Axes root) input store after p = of_both input store after p
   where_asked (commands.Stats root) input store after p = of_store [] store after p
   where_asked (commands.Session root) input store after p = tt
+  where_asked (commands.Trial root count workers) input store after p = of_store [] store after p
 
 -- a fact of all octets and all stores
 module _ (P : List ℕ → Holdings → Holdings → Type 0) (all : (octets : List ℕ) (h i : Holdings) → P octets h i) where
@@ -54,9 +55,10 @@ module _ (P : List ℕ → Holdings → Holdings → Type 0) (all : (octets : Li
   asked_all (commands.Values decimals) input store after = all_input input
   asked_all (commands.Generate count) input store after = all [] nothing_held nothing_held
   asked_all (commands.Create root) input store after = all_both input store after
-  asked_all (commands.Archive root given) input store after = all_both input store after
+  asked_all (commands.Archive root given workers) input store after = all_both input store after
   asked_all (commands.Retrieve root workers) input store after = all_both input store after
   asked_all (commands.List root) input store after = all_both input store after
   asked_all (commands.Axes root) input store after = all_both input store after
   asked_all (commands.Stats root) input store after = all_store [] store after
   asked_all (commands.Session root) input store after = tt
+  asked_all (commands.Trial root count workers) input store after = all_store [] store after

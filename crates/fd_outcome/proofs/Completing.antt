@@ -3,20 +3,38 @@ use Rattle.std.proofs.Common.{◌≡◌, ◌∙◌, ℕ, true≢false, List, Opt
 use Rattle.std.specs.Prelude.{◌⊎◌, IfSome, is_some, MatchOption}
 use Rattle.fd_disk.specs.Folders.{Holdings, WhereTold, folder_at}
 use Rattle.fd_words.specs.declared.command.Command.{Command}
+use Rattle.fd_words.specs.declared.command.Command.TheVariants as commands
 use Rattle.fd_io.specs.Streams.{Takes, TakesFront}
 use Rattle.fd_outcome.specs.declared.status.Status.{Status}
 use Rattle.fd_outcome.specs.declared.status.Status.TheVariants.{Done, Missed, Words, Refused, InputFault, OutputFault, DiskFault, NoMemory, Damaged, Limit}
 use Rattle.fd_outcome.specs.Told.{Told}
 use Rattle.fd_outcome.specs.Outcome.{Outcome, outcome, early}
 use Rattle.fd_outcome.specs.Objects.{Object, Failed, Failures, failures, object}
-use Rattle.fd_outcome.specs.Ends.{Runs, Ends, EndsUnasked, Calm, Completes, AreSound, StoresFields, TellsSome, Leaves, troubles, usage, no_memory}
-use Rattle.fd_outcome.specs.Causes.{table_full}
+use Rattle.fd_outcome.specs.Ends.{Runs, Ends, EndsUnasked, Calm, Completes, AreSound, IsBroken, StoresFields, TellsSome, Leaves, troubles, usage, no_memory}
+use Rattle.fd_outcome.specs.Causes.{Broken, table_full}
+use Rattle.fd_outcome.specs.Store.{table_at}
 use Rattle.fd_outcome.specs.Ran.{Ran}
 use Rattle.fd_outcome.proofs.Asked.{where_asked}
 use Rattle.fd_outcome.proofs.Damaging.{damaged_held}
 use Rattle.fd_outcome.proofs.Endings.{takes_nothing}
 use Rattle.fd_outcome.proofs.Leaving.{idle_store}
 use Rattle.fd_outcome.proofs.Starved.{is_idle, starved}
+
+-- a dataset in which something is broken isn't told
+broken_held : (command : Command) (h i : Holdings) (name : List ℕ) (broken : Broken) → IsBroken command h i name broken → table_at h name ≡ None
+broken_held (commands.Pick wanted) h i name broken x = damaged_held name (folder_at h name) broken x
+broken_held commands.Describe h i name broken x = damaged_held name (folder_at h name) broken x
+broken_held (commands.Values decimals) h i name broken x = damaged_held name (folder_at h name) broken x
+broken_held (commands.Generate count) h i name broken x = damaged_held name (folder_at h name) broken x
+broken_held (commands.Create root) h i name broken x = damaged_held name (folder_at h name) broken x
+broken_held (commands.Archive root given workers) h i name broken x = damaged_held name (folder_at h name) broken x
+broken_held (commands.Retrieve root workers) h i name broken x = damaged_held name (folder_at h name) broken x
+broken_held (commands.List root) h i name broken x = damaged_held name (folder_at h name) broken x
+broken_held (commands.Axes root) h i name broken x = damaged_held name (folder_at h name) broken x
+broken_held (commands.Stats root) h i name broken x = damaged_held name (folder_at h name) broken x
+broken_held (commands.Session root) h i name broken x = damaged_held name (folder_at h name) broken x
+broken_held (commands.Trial root count workers) h i name broken (inl x) = damaged_held name (folder_at h name) broken x
+broken_held (commands.Trial root count workers) h i name broken (inr x) = x.0
 
 module _ (failed : Failures) (command : Command) (h i : Holdings) (names : List (List ℕ)) (octets : List ℕ) (a b c d : Option (List ℕ)) (sound : AreSound command h names octets) (x : Outcome) (is : outcome command h names octets ≡ Some x) where
   abbrev Comes : Status → Type 0
@@ -36,7 +54,7 @@ module _ (failed : Failures) (command : Command) (h i : Holdings) (names : List 
   come NoMemory e x1 x2 x3 = inr (inl refl)
   come Damaged (inl e) x1 x2 x3 = inl e.status
   come Damaged (inr (text, (name, broken, opens, stands, line_is), rest)) x1 x2 x3 =
-      absurd (true≢false (sym (sound name opens) ∙ ap is_some (damaged_held name (folder_at h name) broken stands)))
+      absurd (true≢false (sym (sound name opens) ∙ ap is_some (broken_held command h i name broken stands)))
   come Limit (inl e) x1 x2 x3 = inl e.status
   come Limit (inr (text, (stores, line_is, full), rest)) x1 x2 x3 = inr (inr (stores, refl))
 

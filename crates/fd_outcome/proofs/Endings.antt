@@ -8,7 +8,7 @@ use Rattle.fd_outcome.specs.Told.{Told}
 use Rattle.fd_bytes.specs.Causes.{Rose}
 use Rattle.fd_outcome.specs.Objects.{Failures}
 use Rattle.fd_outcome.specs.Outcome.{Outcome, Early, nothing_early}
-use Rattle.fd_outcome.specs.Ends.{Stops, StopsWith, Fails, Unwritten, Cut, Untold, OnTheWay, AtTheEnd, AtOutputFailed, AtInputFailed, AtNoMemory, AtTrouble, TakesAfter, TakesFrontAfter, Troubles, Ends, input_failed, output_failed, no_memory}
+use Rattle.fd_outcome.specs.Ends.{StopsWith, Fails, Cut, Untold, OnTheWay, AtTheEnd, AtOutputFailed, AtInputFailed, AtNoMemory, AtTrouble, TakesAfter, TakesFrontAfter, Troubles, Ends, input_failed, output_failed, no_memory}
 
 -- ---- what sinks take
 

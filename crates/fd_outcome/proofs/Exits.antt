@@ -92,6 +92,7 @@ pub by_cause : (P : Status → Type 0) → P Refused → P Damaged → P Limit �
 by_cause P p b q (causes.InStream refusal) = by_refusal P p q refusal
 by_cause P p b q causes.SchemaMissing = p
 by_cause P p b q causes.SchemaPresent = p
+by_cause P p b q causes.SchemaDifferent = p
 by_cause P p b q (causes.InSchema text fault) = go (is_schema_limit fault.kind)
   where
     go : (c : Bool) → P (if c then schema_limit text fault else refused_so (schema_place text fault)).status

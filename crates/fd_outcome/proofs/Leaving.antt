@@ -12,7 +12,8 @@ use Rattle.fd_outcome.specs.declared.status.Status.TheVariants.{NoMemory, Output
 use Rattle.fd_outcome.specs.Causes.{Cause}
 use Rattle.fd_outcome.specs.Store.{Adds, Grows, Sorted, StaysFolder, Stays, table_at}
 use Rattle.fd_outcome.specs.Asking.{rules_of}
-use Rattle.fd_outcome.specs.Ends.{Leaves, LeavesBy}
+use Rattle.fd_outcome.specs.Trying.{trial_rules}
+use Rattle.fd_outcome.specs.Ends.{EndsUnplanted, Leaves, LeavesBy, LeavesTried}
 
 pub stays_folder : (name : List ℕ) (v : Contents) → StaysFolder name v v
 stays_folder name v = record { table = refl; files = λ n. refl }
@@ -20,20 +21,28 @@ stays_folder name v = record { table = refl; files = λ n. refl }
 pub stays : (h : Holdings) → Stays h h
 stays h = record { schema = refl; folders = λ name. stays_folder name (folder_at h name) }
 
-adds_none : (pairs : List Pair) (t : List (List Pair)) (after : Option (List (List Pair))) → after ≡ Some t → Adds pairs t after
-adds_none pairs t after is = record { added = []; after_is = is ∙ ap (λ x. Some x) (sym (append-nil t)); only = λ k d lt. absurd (omega arith); few = omega arith }
+adds_none : (workers : ℕ) (pairs : List Pair) (t : List (List Pair)) (after : Option (List (List Pair))) → after ≡ Some t → Adds workers pairs t after
+adds_none workers pairs t after is = record { added = []; after_is = is ∙ ap (λ x. Some x) (sym (append-nil t)); only = λ k d lt. absurd (omega arith); few = omega arith }
 
-pub grows_none : (pairs : Sorted) (h : Holdings) → Grows pairs h h
-grows_none pairs h = record { schema = refl; each = λ name t is. adds_none (pairs name) t (table_at h name) is }
+pub grows_none : (workers : ℕ) (pairs : Sorted) (h : Holdings) → Grows workers pairs h h
+grows_none workers pairs h = record { schema = refl; each = λ name t is. adds_none workers (pairs name) t (table_at h name) is }
 
 -- a status at which the store may be as it was, whatever was read
 abbrev pub IsIdle : Status → Type 0
 IsIdle s = (s ≡ NoMemory) ⊎ (s ≡ OutputFault)
 
-stored_idle : (s : Status) → IsIdle s → (calm full : Type 0) (r : Result (List Rule) Cause) (given : List keys.Pair) (input : List ℕ) (left : Option (List ℕ)) (h : Holdings) → LeavesBy s calm full r given input left h h
-stored_idle s (inl is) calm full (Ok rules) given input left h = rw is (grows_none _ h)
-stored_idle s (inr is) calm full (Ok rules) given input left h = rw is (λ c. grows_none _ h)
-stored_idle s idle calm full (Err cause) given input left h = stays h
+stored_idle : (s : Status) → IsIdle s → (calm full : Type 0) (workers : ℕ) (r : Result (List Rule) Cause) (given : List keys.Pair) (input : List ℕ) (left : Option (List ℕ)) (h : Holdings) → LeavesBy s calm full workers r given input left h h
+stored_idle s (inl is) calm full workers (Ok rules) given input left h = rw is (grows_none workers _ h)
+stored_idle s (inr is) calm full workers (Ok rules) given input left h = rw is (λ c. grows_none workers _ h)
+stored_idle s idle calm full workers (Err cause) given input left h = stays h
+
+unplanted : (s : Status) → IsIdle s → EndsUnplanted s
+unplanted s (inl is) = rw is tt
+unplanted s (inr is) = rw is tt
+
+tried_idle : (s : Status) → IsIdle s → (calm full : Type 0) (workers : ℕ) (r : Result (List Rule) Cause) (count : ℕ) (h : Holdings) → LeavesTried s calm full workers r count h h
+tried_idle s idle calm full workers (Ok rules) count h = inl (unplanted s idle, stays h)
+tried_idle s idle calm full workers (Err cause) count h = stays h
 
 leaves_idle : (command : Command) (s : Status) → IsIdle s → (calm full : Type 0) (input left : Option (List ℕ)) (h : Holdings) → Leaves command s calm full input left h h
 leaves_idle (commands.Pick wanted) s idle calm full input left h = refl
@@ -43,13 +52,14 @@ leaves_idle (commands.Generate count) s idle calm full input left h = refl
 leaves_idle (commands.Create root) s idle calm full None left h = tt
 leaves_idle (commands.Create root) s (inl is) calm full (Some octets) left h = rw is (stays h)
 leaves_idle (commands.Create root) s (inr is) calm full (Some octets) left h = rw is (inl (stays h))
-leaves_idle (commands.Archive root given) s idle calm full None left h = tt
-leaves_idle (commands.Archive root given) s idle calm full (Some octets) left h = stored_idle s idle calm full (rules_of h.schema) given octets left h
+leaves_idle (commands.Archive root given workers) s idle calm full None left h = tt
+leaves_idle (commands.Archive root given workers) s idle calm full (Some octets) left h = stored_idle s idle calm full workers (rules_of h.schema) given octets left h
 leaves_idle (commands.Retrieve root workers) s idle calm full input left h = stays h
 leaves_idle (commands.List root) s idle calm full input left h = stays h
 leaves_idle (commands.Axes root) s idle calm full input left h = stays h
 leaves_idle (commands.Stats root) s idle calm full input left h = stays h
 leaves_idle (commands.Session root) s idle calm full input left h = tt
+leaves_idle (commands.Trial root count workers) s idle calm full input left h = tried_idle s idle calm full workers (trial_rules h.schema) count h
 
 pub idle_store : (command : Command) (s : Status) → IsIdle s → (calm full : Type 0) (input left : Option (List ℕ)) (has : Option Holdings) → WhereTold has has (Leaves command s calm full input left)
 idle_store command s idle calm full input left None = tt

@@ -14,7 +14,8 @@ use Rattle.fd_outcome.specs.Picking.{found}
 use Rattle.fd_outcome.specs.Listed.{listed}
 use Rattle.fd_outcome.specs.Asking.{Answer, Asked, answers, asked_of, found_bytes, rules_of}
 use Rattle.fd_outcome.specs.Told.{Told}
-use Rattle.fd_outcome.specs.Outcome.{Outcome, outcome, early, output_early, answered, answered_early, retrieved, retrieved_early, picked, created, archived, generated_messages}
+use Rattle.fd_outcome.specs.Outcome.{Outcome, outcome, early, output_early, answered, answered_early, retrieved, retrieved_early, picked, created, archived, generated_messages, tried}
+use Rattle.fd_outcome.specs.Trying.{trial_rules}
 use Rattle.fd_outcome.specs.Objects.{failures, object}
 use Rattle.fd_outcome.specs.Ends.{Calm, troubles, no_memory}
 use Rattle.fd_outcome.specs.Ran.{Ran}
@@ -71,18 +72,23 @@ module _ (h : Holdings) (names : List (List ℕ)) (input : List ℕ) where
   retrieved_within (Ok asked) = answers_early (answers (table_at h) asked)
   retrieved_within (Err cause) = ([], refl)
 
+  nothing_within : (o : Option Outcome) → IfSome o (λ x. (more : List ℕ) × (x.output ≡ [] ++ more))
+  nothing_within None = tt
+  nothing_within (Some x) = (x.output, refl)
+
   pub within : (command : Command) → Within_ command
   within (commands.Pick wanted) = ((picked (found wanted input)).output, refl)
   within commands.Describe = ([], sym (append-nil (listed listings.Descriptions input).lines))
   within (commands.Values decimals) = ([], sym (append-nil (listed (listings.Points decimals) input).lines))
   within (commands.Generate count) = ([], sym (append-nil (generated_messages count)))
   within (commands.Create root) = ((created h.schema input).output, refl)
-  within (commands.Archive root given) = ((archived given (rules_of h.schema) input).output, refl)
+  within (commands.Archive root given workers) = ((archived given (rules_of h.schema) input).output, refl)
   within (commands.Retrieve root workers) = retrieved_within (asked_of h input)
   within (commands.List root) = whole_early (outcome (commands.List root) h names input)
   within (commands.Axes root) = whole_early (outcome (commands.Axes root) h names input)
   within (commands.Stats root) = whole_early (outcome (commands.Stats root) h names input)
   within (commands.Session root) = tt
+  within (commands.Trial root count workers) = nothing_within (tried h count (trial_rules h.schema))
 
 -- nothing was read or written, and then the report took the line, or a front of it
 pub starved : (command : Command) (result : Status) (has : Option Holdings) (sm sn : ℕ) (input left : Option (List ℕ)) (im im' : ℕ) (a : Option (List ℕ)) (km km' : ℕ) (c d : Option (List ℕ)) (m n : ℕ)

@@ -24,6 +24,8 @@ pub data Cause : Type 0 where
   InStream : (refusal : Refusal) → Cause
   SchemaMissing : Cause
   SchemaPresent : Cause
+  -- the stored schema prints as another text than that of `trial`
+  SchemaDifferent : Cause
   -- the first place that is wrong in the text that is to be the schema
   InSchema : (text : List ℕ) (fault : schemas.Fault) → Cause
   -- the same in the schema that is stored
@@ -88,6 +90,7 @@ abbrev pub telling : Cause → Telling
 telling (InStream refusal) = record { status = refusal_status refusal; line = refusal_line refusal }
 telling SchemaMissing = refused_so (codes "SchemaMissing")
 telling SchemaPresent = refused_so (codes "SchemaPresent")
+telling SchemaDifferent = refused_so (codes "SchemaDifferent")
 telling (InSchema text fault) = if is_schema_limit fault.kind then schema_limit text fault else refused_so (schema_place text fault)
 telling (InStored text fault) = if is_schema_limit fault.kind then schema_limit text fault else damaged_so (schema_place text fault)
 telling (InRequest fault) =

@@ -14,7 +14,8 @@ use Rattle.fd_outcome.specs.Store.{AreNames, IsFull, Grows, GrowsBy, Plants, Sta
 use Rattle.fd_outcome.specs.Asking.{Asked, asked_of, datasets_of, rules_of}
 use Rattle.fd_outcome.specs.Archiving.{Taken, taken, taken_of, pairs_for, datasets_in}
 use Rattle.fd_outcome.specs.Objects.{Object, Failed, Failures, IsCalm, failures}
-use Rattle.fd_outcome.specs.Outcome.{Outcome, Early, outcome, early, nothing_early}
+use Rattle.fd_outcome.specs.Trying.{trial_given, trial_rules, trial_schema}
+use Rattle.fd_outcome.specs.Outcome.{Outcome, Early, outcome, early, generated_messages, nothing_early}
 
 abbrev pub usage : List ℕ
 usage = line (codes "usage: fdb pick describe values generate create archive retrieve list axes stats session trial")
@@ -121,20 +122,21 @@ abbrev pub AmongTaken : List keys.Pair → Result (List Rule) Cause → List ℕ
 AmongTaken given (Ok rules) input name = Contains (datasets_in (taken rules given input).stored) name
 AmongTaken given (Err cause) input name = ⊥
 
--- the command opens the dataset: `retrieve` those of the keys, `archive` those of the messages, the listings all. Of a session
--- that is said with what it does.
+-- the command opens the dataset: `retrieve` those of the keys, `archive` and `trial` those of the messages, the listings all.
+-- Of a session that is said with what it does.
 abbrev pub Opens : Command → Holdings → List (List ℕ) → List ℕ → List ℕ → Type 0
 Opens (commands.Pick wanted) h names input name = ⊥
 Opens commands.Describe h names input name = ⊥
 Opens (commands.Values decimals) h names input name = ⊥
 Opens (commands.Generate count) h names input name = ⊥
 Opens (commands.Create root) h names input name = ⊥
-Opens (commands.Archive root given) h names input name = AmongTaken given (rules_of h.schema) input name
+Opens (commands.Archive root given workers) h names input name = AmongTaken given (rules_of h.schema) input name
 Opens (commands.Retrieve root workers) h names input name = AmongAsked (asked_of h input) name
 Opens (commands.List root) h names input name = Contains names name
 Opens (commands.Axes root) h names input name = Contains names name
 Opens (commands.Stats root) h names input name = Contains names name
 Opens (commands.Session root) h names input name = ⊥
+Opens (commands.Trial root count workers) h names input name = AmongTaken trial_given (trial_rules h.schema) (generated_messages count) name
 
 -- the command calls the store
 abbrev pub UsesStore : Command → Type 0
@@ -143,12 +145,13 @@ UsesStore commands.Describe = ⊥
 UsesStore (commands.Values decimals) = ⊥
 UsesStore (commands.Generate count) = ⊥
 UsesStore (commands.Create root) = Unit {0}
-UsesStore (commands.Archive root given) = Unit {0}
+UsesStore (commands.Archive root given workers) = Unit {0}
 UsesStore (commands.Retrieve root workers) = Unit {0}
 UsesStore (commands.List root) = Unit {0}
 UsesStore (commands.Axes root) = Unit {0}
 UsesStore (commands.Stats root) = Unit {0}
 UsesStore (commands.Session root) = Unit {0}
+UsesStore (commands.Trial root count workers) = Unit {0}
 
 -- the command stores fields
 abbrev pub StoresFields : Command → Type 0
@@ -157,17 +160,34 @@ StoresFields commands.Describe = ⊥
 StoresFields (commands.Values decimals) = ⊥
 StoresFields (commands.Generate count) = ⊥
 StoresFields (commands.Create root) = ⊥
-StoresFields (commands.Archive root given) = Unit {0}
+StoresFields (commands.Archive root given workers) = Unit {0}
 StoresFields (commands.Retrieve root workers) = ⊥
 StoresFields (commands.List root) = ⊥
 StoresFields (commands.Axes root) = ⊥
 StoresFields (commands.Stats root) = ⊥
 StoresFields (commands.Session root) = Unit {0}
+StoresFields (commands.Trial root count workers) = Unit {0}
+
+-- This is broken in the dataset before the command. `trial` looks for fields behind what it stored, and may meet then what is
+-- broken afterwards, in a dataset that was damaged before.
+abbrev pub IsBroken : Command → Holdings → Holdings → List ℕ → Broken → Type 0
+IsBroken (commands.Pick wanted) h i name broken = Stands name (folder_at h name) broken
+IsBroken commands.Describe h i name broken = Stands name (folder_at h name) broken
+IsBroken (commands.Values decimals) h i name broken = Stands name (folder_at h name) broken
+IsBroken (commands.Generate count) h i name broken = Stands name (folder_at h name) broken
+IsBroken (commands.Create root) h i name broken = Stands name (folder_at h name) broken
+IsBroken (commands.Archive root given workers) h i name broken = Stands name (folder_at h name) broken
+IsBroken (commands.Retrieve root workers) h i name broken = Stands name (folder_at h name) broken
+IsBroken (commands.List root) h i name broken = Stands name (folder_at h name) broken
+IsBroken (commands.Axes root) h i name broken = Stands name (folder_at h name) broken
+IsBroken (commands.Stats root) h i name broken = Stands name (folder_at h name) broken
+IsBroken (commands.Session root) h i name broken = Stands name (folder_at h name) broken
+IsBroken (commands.Trial root count workers) h i name broken = Stands name (folder_at h name) broken ⊎ ((table_at h name ≡ None) × Stands name (folder_at i name) broken)
 
 -- the line names what is broken in a dataset that the command opens
-abbrev pub TellsDamage : Command → Holdings → List (List ℕ) → List ℕ → List ℕ → Type 0
-TellsDamage command h names input text =
-    (name : List ℕ) × (broken : Broken) × Opens command h names input name × Stands name (folder_at h name) broken × (text ≡ damaged_line name broken)
+abbrev pub TellsDamage : Command → Holdings → Holdings → List (List ℕ) → List ℕ → List ℕ → Type 0
+TellsDamage command h i names input text =
+    (name : List ℕ) × (broken : Broken) × Opens command h names input name × IsBroken command h i name broken × (text ≡ damaged_line name broken)
 
 -- A call of the store fails; a dataset is damaged; a table of a dataset that it opens is full afterwards. Nothing else that
 -- the store meets ends a command.
@@ -180,7 +200,7 @@ troubles command failed h i names input InputFault text = ⊥
 troubles command failed h i names input OutputFault text = ⊥
 troubles command failed h i names input DiskFault text = UsesStore command × failed.store × (text ≡ disk_failed)
 troubles command failed h i names input NoMemory text = ⊥
-troubles command failed h i names input Damaged text = TellsDamage command h names input text
+troubles command failed h i names input Damaged text = TellsDamage command h i names input text
 troubles command failed h i names input Limit text = StoresFields command × (text ≡ table_full) × ((name : List ℕ) × Opens command h names input name × IsFull i name)
 
 -- ---- of a command, where the objects tell
@@ -196,12 +216,13 @@ WhereAsked commands.Describe input store after P = IfSome input (λ octets. P oc
 WhereAsked (commands.Values decimals) input store after P = IfSome input (λ octets. P octets nothing_held nothing_held)
 WhereAsked (commands.Generate count) input store after P = P [] nothing_held nothing_held
 WhereAsked (commands.Create root) input store after P = IfSome input (λ octets. IfSome store (λ h. IfSome after (P octets h)))
-WhereAsked (commands.Archive root given) input store after P = IfSome input (λ octets. IfSome store (λ h. IfSome after (P octets h)))
+WhereAsked (commands.Archive root given workers) input store after P = IfSome input (λ octets. IfSome store (λ h. IfSome after (P octets h)))
 WhereAsked (commands.Retrieve root workers) input store after P = IfSome input (λ octets. IfSome store (λ h. IfSome after (P octets h)))
 WhereAsked (commands.List root) input store after P = IfSome input (λ octets. IfSome store (λ h. IfSome after (P octets h)))
 WhereAsked (commands.Axes root) input store after P = IfSome input (λ octets. IfSome store (λ h. IfSome after (P octets h)))
 WhereAsked (commands.Stats root) input store after P = IfSome store (λ h. IfSome after (P [] h))
 WhereAsked (commands.Session root) input store after P = Unit {0}
+WhereAsked (commands.Trial root count workers) input store after P = IfSome store (λ h. IfSome after (P [] h))
 
 -- What a status says of a command, of its input and of its store.
 abbrev pub Runs : Command → Status → Object Holdings → Object (List ℕ) → Object (List ℕ) → Object (List ℕ) → Type 0
@@ -240,16 +261,17 @@ Calm command NoMemory input output report = Unit {0}
 Calm command Damaged input output report = Unit {0}
 Calm command Limit input output report = AreCalm input output ⊎ (StoresFields command × Takes report.before report.now table_full)
 
--- At 0 and 1 the input was read to its end. `generate` and `stats` read none of it.
+-- At 0 and 1 the input was read to its end. `generate`, `stats` and `trial` read none of it.
 abbrev pub ReadsOut : Command → Option (List ℕ) → Option (List ℕ) → Type 0
 ReadsOut (commands.Generate count) before after = after ≡ before
 ReadsOut (commands.Stats root) before after = after ≡ before
+ReadsOut (commands.Trial root count workers) before after = after ≡ before
 ReadsOut (commands.Session root) before after = IfSome before (λ octets. after ≡ Some [])
 ReadsOut (commands.Pick wanted) before after = IfSome before (λ octets. after ≡ Some [])
 ReadsOut commands.Describe before after = IfSome before (λ octets. after ≡ Some [])
 ReadsOut (commands.Values decimals) before after = IfSome before (λ octets. after ≡ Some [])
 ReadsOut (commands.Create root) before after = IfSome before (λ octets. after ≡ Some [])
-ReadsOut (commands.Archive root given) before after = IfSome before (λ octets. after ≡ Some [])
+ReadsOut (commands.Archive root given workers) before after = IfSome before (λ octets. after ≡ Some [])
 ReadsOut (commands.Retrieve root workers) before after = IfSome before (λ octets. after ≡ Some [])
 ReadsOut (commands.List root) before after = IfSome before (λ octets. after ≡ Some [])
 ReadsOut (commands.Axes root) before after = IfSome before (λ octets. after ≡ Some [])
@@ -259,7 +281,7 @@ abbrev pub AreSound : Command → Holdings → List (List ℕ) → List ℕ → 
 AreSound command h names input = (name : List ℕ) → Opens command h names input name → IsSome (table_at h name)
 
 -- Where no count of faults rose and no dataset that it opens is damaged, a command ends with the status of its outcome, or
--- memory ran out, or, for `archive`, a table was full.
+-- memory ran out, or, for `archive` and `trial`, a table was full.
 abbrev pub Completes : Command → Status → Option (List ℕ) → Option Holdings → Option Holdings → Type 0
 Completes command s input store after = WhereAsked command input store after (λ octets h i. (names : List (List ℕ)) → AreNames h names → AreSound command h names octets
     → (o : Outcome) → outcome command h names octets ≡ Some o → (s ≡ o.status) ⊎ ((s ≡ NoMemory) ⊎ (StoresFields command × (s ≡ Limit))))
@@ -267,37 +289,37 @@ Completes command s input store after = WhereAsked command input store after (λ
 -- ---- what becomes of the store
 
 -- the octets before those that are left were read, and the messages that are whole in them are stored
-pub record StoresRead (rules : List Rule) (given : List keys.Pair) (input : List ℕ) (left : Option (List ℕ)) (h i : Holdings) : Type 0 where
+pub record StoresRead (workers : ℕ) (rules : List Rule) (given : List keys.Pair) (input : List ℕ) (left : Option (List ℕ)) (h i : Holdings) : Type 0 where
   pub seen : List ℕ
   pub rest : List ℕ
   pub input_is : input ≡ seen ++ rest
   pub left_is : left ≡ Some rest
-  pub grows : GrowsBy (pairs_for (taken_of rules given seen)) h i
+  pub grows : GrowsBy workers (pairs_for (taken_of rules given seen)) h i
 
 -- a table of one of the datasets is full, and what was stored is of the stream
-pub record StoresUntilFull (stored : Taken) (h i : Holdings) : Type 0 where
+pub record StoresUntilFull (workers : ℕ) (stored : Taken) (h i : Holdings) : Type 0 where
   pub name : List ℕ
   pub among : Contains (datasets_in stored.stored) name
   pub full : IsFull i name
-  pub grows : Grows (pairs_for stored.stored) h i
+  pub grows : Grows workers (pairs_for stored.stored) h i
 
 -- What `archive` leaves of the store. `calm` says that no call of the store has failed, `full` that the line of a full table
 -- was told.
-abbrev pub LeavesStored : Status → Type 0 → Type 0 → List Rule → List keys.Pair → List ℕ → Option (List ℕ) → Holdings → Holdings → Type 0
-LeavesStored Done calm full rules given input left h i = GrowsBy (pairs_for (taken rules given input).stored) h i
-LeavesStored Missed calm full rules given input left h i = ⊥
-LeavesStored Words calm full rules given input left h i = ⊥
-LeavesStored Refused calm full rules given input left h i = GrowsBy (pairs_for (taken rules given input).stored) h i
-LeavesStored InputFault calm full rules given input left h i = StoresRead rules given input left h i
-LeavesStored OutputFault calm full rules given input left h i = calm → Grows (pairs_for (taken rules given input).stored) h i
-LeavesStored DiskFault calm full rules given input left h i = calm → Grows (pairs_for (taken rules given input).stored) h i
-LeavesStored NoMemory calm full rules given input left h i = Grows (pairs_for (taken rules given input).stored) h i
-LeavesStored Damaged calm full rules given input left h i = Grows (pairs_for (taken rules given input).stored) h i
-LeavesStored Limit calm full rules given input left h i = GrowsBy (pairs_for (taken rules given input).stored) h i ⊎ (full × StoresUntilFull (taken rules given input) h i)
+abbrev pub LeavesStored : Status → Type 0 → Type 0 → ℕ → List Rule → List keys.Pair → List ℕ → Option (List ℕ) → Holdings → Holdings → Type 0
+LeavesStored Done calm full workers rules given input left h i = GrowsBy workers (pairs_for (taken rules given input).stored) h i
+LeavesStored Missed calm full workers rules given input left h i = ⊥
+LeavesStored Words calm full workers rules given input left h i = ⊥
+LeavesStored Refused calm full workers rules given input left h i = GrowsBy workers (pairs_for (taken rules given input).stored) h i
+LeavesStored InputFault calm full workers rules given input left h i = StoresRead workers rules given input left h i
+LeavesStored OutputFault calm full workers rules given input left h i = calm → Grows workers (pairs_for (taken rules given input).stored) h i
+LeavesStored DiskFault calm full workers rules given input left h i = calm → Grows workers (pairs_for (taken rules given input).stored) h i
+LeavesStored NoMemory calm full workers rules given input left h i = Grows workers (pairs_for (taken rules given input).stored) h i
+LeavesStored Damaged calm full workers rules given input left h i = Grows workers (pairs_for (taken rules given input).stored) h i
+LeavesStored Limit calm full workers rules given input left h i = GrowsBy workers (pairs_for (taken rules given input).stored) h i ⊎ (full × StoresUntilFull workers (taken rules given input) h i)
 
-abbrev pub LeavesBy : Status → Type 0 → Type 0 → Result (List Rule) Cause → List keys.Pair → List ℕ → Option (List ℕ) → Holdings → Holdings → Type 0
-LeavesBy s calm full (Ok rules) given input left h i = LeavesStored s calm full rules given input left h i
-LeavesBy s calm full (Err cause) given input left h i = Stays h i
+abbrev pub LeavesBy : Status → Type 0 → Type 0 → ℕ → Result (List Rule) Cause → List keys.Pair → List ℕ → Option (List ℕ) → Holdings → Holdings → Type 0
+LeavesBy s calm full workers (Ok rules) given input left h i = LeavesStored s calm full workers rules given input left h i
+LeavesBy s calm full workers (Err cause) given input left h i = Stays h i
 
 -- What `create` leaves of the store.
 abbrev pub LeavesSchema : Status → List ℕ → Holdings → Holdings → Type 0
@@ -312,6 +334,29 @@ LeavesSchema NoMemory input h i = Stays h i
 LeavesSchema Damaged input h i = ⊥
 LeavesSchema Limit input h i = Stays h i
 
+-- A run may end so before `trial` has a schema.
+abbrev pub EndsUnplanted : Status → Type 0
+EndsUnplanted Done = ⊥
+EndsUnplanted Missed = ⊥
+EndsUnplanted Words = ⊥
+EndsUnplanted Refused = ⊥
+EndsUnplanted InputFault = ⊥
+EndsUnplanted OutputFault = Unit {0}
+EndsUnplanted DiskFault = Unit {0}
+EndsUnplanted NoMemory = Unit {0}
+EndsUnplanted Damaged = ⊥
+EndsUnplanted Limit = ⊥
+
+-- all stayed where there was a schema, or else that of `trial` was planted
+abbrev pub IsPlanted : Holdings → Holdings → Type 0
+IsPlanted h m = (IsSome h.schema × Stays h m) ⊎ Plants trial_schema h m
+
+-- What `trial` leaves of the store: it has a schema first, and then what `archive` leaves of its messages, all of which are read.
+abbrev pub LeavesTried : Status → Type 0 → Type 0 → ℕ → Result (List Rule) Cause → ℕ → Holdings → Holdings → Type 0
+LeavesTried s calm full workers (Ok rules) count h i =
+    (EndsUnplanted s × Stays h i) ⊎ ((m : Holdings) × IsPlanted h m × LeavesStored s calm full workers rules trial_given (generated_messages count) None m i)
+LeavesTried s calm full workers (Err cause) count h i = Stays h i
+
 -- What a command leaves of the store: a command over a stream doesn't call it, and a command that only reads leaves the
 -- schema, each table and each file as they were.
 abbrev pub Leaves : Command → Status → Type 0 → Type 0 → Option (List ℕ) → Option (List ℕ) → Holdings → Holdings → Type 0
@@ -320,9 +365,10 @@ Leaves commands.Describe s calm full input left h i = i ≡ h
 Leaves (commands.Values decimals) s calm full input left h i = i ≡ h
 Leaves (commands.Generate count) s calm full input left h i = i ≡ h
 Leaves (commands.Create root) s calm full input left h i = IfSome input (λ octets. LeavesSchema s octets h i)
-Leaves (commands.Archive root given) s calm full input left h i = IfSome input (λ octets. LeavesBy s calm full (rules_of h.schema) given octets left h i)
+Leaves (commands.Archive root given workers) s calm full input left h i = IfSome input (λ octets. LeavesBy s calm full workers (rules_of h.schema) given octets left h i)
 Leaves (commands.Retrieve root workers) s calm full input left h i = Stays h i
 Leaves (commands.List root) s calm full input left h i = Stays h i
 Leaves (commands.Axes root) s calm full input left h i = Stays h i
 Leaves (commands.Stats root) s calm full input left h i = Stays h i
 Leaves (commands.Session root) s calm full input left h i = Unit {0}
+Leaves (commands.Trial root count workers) s calm full input left h i = LeavesTried s calm full workers (trial_rules h.schema) count h i

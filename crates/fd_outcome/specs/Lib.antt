@@ -8,6 +8,7 @@ pub mod Causes
 pub mod Store
 pub mod Asking
 pub mod Archiving
+pub mod Trying
 pub mod Rows
 pub mod Outcome
 pub mod Objects

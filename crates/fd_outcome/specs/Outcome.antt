@@ -1,6 +1,6 @@
 -- What a command makes of its input and of the store: what it writes, and its status.
-use Rattle.std.specs.Prelude.{ℕ, List, [], ◌∷◌, ◌++◌, codes, map, nat_lt, option_map, Option, Some, None, Result, Ok, Err, if◌then◌else◌}
-use Rattle.std.specs.List.{concat, range_with_len}
+use Rattle.std.specs.Prelude.{ℕ, Bool, List, [], ◌∷◌, ◌++◌, codes, is_some, map, nat_lt, option_map, Option, Some, None, Result, Ok, Err, if◌then◌else◌}
+use Rattle.std.specs.List.{concat, list_all, range_with_len}
 use Rattle.fd_sections.specs.Message.{Sections, message_octets}
 use Rattle.fd_key.specs.Pairs as keys
 use Rattle.fd_disk.specs.Folders.{Holdings, folder_at}
@@ -24,7 +24,8 @@ use Rattle.fd_outcome.specs.Picking.{found}
 use Rattle.fd_outcome.specs.Listed.{Listed, listed}
 use Rattle.fd_outcome.specs.Store.{table_at, entries_in}
 use Rattle.fd_outcome.specs.Asking.{Answer, Asked, rules_of, partial_in, asked_of, answers, found_bytes, miss_lines, counts_line, count_missed, ◌then◌}
-use Rattle.fd_outcome.specs.Archiving.{Taken, taken, archived_line}
+use Rattle.fd_outcome.specs.Archiving.{Taken, taken, archived_line, datasets_in}
+use Rattle.fd_outcome.specs.Trying.{tally_of, trial_answers, trial_given, trial_line, trial_rules}
 use Rattle.fd_outcome.specs.Rows.{list_text, axes_text, stats_text}
 
 -- what goes to the output, what goes to the report, and the status
@@ -83,6 +84,21 @@ abbrev pub archived : List keys.Pair → Result (List Rule) Cause → List ℕ �
 archived given (Ok rules) input = archive_ends (taken rules given input) (taken rules given input).refusal
 archived given (Err cause) input = refused cause
 
+-- none of these datasets is damaged
+abbrev pub are_told : Holdings → List (List ℕ) → Bool
+are_told h names = list_all (λ name. is_some (table_at h name)) names
+
+abbrev pub trial_ends : Holdings → ℕ → Taken → Option Cause → Option Outcome
+trial_ends h count t None =
+    if are_told h (datasets_in t.stored) then Some (record { output = []; report = trial_line count (tally_of (trial_answers t.stored)); status = Done }) else None
+trial_ends h count t (Some cause) = Some (refused cause)
+
+-- `trial` stores generated messages, and tells how many of their keys it finds then, or why one isn't stored. Nothing is said
+-- where a dataset of theirs is damaged.
+abbrev pub tried : Holdings → ℕ → Result (List Rule) Cause → Option Outcome
+tried h count (Ok rules) = trial_ends h count (taken rules trial_given (generated_messages count)) (taken rules trial_given (generated_messages count)).refusal
+tried h count (Err cause) = Some (refused cause)
+
 abbrev pub answered : List Answer → Outcome
 answered xs = record {
   output = found_bytes xs;
@@ -136,15 +152,16 @@ outcome commands.Describe h names input = Some (told (listed listings.Descriptio
 outcome (commands.Values decimals) h names input = Some (told (listed (listings.Points decimals) input))
 outcome (commands.Generate count) h names input = Some (generated count)
 outcome (commands.Create root) h names input = Some (created h.schema input)
-outcome (commands.Archive root given) h names input = Some (archived given (rules_of h.schema) input)
+outcome (commands.Archive root given workers) h names input = Some (archived given (rules_of h.schema) input)
 outcome (commands.Retrieve root workers) h names input = retrieved h (asked_of h input)
 outcome (commands.List root) h names input = printed_of list_text h names (rules_of h.schema then λ rules. partial_in input)
 outcome (commands.Axes root) h names input = printed_of axes_text h names (rules_of h.schema then λ rules. partial_in input)
 outcome (commands.Stats root) h names input = stats_printed h names (rules_of h.schema)
 outcome (commands.Session root) h names input = None
+outcome (commands.Trial root count workers) h names input = tried h count (trial_rules h.schema)
 
 -- What the command may have written, or fronts of it, where it stops before its end: `retrieve` of what it finds and of
--- the lines of its misses; a listing of its lines; `generate` of its messages; `pick`, `create` and `archive` nothing.
+-- the lines of its misses; a listing of its lines; `generate` of its messages; `pick`, `create`, `archive` and `trial` nothing.
 pub record Early : Type 0 where
   pub output : List ℕ
   pub report : List ℕ
@@ -173,9 +190,10 @@ early commands.Describe h names input = lines_early (listed listings.Description
 early (commands.Values decimals) h names input = lines_early (listed (listings.Points decimals) input).lines
 early (commands.Generate count) h names input = lines_early (generated_messages count)
 early (commands.Create root) h names input = nothing_early
-early (commands.Archive root given) h names input = nothing_early
+early (commands.Archive root given workers) h names input = nothing_early
 early (commands.Retrieve root workers) h names input = retrieved_early h (asked_of h input)
 early (commands.List root) h names input = output_early (outcome (commands.List root) h names input)
 early (commands.Axes root) h names input = output_early (outcome (commands.Axes root) h names input)
 early (commands.Stats root) h names input = output_early (outcome (commands.Stats root) h names input)
 early (commands.Session root) h names input = nothing_early
+early (commands.Trial root count workers) h names input = nothing_early

@@ -91,16 +91,16 @@ pub record Plants (text : List ℕ) (h i : Holdings) : Type 0 where
 abbrev pub HasOnly : List Pair → List Pair → Type 0
 HasOnly pairs b = (key bytes : List ℕ) → of_batch b key ≡ Some bytes → Contains pairs (record { key = key; bytes = bytes })
 
--- Batches were added to a table: few, and of these pairs alone.
-pub record Adds (pairs : List Pair) (before : List (List Pair)) (after : Option (List (List Pair))) : Type 0 where
+-- Batches were added to a table, few for so many workers, and of these pairs alone.
+pub record Adds (workers : ℕ) (pairs : List Pair) (before : List (List Pair)) (after : Option (List (List Pair))) : Type 0 where
   pub added : List (List Pair)
   pub after_is : after ≡ Some (before ++ added)
   pub only : All (HasOnly pairs) added
-  pub few : length added ≤ 1 + length pairs / 512
+  pub few : length added ≤ workers + length pairs / 512
 
 -- The same, and each key has now the bytes of its last pair, or else those that it had.
-pub record AddsAll (pairs : List Pair) (before : List (List Pair)) (after : Option (List (List Pair))) : Type 0 where
-  pub adds : Adds pairs before after
+pub record AddsAll (workers : ℕ) (pairs : List Pair) (before : List (List Pair)) (after : Option (List (List Pair))) : Type 0 where
+  pub adds : Adds workers pairs before after
   pub newest_is : (t : List (List Pair)) → after ≡ Some t → (key : List ℕ) → newest t key ≡ or_older (of_batch pairs key) (newest before key)
 
 -- the pairs of each dataset
@@ -108,14 +108,14 @@ abbrev pub Sorted : Type 0
 Sorted = List ℕ → List Pair
 
 -- each sound dataset has batches of its pairs added
-pub record Grows (pairs : Sorted) (h i : Holdings) : Type 0 where
+pub record Grows (workers : ℕ) (pairs : Sorted) (h i : Holdings) : Type 0 where
   pub schema : i.schema ≡ h.schema
-  pub each : (name : List ℕ) (t : List (List Pair)) → table_at h name ≡ Some t → Adds (pairs name) t (table_at i name)
+  pub each : (name : List ℕ) (t : List (List Pair)) → table_at h name ≡ Some t → Adds workers (pairs name) t (table_at i name)
 
 -- and all pairs are stored
-pub record GrowsBy (pairs : Sorted) (h i : Holdings) : Type 0 where
+pub record GrowsBy (workers : ℕ) (pairs : Sorted) (h i : Holdings) : Type 0 where
   pub schema : i.schema ≡ h.schema
-  pub each : (name : List ℕ) (t : List (List Pair)) → table_at h name ≡ Some t → AddsAll (pairs name) t (table_at i name)
+  pub each : (name : List ℕ) (t : List (List Pair)) → table_at h name ≡ Some t → AddsAll workers (pairs name) t (table_at i name)
 
 -- a dataset's table lists 65,535 entries
 abbrev pub IsFull : Holdings → List ℕ → Type 0

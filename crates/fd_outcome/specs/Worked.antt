@@ -16,11 +16,12 @@ use Rattle.fd_request.specs.Expansion.{Keyword, expand}
 use Rattle.fd_listing.specs.Lines.{line}
 use Rattle.fd_segment.specs.declared.fault.Damage.TheVariants as damages
 use Rattle.fd_core.specs.Batches.{newest}
-use Rattle.fd_words.specs.declared.command.Command.TheVariants.{Create, Retrieve, List as List_, Axes, Stats}
+use Rattle.fd_words.specs.declared.command.Command.TheVariants.{Create, Retrieve, List as List_, Axes, Stats, Trial}
 use Rattle.fd_outcome.specs.declared.status.Status.TheVariants.{Done, Missed, Refused, Damaged}
 use Rattle.fd_outcome.specs.Causes.{Cause, BadTable, BadFile, damaged_line}
 use Rattle.fd_outcome.specs.Asking.{Asked, rules_of, request_in, partial_in, placed, ◌then◌}
 use Rattle.fd_outcome.specs.Archiving.{taken}
+use Rattle.fd_outcome.specs.Trying.{trial_rules}
 use Rattle.fd_outcome.specs.Outcome.{outcome, archived}
 use Rattle.fd_outcome.specs.Store.{table_at}
 
@@ -125,6 +126,10 @@ pub record Rows : Type 0 where
   pub created_again : outcome (Create []) store names schema_text ≡ Some (record { output = []; report = line (codes "refused SchemaPresent"); status = Refused })
   pub no_schema : outcome (Stats []) (record { schema = None; folders = λ n. None }) [] [] ≡ Some (record { output = []; report = line (codes "refused SchemaMissing"); status = Refused })
   pub damaged_schema : outcome (Stats []) (record { schema = Some (codes "[a"); folders = λ n. None }) [] [] ≡ Some (record { output = []; report = line (codes "damaged schema 1 End"); status = Damaged })
+  -- `trial` where there is no schema, and over another one
+  pub planted_rules : trial_rules None ≡ rules
+  pub tried_two : outcome (Trial [] 2 4) (record { schema = None; folders = λ n. None }) [] [] ≡ Some (record { output = []; report = line (codes "trial 2 found 2 bytes 366 missed 0"); status = Done })
+  pub tried_over : outcome (Trial [] 2 4) (record { schema = Some (codes "[class, expver, date [centre, type, levtype [param, step, levelist?]]]"); folders = λ n. None }) [] [] ≡ Some (record { output = []; report = line (codes "refused SchemaDifferent"); status = Refused })
   -- lines of damage
   pub absent : damaged_line (codes "DS") (BadFile (damages.Absent (name_of 1 1 Fields))) ≡ line (codes "damaged DS Absent 1-1.fields")
   pub short : damaged_line (codes "DS") (BadFile (damages.Length (name_of 1 1 Index) 4120 4000)) ≡ line (codes "damaged DS Length 1-1.index 4120 4000")

@@ -1,5 +1,5 @@
 -- The bytes of a key that was located, copied.
-use Rattle.std.proofs.Common.{◌≡◌, ◌∙◌, ◌-◌, ◌+◌, ◌≤◌, ◌++◌, ℕ, List, [], take, drop, Option, None, Some, refl, sym, ap, subst, slice_get, take-take, take-append-drop}
+use Rattle.std.proofs.Common.{◌≡◌, ◌∙◌, ◌-◌, ◌+◌, ◌≤◌, ◌++◌, ℕ, List, take, drop, Option, None, Some, refl, sym, ap, subst, slice_get, take-take, take-append-drop}
 use Rattle.std.specs.Prelude.{IfSome}
 use Rattle.fd_core.specs.declared.batch.Pair.{Pair}
 use Rattle.fd_core.specs.Batches.{newest}
@@ -10,7 +10,7 @@ use Rattle.fd_retriever.specs.declared.fault.Got.TheVariants.{Found, Miss}
 use Rattle.fd_retriever.specs.Answers.{IsAnswer, TookFront}
 use Rattle.fd_finding.specs.Spots.{IsNewestAt, IsWithin}
 use Rattle.fd_retrieve.specs.declared.locating.Located.{Located}
-use Rattle.fd_retrieve.specs.Located.{IsIn, IsLocated, IsThere}
+use Rattle.fd_retrieve.specs.Located.{IsIn, IsThere}
 use Rattle.fd_retrieve.specs.Open.{Open, table_in}
 use Rattle.fd_retrieve.proofs.Staying.{some_is}
 

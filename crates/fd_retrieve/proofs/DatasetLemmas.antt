@@ -1,24 +1,28 @@
 -- Datasets that were opened: by their texts, and by their segments.
 use Rattle.std.proofs.Common.{◌≡◌, ◌∙◌, ◌<◌, ◌≤◌, ◌+◌, ◌||◌, ℕ, zero, suc, Bool, true, false, List, [], ◌∷◌, length, map, drop, get_or, All, IfSome, Option, Some, None, inl, inr, refl, sym, ap, subst, arith, drop-cons, if◌then◌else◌}
-use Rattle.std.specs.Prelude.{slice_get, Contains}
+use Rattle.std.specs.Prelude.{◌⊎◌, slice_get, Contains}
 use Rattle.std.specs.Str.{bytes_eq}
-use Rattle.std.specs.Arc.{arc_value}
-use Rattle.std.specs.declared.sync.Arc.{Arc}
 use Rattle.std.proofs.lemmas.Slice.Eq.{bytes_eq-Decides}
 use Rattle.fd_segment.specs.Held.{Standing}
-use Rattle.fd_segment.specs.Shared.{standings}
-use Rattle.std.specs.Prelude.{option_map, Result, Ok, Err, IfOk, IfErr}
+use Rattle.std.specs.Prelude.{option_map}
 use Rattle.std.proofs.lemmas.List.Elements.{All-head, All-tail}
 use Rattle.fd_disk.proofs.NameLemmas.{is_or_not}
 use Rattle.fd_core.specs.declared.batch.Pair.{Pair}
-use Rattle.fd_core.specs.Batches.{newest}
 use Rattle.fd_dataset.specs.Listed.{listing}
 use Rattle.fd_recovery.specs.Recovered.{all_of}
 use Rattle.fd_retriever.specs.Answers.{Tells}
 use Rattle.fd_retriever.specs.Kept.{AreThose, Kept}
 use Rattle.fd_retrieve.proofs.Staying.{some_is}
 use Rattle.fd_outcome.specs.Asking.{is_among}
-use Rattle.fd_retrieve.specs.Open.{IsFirstNamed, Open, names_of, table_in, table_of}
+use Rattle.fd_disk.specs.Folders.{Contents}
+use Rattle.fd_segment.specs.Causes.{IsBadIndex, IsFindDamage}
+use Rattle.fd_segment.specs.declared.fault.Damage.{Damage}
+use Rattle.fd_recovery.specs.Damages.{index_file}
+use Rattle.fd_recovery.specs.Recovered.{files_of}
+use Rattle.fd_retriever.specs.Answers.{StandsIn}
+use Rattle.fd_outcome.specs.Causes.{BadFile}
+use Rattle.fd_outcome.specs.Store.{Stands}
+use Rattle.fd_retrieve.specs.Open.{AreListed, IsDamaged, IsFirstNamed, Open, names_of, table_in, table_of}
 
 -- none of the first datasets has the text
 pub record IsPast (os : List Open) (name : List ℕ) (i : ℕ) : Type 0 where
@@ -58,11 +62,6 @@ past_all os name i past all = past.among ∙ ap (λ l. is_among (names_of l) nam
     nothing [] (suc k) le = refl
     nothing (x ∷ xs) zero le = absurd (omega (arith, le))
     nothing (x ∷ xs) (suc k) le = nothing xs k (omega (arith, le))
-
-pub segment_at : {A : Type 0} (xs : List (Arc Standing A)) (i : ℕ) (x : Arc Standing A) → i < length xs → x ≡ get_or xs i x → Contains (standings xs) (arc_value x)
-segment_at [] i x lt is = absurd (omega (arith, lt))
-segment_at (y ∷ ys) zero x lt is = (0, omega arith, ap arc_value (sym is))
-segment_at (y ∷ ys) (suc i) x lt is = let later = segment_at ys i x (omega (arith, lt)) is in (suc later.0, (let l = later.1 in omega (arith, l)), later.2)
 
 -- ---- what is found in a dataset
 
@@ -124,3 +123,11 @@ pub all_at : (P : Open → Type 0) (xs : List Open) (i : ℕ) (x : Open) → All
 all_at P [] i x all at = absurd cc
 all_at P (y ∷ ys) zero x all at = subst P (some_is y x at) (All-head P y ys all)
 all_at P (y ∷ ys) (suc i) x all at = all_at P ys i x (All-tail P y ys all) at
+
+-- a damage that a look meets in an open dataset stands in its folder
+pub damage_stands : (v : Contents) (o : Open) (key : List ℕ) (d : Damage) → AreListed v o → IsDamaged o.shown key d → Stands o.name v (BadFile d)
+damage_stands v o key d l (s, there, stands) =
+    let has = contains_mapped (λ (x : Standing). x.files) o.shown s there in
+    let e = contains_of (files_of v.files) l.entries s.files (subst (λ fs. Contains fs s.files) l.files has) in
+    let moved : StandsIn (files_of v.files e.0) key d = subst (λ f. StandsIn f key d) (sym e.2) stands in
+    (l.table, l.entries, l.table_is, l.lists, inr (e.0, e.1, elim moved as (λ _. IsBadIndex e.0 (v.files (index_file e.0)) d ⊎ ((k : List ℕ) × IsFindDamage e.0 (v.files (index_file e.0)) k d)) [ inl bad ↦ inl bad | inr beyond ↦ inr (key, beyond) ]))

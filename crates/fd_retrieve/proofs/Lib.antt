@@ -2,11 +2,13 @@ pub mod Staying
 pub mod TableLemmas
 pub mod OpenLemmas
 pub mod DatasetLemmas
+pub mod DamageLemmas
 pub mod ReadyLemmas
 pub mod RequestLemmas
 pub mod AnsweringLemmas
 pub mod LocatingLemmas
 pub mod CopiedLemmas
 pub mod PrepareLemmas
+pub mod CountingLemmas
 pub mod RetrieveExits
 pub mod StopExits

@@ -1,5 +1,5 @@
 -- A request that is prepared: what each step says of the store as it was at first.
-use Rattle.std.proofs.Common.{◌≡◌, ◌⊎◌, ◌∙◌, ◌≤◌, ◌<◌, ◌+◌, ◌||◌, ℕ, zero, suc, Bool, true, false, List, [], ◌∷◌, ◌++◌, length, map, take, drop, filter, get_or, All, IfSome, Option, Some, None, refl, sym, ap, subst, inl, inr, arith}
+use Rattle.std.proofs.Common.{◌≡◌, ◌∙◌, ◌≤◌, ◌<◌, ◌+◌, ◌||◌, ℕ, zero, suc, Bool, true, false, List, [], ◌∷◌, ◌++◌, length, map, take, drop, filter, get_or, All, IfSome, Option, Some, None, refl, sym, ap, subst, inl, inr, arith}
 use Rattle.std.specs.Prelude.{Contains, Result, Ok, Err, String, string_bytes}
 use Rattle.std.specs.declared.alloc.Global.{Global}
 use Rattle.fd_schema.specs.Seen.{texts}
@@ -8,19 +8,16 @@ use Rattle.std.proofs.lemmas.List.{length-map}
 use Rattle.std.proofs.Math.Seq.{take-suc}
 use Rattle.std.proofs.lemmas.List.Elements.{All-nil, All-cons, All-head, All-tail}
 use Rattle.fd_disk.specs.Folders.{Holdings, WhereTold, folder_at}
-use Rattle.fd_schema.specs.Grammar as schemas
-use Rattle.fd_schema.specs.Reading.{IsFirst, seen_place}
 use Rattle.fd_schema.specs.Rules.{Rule}
 use Rattle.fd_schema.specs.declared.place.Place.{Place}
 use Rattle.fd_request.specs.Expansion.{Keyword, expand}
-use Rattle.fd_outcome.specs.Asking.{Asked, answers, asked_of, count_distinct, datasets_of, is_among, placed, request_in, rules_of, within_datasets, ◌then◌}
-use Rattle.fd_outcome.specs.Causes.{Cause, InStored, SchemaMissing}
+use Rattle.fd_outcome.specs.Asking.{Asked, asked_of, count_distinct, datasets_of, is_among, placed, request_in, rules_of, within_datasets, ◌then◌}
+use Rattle.fd_outcome.specs.Causes.{Cause, SchemaMissing}
 use Rattle.fd_outcome.specs.Ends.{AmongAsked}
-use Rattle.fd_outcome.specs.Store.{Stands, Stays, has_table, table_at}
+use Rattle.fd_outcome.specs.Store.{Stays, has_table, table_at}
 use Rattle.fd_retrieve.specs.declared.stop.Stop.{Stop}
 use Rattle.fd_retrieve.specs.declared.stop.Stop.TheVariants as stops
-use Rattle.fd_retrieve.specs.Finding.{asked_of_all}
-use Rattle.fd_retrieve.specs.Open.{IsOpenIn, Open, names_of, table_in}
+use Rattle.fd_retrieve.specs.Open.{IsOpenIn, Open, table_in}
 use Rattle.fd_retrieve.specs.Ready.{AreOpen, IsBrokenOf, IsReady, MayOpen, asked_at, placed_of}
 use Rattle.fd_retrieve.specs.Stops.{IsOfRequest, LacksRule, NotRefused, OnRequest, OnTooMany, Says, seen_broken}
 use Rattle.fd_retrieve.specs.Tables.{AreTables, MayAdd, datasets_in}
@@ -271,7 +268,7 @@ broken_told_says stop None left ks ps names long is tables few b = tt
 broken_told_says stop (Some h) None ks ps names long is tables few b = tt
 broken_told_says stop (Some h) (Some octets) ks ps names long is tables few b = broken_says h octets ks ps long is names tables few stop b
 
-opens_in : (h i : Holdings) (names : List (List ℕ)) (os : List Open) → Stays h i → AreOpen i names os → AreOpen h names os
+pub opens_in : (h i : Holdings) (names : List (List ℕ)) (os : List Open) → Stays h i → AreOpen i names os → AreOpen h names os
 opens_in h i names os stays opens = record {
   each = each os opens.each;
   from = opens.from;

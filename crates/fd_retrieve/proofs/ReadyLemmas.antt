@@ -1,9 +1,8 @@
 -- The datasets of a request's places, and what they answer.
-use Rattle.std.proofs.Common.{◌≡◌, ◌⊎◌, ◌∙◌, ◌≤◌, ◌<◌, ◌+◌, ◌||◌, ℕ, zero, suc, Bool, true, false, List, [], ◌∷◌, ◌++◌, length, map, filter, All, IfSome, Option, Some, None, refl, sym, ap, subst, inl, inr, arith, if◌then◌else◌}
+use Rattle.std.proofs.Common.{◌≡◌, ◌⊎◌, ◌∙◌, ◌≤◌, ◌<◌, ◌||◌, ℕ, suc, Bool, true, false, List, [], ◌∷◌, ◌++◌, length, map, filter, All, IfSome, Option, Some, None, refl, sym, ap, subst, inl, inr, arith, if◌then◌else◌}
 use mathlib.Core.List.{map-append}
 use Rattle.std.specs.Prelude.{Contains, Result, Ok, Err, slice_get, option_map, is_some, nat_lt}
 use Rattle.std.specs.Str.{bytes_eq}
-use Rattle.std.specs.List.{list_any}
 use Rattle.std.proofs.lemmas.Slice.Eq.{bytes_eq-Decides}
 use Rattle.std.proofs.lemmas.Bool.Decides.{nat_tests}
 use Rattle.std.proofs.lemmas.List.Folds.{list_any-append}
@@ -32,7 +31,7 @@ use Rattle.fd_retrieve.specs.Stops.{LacksPlace, LacksRule, seen_broken}
 use Rattle.fd_retrieve.proofs.AnsweringLemmas.{there_is}
 use Rattle.fd_retrieve.specs.Finding.{asked_of_all}
 use Rattle.fd_retrieve.specs.Open.{IsOpenIn, Open, StandsAsSaid, names_of, table_in, table_of}
-use Rattle.fd_retrieve.specs.Ready.{AreOpen, IsBrokenAs, IsBrokenOf, IsReady, IsUnopened, MayOpen, asked_at, placed_of}
+use Rattle.fd_retrieve.specs.Ready.{AreOpen, IsBrokenAs, IsBrokenOf, IsUnopened, MayOpen, placed_of}
 use Rattle.fd_retrieve.specs.Tables.{AreTables, datasets_in}
 
 -- ---- the places of keys

@@ -1,14 +1,13 @@
 -- The request that an input is.
-use Rattle.std.proofs.Common.{◌≡◌, ◌∙◌, ◌<◌, ◌≤◌, ℕ, zero, suc, Bool, true, false, List, [], ◌∷◌, ◌++◌, length, take, Option, Some, None, IfSome, refl, sym, ap, subst, inl, inr, append-nil, arith}
+use Rattle.std.proofs.Common.{◌≡◌, ◌∙◌, ◌<◌, ◌≤◌, ℕ, zero, suc, Bool, true, false, List, [], ◌∷◌, ◌++◌, length, take, Option, Some, None, IfSome, refl, ap, subst, inl, inr, append-nil, arith}
 use Rattle.std.specs.Prelude.{◌⊎◌, Result, Ok, Err, nat_lt, codes, if◌then◌else◌}
-use Rattle.std.proofs.lemmas.List.{length-append}
 use Rattle.std.proofs.lemmas.Bool.Decides.{nat_tests}
 use Rattle.fd_io.specs.Streams.{Gives}
 use Rattle.fd_request.specs.Expansion.{Keyword}
 use Rattle.fd_request.specs.Grammar.{Fault, TooLong, keywords_of, ◌>>=◌}
 use Rattle.fd_request.specs.Limits.{request_of, too_long, within_limits, within_size}
 use Rattle.fd_outcome.specs.Asking.{in_request, request_in}
-use Rattle.fd_outcome.specs.Causes.{Cause, InRequest}
+use Rattle.fd_outcome.specs.Causes.{InRequest}
 
 take_all : (xs : List ℕ) (n : ℕ) → length xs ≤ n → take n xs ≡ xs
 take_all [] zero le = refl

@@ -1,48 +1,35 @@
 -- The exits of `retrieve`.
-use Rattle.std.proofs.Common.{◌≡◌, ◌∙◌, ◌≤◌, ℕ, zero, suc, Bool, true, false, List, [], ◌∷◌, ◌++◌, length, take, Option, Some, None, refl, sym, ap, subst, inl, inr, append-nil, arith}
-use Rattle.std.specs.Prelude.{◌⊎◌, IfSome, option_map, nat_lt, Result, Ok, Err, codes, if◌then◌else◌}
-use Rattle.std.specs.Fmt.{decimal}
+use Rattle.std.proofs.Common.{◌≡◌, ◌∙◌, ◌≤◌, ℕ, Bool, true, false, List, [], ◌∷◌, ◌++◌, length, take, Option, Some, None, refl, sym, ap, subst, inl, inr, append-nil, arith}
+use Rattle.std.specs.Prelude.{◌⊎◌, IfSome, option_map, nat_lt, if◌then◌else◌}
 use Rattle.fd_bytes.specs.Causes.{Rose}
-use Rattle.fd_io.specs.Streams.{Takes, TakesFront}
+use Rattle.fd_io.specs.Streams.{Takes}
 use Rattle.fd_disk.specs.Folders.{Holdings, WhereTold}
-use Rattle.fd_listing.specs.Lines.{line}
-use Rattle.fd_words.specs.declared.command.Command.{Command}
 use Rattle.fd_words.specs.declared.command.Command.TheVariants.{Retrieve}
 use Rattle.fd_outcome.specs.declared.status.Status.{Status}
 use Rattle.fd_outcome.specs.declared.status.Status.TheVariants.{Done, Missed, Words, Refused, InputFault, OutputFault, DiskFault, NoMemory, Damaged, Limit}
-use Rattle.fd_outcome.specs.Asking.{Answer, Asked, answers, asked_of, count_found, count_missed, counts_line, found_bytes, miss_lines}
-use Rattle.fd_outcome.specs.Causes.{Cause}
-use Rattle.fd_outcome.specs.Ends.{AreCalm, Calm, Ends, Fails, Troubles, disk_failed, input_failed, no_memory, output_failed, troubles}
+use Rattle.fd_outcome.specs.Asking.{Answer, Asked, answers, count_found, count_missed, counts_line, found_bytes, miss_lines}
+use Rattle.fd_outcome.specs.Ends.{Calm, Ends, Troubles, disk_failed, no_memory, output_failed, troubles}
 use Rattle.fd_outcome.specs.Objects.{Failed, Failures, IsCalm, Object, failures, object}
 use Rattle.fd_outcome.specs.Outcome.{answered, answered_early, early, nothing_early, outcome, retrieved, retrieved_early}
 use Rattle.fd_outcome.specs.Ran.{Ran}
-use Rattle.fd_outcome.specs.Store.{AreNames, Stays, table_at}
+use Rattle.fd_outcome.specs.Store.{AreNames, Stays}
 use Rattle.fd_outcome.specs.Told.{Told, ToldOrNoMemory}
-use Rattle.fd_outcome.proofs.Endings.{Begun, CanStop, CanTell, Reached, ends_early, ends_on_the_way, ends_told, ends_unwritten, nothing_of, takes_both, takes_nothing}
-use Rattle.fd_outcome.proofs.Exits.{Either, apart, either_of, is_disk_fault, is_input_fault, is_output_fault, is_whole, is_words, neither, rose_of}
-use Rattle.fd_key.specs.Pairs as keys
+use Rattle.fd_outcome.proofs.Endings.{CanStop, CanTell, Reached, ends_early, ends_on_the_way, ends_told, ends_unwritten, nothing_of, takes_both}
+use Rattle.fd_outcome.proofs.Exits.{apart, either_of, is_disk_fault, is_input_fault, is_output_fault, is_whole, is_words, neither, rose_of}
 use Rattle.fd_schema.specs.declared.place.Place.{Place}
-use Rattle.fd_schema.specs.Reading.{seen_place}
 use Rattle.fd_request.specs.Expansion.{Keyword, expand}
 use Rattle.fd_retrieve.specs.Finding.{IsAnswered, IsAnsweredInPart, TookSome}
 use Rattle.fd_retrieve.specs.Open.{Open, table_in}
 use Rattle.fd_retrieve.specs.Ready.{Begins, IsReady, asked_at}
 use Rattle.std.specs.Prelude.{Contains, slice_get}
-use Rattle.fd_disk.specs.Folders.{Contents, folder_at}
-use Rattle.fd_segment.specs.Causes.{IsBadIndex, IsFindDamage}
-use Rattle.fd_segment.specs.Held.{Standing}
+use Rattle.fd_disk.specs.Folders.{folder_at}
 use Rattle.fd_segment.specs.declared.fault.Damage.{Damage}
-use Rattle.fd_recovery.specs.Damages.{index_file}
-use Rattle.fd_recovery.specs.Recovered.{files_of}
-use Rattle.fd_retriever.specs.Answers.{StandsIn}
-use Rattle.fd_outcome.specs.Asking.{datasets_of}
 use Rattle.fd_outcome.specs.Causes.{BadFile, damaged_line}
 use Rattle.fd_outcome.specs.Ends.{AmongAsked}
-use Rattle.fd_outcome.specs.Store.{Stands}
-use Rattle.fd_retrieve.specs.Open.{AreListed, IsDamaged, IsOpenIn}
+use Rattle.fd_retrieve.specs.Open.{IsDamaged, IsDamagedAt, IsOpenIn}
 use Rattle.fd_retrieve.specs.Tables.{datasets_in}
-use Rattle.fd_retrieve.specs.Telling.{ToldDamage, counts_status, counts_text}
-use Rattle.fd_retrieve.proofs.DatasetLemmas.{all_at, among_named, contains_mapped, contains_of}
+use Rattle.fd_retrieve.specs.Telling.{counts_status, counts_text}
+use Rattle.fd_retrieve.proofs.DatasetLemmas.{all_at, among_named, damage_stands}
 use Rattle.fd_retrieve.proofs.ReadyLemmas.{contains_among, datasets_at}
 
 take_whole : {A : Type 0} (xs : List A) → take (length xs) xs ≡ xs
@@ -270,21 +257,18 @@ module _ (root : List ℕ) (workers : ℕ) (before first now : Option Holdings) 
 
   -- ---- a damage is told
 
-  listed_at : (v : Contents) (o : Open) (key : List ℕ) (d : Damage) → AreListed v o → IsDamaged o.segments key d → Stands o.name v (BadFile d)
-  listed_at v o key d l (s, there, stands) =
-      let has = contains_mapped (λ (x : Standing). x.files) o.segments s there in
-      let e = contains_of (files_of v.files) l.entries s.files (subst (λ fs. Contains fs s.files) l.files has) in
-      let moved : StandsIn (files_of v.files e.0) key d = subst (λ f. StandsIn f key d) (sym e.2) stands in
-      (l.table, l.entries, l.table_is, l.lists, inr (e.0, e.1, elim moved as (λ _. IsBadIndex e.0 (v.files (index_file e.0)) d ⊎ ((k : List ℕ) × IsFindDamage e.0 (v.files (index_file e.0)) k d)) [ inl bad ↦ inl bad | inr beyond ↦ inr (key, beyond) ]))
-
-  pub damaged_ran : (long : length ps ≡ length (expand ks)) (os_now : List Open) (number : ℕ) (o : Open) → os_now ≡ os → slice_get os_now number ≡ Some o → (Rose sk sn → Rose sm sn) → ToldDamage o (Rose sk sn) result mid report.now k report.faults_now → Part → TookSome report.before mid → Out
-  damaged_ran long os_now number o os_is at rises told part some = elim told as (λ _. Out) [
-    | inl x ↦ stands x.0 x.1 x.2 x.3
-    | inr y ↦ elim y as (λ _. Out) [ inl z ↦ disk_ran z.1 (rises z.0) part some | inr z ↦ starved_ran z part some ]
+  pub damaged_ran : (long : length ps ≡ length (expand ks)) (os_now : List Open) (number : ℕ) (o : Open) (d : Damage) → os_now ≡ os → slice_get os_now number ≡ Some o → IsDamagedAt os_now number d
+      → ToldOrNoMemory Damaged (damaged_line o.name (BadFile d)) result mid report.now k report.faults_now → Part → TookSome report.before mid → Out
+  damaged_ran long os_now number o d os_is at bad told part some = elim told as (λ _. Out) [
+    | inl t ↦ stands t
+    | inr t ↦ starved_ran t part some
   ]
     where
-      stands : (key : List ℕ) (d : Damage) → IsDamaged o.segments key d → Told Damaged (damaged_line o.name (BadFile d)) result mid report.now k report.faults_now → Out
-      stands key d bad t =
+      one : bad.dataset ≡ o
+      one = cc (bad.at, at)
+
+      stands : Told Damaged (damaged_line o.name (BadFile d)) result mid report.now k report.faults_now → Out
+      stands t =
           let inside = subst (λ l. slice_get l number ≡ Some o) os_is at in
           halt_ran Damaged (damaged_line o.name (BadFile d)) t refl refl refl refl (λ e. absurd (apart is_disk_fault Damaged DiskFault refl refl e)) tt
           (λ octets h i names e f.
@@ -293,7 +277,7 @@ module _ (root : List ℕ) (workers : ℕ) (before first now : Option Holdings) 
             o.name,
             BadFile d,
             subst (λ q. AmongAsked q o.name) (sym r.asked) (subst (λ ds. Contains ds o.name) (sym (datasets_at (expand ks) ps long)) (contains_among (datasets_in ps) o.name (r.among o.name (among_named os number o inside)))),
-            listed_at (folder_at h o.name) o key d open_.listed bad,
+            damage_stands (folder_at h o.name) o bad.key d open_.listed (subst (λ (x : Open). IsDamaged x.shown bad.key d) one bad.stands),
             refl,
           ))
           part some

@@ -1,6 +1,6 @@
 -- A store that stays as it was while folders are handed out and come back.
-use Rattle.std.proofs.Common.{◌≡◌, ◌≢◌, ◌⊎◌, ◌∙◌, ℕ, Bool, true, false, List, [], ◌∷◌, ◌++◌, map, Option, Some, None, IfSome, refl, sym, ap, subst, inl, inr, arith, unwrap_or}
-use Rattle.std.specs.Prelude.{is_some, option_map, Contains, IsSome, flat_map, Result, Ok, Err}
+use Rattle.std.proofs.Common.{◌≡◌, ◌≢◌, ◌⊎◌, ◌∙◌, ℕ, Bool, true, false, List, [], ◌∷◌, ◌++◌, map, Option, Some, None, IfSome, refl, sym, ap, subst, inl, inr, unwrap_or}
+use Rattle.std.specs.Prelude.{is_some, option_map, Contains, IsSome, Result, Ok, Err}
 use Rattle.std.specs.Str.{bytes_eq}
 use Rattle.std.proofs.lemmas.Slice.Eq.{bytes_eq-Decides}
 use Rattle.fd_disk.specs.declared.file.File.{File}
@@ -8,7 +8,6 @@ use Rattle.fd_disk.specs.declared.folders.FileName.{FileName}
 use Rattle.fd_disk.specs.Folders.{Contents, Holdings, SameBut, WhereTold, folder_at, no_contents, with_table, without_table}
 use Rattle.fd_disk.specs.Images.{synced}
 use Rattle.fd_disk.proofs.NameLemmas.{is_or_not}
-use Rattle.fd_core.specs.declared.batch.Pair.{Pair}
 use Rattle.fd_core.specs.declared.table.Entry.{Entry}
 use Rattle.fd_core.specs.declared.table.NotATable.{NotATable}
 use Rattle.fd_core.specs.Table.{listed}
@@ -21,7 +20,7 @@ use Rattle.fd_recovery.specs.declared.fault.OpenFault.{OpenFault}
 use Rattle.fd_recovery.specs.declared.fault.OpenFault.TheVariants as faults
 use Rattle.fd_outcome.specs.Causes.{Broken, BadFile, BadTable}
 use Rattle.fd_outcome.specs.Store.{Stands, StandsIn, StaysFolder, Stays, has_table, table_at}
-use Rattle.fd_retrieve.specs.Open.{AreListed, IsOpenIn, IsOpenOf, Open, StandsAsSaid, table_of}
+use Rattle.fd_retrieve.specs.Open.{IsOpenIn, Open, StandsAsSaid}
 
 pub some_is : {A : Type 0} (x y : A) → (let o : Option A = Some x in o ≡ Some y) → x ≡ y
 some_is x y e = cc

@@ -1,6 +1,6 @@
 -- The exits of `retrieve` before the first key is answered.
-use Rattle.std.proofs.Common.{◌≡◌, ◌∙◌, ◌≤◌, ℕ, Bool, true, false, List, [], ◌∷◌, ◌++◌, Option, Some, None, refl, sym, ap, subst, inl, inr, string_bytes}
-use Rattle.std.specs.Prelude.{◌⊎◌, IfSome, Result, Ok, Err, codes}
+use Rattle.std.proofs.Common.{◌≡◌, ◌≤◌, ℕ, false, List, [], ◌++◌, Option, Some, refl, sym, subst, inl, inr, string_bytes}
+use Rattle.std.specs.Prelude.{◌⊎◌, IfSome, Err, codes}
 use Rattle.fd_bytes.specs.Causes.{Rose}
 use Rattle.fd_disk.specs.Folders.{Holdings, WhereTold, folder_at}
 use Rattle.fd_listing.specs.Lines.{line}
@@ -11,22 +11,22 @@ use Rattle.fd_schema.specs.declared.fault.SchemaKind.{SchemaKind}
 use Rattle.fd_words.specs.declared.command.Command.TheVariants.{Retrieve}
 use Rattle.fd_outcome.specs.declared.status.Status.{Status}
 use Rattle.fd_outcome.specs.declared.status.Status.TheVariants.{Done, Missed, Refused, InputFault, DiskFault, NoMemory, Damaged, Limit}
-use Rattle.fd_outcome.specs.Asking.{Asked, asked_of}
+use Rattle.fd_outcome.specs.Asking.{asked_of}
 use Rattle.fd_outcome.specs.Causes.{Cause, damaged_line, telling}
 use Rattle.fd_outcome.specs.Causes as causes
 use Rattle.fd_outcome.specs.Ends.{AmongAsked, Calm, Ends, disk_failed, input_failed, no_memory, troubles}
 use Rattle.fd_outcome.specs.Objects.{Failed, Failures, IsCalm, Object, failures, object}
-use Rattle.fd_outcome.specs.Outcome.{Outcome, early, outcome, refused, retrieved, retrieved_early}
+use Rattle.fd_outcome.specs.Outcome.{Outcome, early, outcome, refused, retrieved}
 use Rattle.fd_outcome.specs.Ran.{Ran}
 use Rattle.fd_outcome.specs.Store.{Stands, Stays}
 use Rattle.fd_outcome.specs.Told.{Told, ToldOrNoMemory}
-use Rattle.fd_outcome.proofs.Endings.{CanStop, CanTell, ends_early, ends_told, reached_nothing, takes_nothing}
+use Rattle.fd_outcome.proofs.Endings.{CanStop, ends_early, ends_told, reached_nothing, takes_nothing}
 use Rattle.fd_outcome.proofs.Exits.{apart, by_cause, cause_calm, cause_not_whole, cause_told, is_disk_fault, is_input_fault, is_output_fault, is_whole, is_words, never_whole}
 use Rattle.fd_outcome.proofs.Starved.{within}
 use Rattle.fd_retrieve.specs.declared.stop.Stop.{Stop}
 use Rattle.fd_retrieve.specs.declared.stop.Stop.TheVariants as stops
 use Rattle.fd_retrieve.specs.Stops.{OnDisk, OnInput, OnRefusal, Says, ToldSome, ToldStop, seen_broken}
-use Rattle.fd_retrieve.proofs.RetrieveExits.{ran_of, rose_later, told_of}
+use Rattle.fd_retrieve.proofs.RetrieveExits.{rose_later, told_of}
 
 module _ (root : List ℕ) (workers : ℕ) (before now : Option Holdings) (sm sn : ℕ) (input : Object (List ℕ)) (a : Option (List ℕ)) (k : ℕ) (report : Object (List ℕ)) (result : Status) (stays : WhereTold before now Stays) where
   abbrev pub Out : Type 0

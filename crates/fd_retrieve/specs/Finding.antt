@@ -3,6 +3,7 @@ use Rattle.std.specs.Prelude.{◌≡◌, ℕ, Bool, true, false, is_some, List, 
 use Rattle.fd_io.specs.Streams.{Takes, TakesFront}
 use Rattle.fd_key.specs.Pairs as keys
 use Rattle.fd_schema.specs.Rules.{Texts}
+use Rattle.fd_segment.specs.declared.fault.Damage.{Damage}
 use Rattle.fd_retrieve.specs.declared.answering.Halt.{Halt}
 use Rattle.fd_retrieve.specs.declared.answering.Halt.TheVariants as halts
 use Rattle.fd_outcome.specs.Asking.{Asked, Answer, bytes_or_none, miss_line, found_bytes, miss_lines, count_found, count_missed}
@@ -13,15 +14,15 @@ module _ {F X : Type 0} where
   OnUnwritten (halts.Disk f) P Q = Unit {0}
   OnUnwritten (halts.Unwritten x) P Q = P
   OnUnwritten (halts.Untold x) P Q = Q
-  OnUnwritten (halts.Damaged n) P Q = Unit {0}
+  OnUnwritten (halts.Damaged n d) P Q = Unit {0}
   OnUnwritten halts.NoMemory P Q = Unit {0}
 
-  -- what holds of the number of the dataset that is damaged
-  abbrev pub OnDamaged : Halt F X → (ℕ → Type 0) → Type 0
+  -- what holds of the number of the dataset that is damaged, and of the damage
+  abbrev pub OnDamaged : Halt F X → (ℕ → Damage → Type 0) → Type 0
   OnDamaged (halts.Disk f) P = Unit {0}
   OnDamaged (halts.Unwritten x) P = Unit {0}
   OnDamaged (halts.Untold x) P = Unit {0}
-  OnDamaged (halts.Damaged n) P = P n
+  OnDamaged (halts.Damaged n d) P = P n d
   OnDamaged halts.NoMemory P = Unit {0}
 
 -- some bytes were taken, where told

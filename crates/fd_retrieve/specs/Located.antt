@@ -3,6 +3,7 @@ use Rattle.std.specs.Prelude.{◌≡◌, ◌<◌, ◌≤◌, ℕ, List, length, 
 use Rattle.fd_core.specs.declared.batch.Pair.{Pair}
 use Rattle.fd_core.specs.Batches.{newest}
 use Rattle.fd_schema.specs.declared.place.Place.{Place}
+use Rattle.fd_segment.specs.declared.fault.Damage.{Damage}
 use Rattle.fd_schema.specs.Rules.{Texts, file_key}
 use Rattle.fd_schema.specs.Reading.{seen_place}
 use Rattle.fd_finding.specs.declared.spot.Spot.{Spot}
@@ -77,8 +78,8 @@ pub record AreLocatedBy (os : List Open) (places : List Place) (numbers : List (
       → IsLocatedBy os count (seen_place (slice_index_or places k p)) (slice_index_or numbers k d) (slice_index_or located k e)
 
 module _ {F : Type 0} where
-  -- what holds of the number of the dataset that is damaged
-  abbrev pub OnLost : Lost F → (ℕ → Type 0) → Type 0
+  -- what holds of the number of the dataset that is damaged, and of the damage
+  abbrev pub OnLost : Lost F → (ℕ → Damage → Type 0) → Type 0
   OnLost (losses.Disk f) P = Unit {0}
-  OnLost (losses.Damaged n) P = P n
+  OnLost (losses.Damaged n d) P = P n d
   OnLost losses.NoMemory P = Unit {0}

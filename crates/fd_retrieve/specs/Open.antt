@@ -1,5 +1,5 @@
 -- A dataset that was opened, and what it says of the store.
-use Rattle.std.specs.Prelude.{◌≡◌, ℕ, List, [], ◌∷◌, map, Option, Some, None, Ok, Contains, slice_get, if◌then◌else◌}
+use Rattle.std.specs.Prelude.{◌≡◌, ◌<◌, length, ℕ, List, [], ◌∷◌, map, Option, Some, Ok, Contains, slice_get, if◌then◌else◌}
 use Rattle.std.specs.Str.{bytes_eq}
 use Rattle.fd_disk.specs.declared.file.File.{File}
 use Rattle.fd_disk.specs.Folders.{Contents, Holdings, folder_at}
@@ -16,13 +16,12 @@ use Rattle.fd_recovery.specs.Recovered.{all_of, files_of, held}
 use Rattle.fd_outcome.specs.Causes.{BadFile, BadTable}
 use Rattle.fd_outcome.specs.Store.{Stands}
 
--- the dataset's text, what a snapshot shows, and the segments of the table's entries
+-- the dataset's text, and the segments of the table's entries
 pub record Open : Type 0 where
   pub name : List ℕ
   pub shown : List Standing
-  pub segments : List Standing
 
--- the batches that the snapshot's segments stand for, where each stands for one
+-- the batches that the segments stand for, where each stands for one
 abbrev pub table_of : Open → Option (List (List Pair))
 table_of o = all_of (map (λ l. l.batch) (map listing o.shown))
 
@@ -42,13 +41,21 @@ IsFirstNamed os name n = (o : Open) × (slice_get os n ≡ Some o) × (o.name �
 abbrev pub IsDamaged : List Standing → List ℕ → Damage → Type 0
 IsDamaged ss key d = (s : Standing) × Contains ss s × StandsIn s.files key d
 
+-- the same of the dataset with this number
+pub record IsDamagedAt (os : List Open) (n : ℕ) (d : Damage) : Type 0 where
+  pub inside : n < length os
+  pub dataset : Open
+  pub at : slice_get os n ≡ Some dataset
+  pub key : List ℕ
+  pub stands : IsDamaged dataset.shown key d
+
 -- the segments are those of the entries that the table lists, with the files that the folder has
 pub record AreListed (v : Contents) (o : Open) : Type 0 where
   pub table : File
   pub entries : List Entry
   pub table_is : v.table ≡ Some table
   pub lists : listed o.name table.reads ≡ Ok entries
-  pub files : map (λ s. s.files) o.segments ≡ map (files_of v.files) entries
+  pub files : map (λ s. s.files) o.shown ≡ map (files_of v.files) entries
 
 -- The dataset was opened as its folder has it.
 pub record IsOpenOf (v : Contents) (o : Open) : Type 0 where

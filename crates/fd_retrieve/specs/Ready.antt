@@ -1,5 +1,5 @@
 -- What stands ready for the answer of a request.
-use Rattle.std.specs.Prelude.{◌≡◌, ◌⊎◌, ◌≤◌, ℕ, IfSome, true, false, List, [], ◌∷◌, ◌++◌, length, map, All, Option, Some, Result, Ok, Err, string_bytes}
+use Rattle.std.specs.Prelude.{◌≡◌, ◌⊎◌, ◌≤◌, ℕ, IfSome, true, false, List, [], ◌∷◌, ◌++◌, map, All, Option, Some, Result, Ok, string_bytes}
 use Rattle.fd_disk.specs.Folders.{Holdings, WhereTold, folder_at}
 use Rattle.fd_schema.specs.declared.place.Place.{Place}
 use Rattle.fd_schema.specs.Reading.{seen_place}

@@ -1,5 +1,5 @@
 -- What the causes of a request that isn't answered say.
-use Rattle.std.specs.Prelude.{◌≡◌, ◌⊎◌, ◌++◌, ℕ, List, codes, Option, Some, None, Result, Ok, Err, string_bytes}
+use Rattle.std.specs.Prelude.{◌≡◌, ◌⊎◌, ◌++◌, ℕ, List, codes, Option, None, Result, Err, string_bytes}
 use Rattle.fd_disk.specs.Folders.{Holdings, folder_at}
 use Rattle.fd_key.specs.Pairs.{Pair, key_text}
 use Rattle.fd_schema.specs.Grammar as schemas

@@ -1,6 +1,5 @@
 -- The datasets that have tables.
-use Rattle.std.specs.Prelude.{◌≡◌, ◌⊎◌, ℕ, true, false, List, [], ◌∷◌, ◌++◌, filter, length, map, string_bytes}
-use Rattle.fd_schema.specs.Seen.{texts}
+use Rattle.std.specs.Prelude.{◌≡◌, ◌⊎◌, ℕ, true, false, List, [], ◌∷◌, ◌++◌, filter, length, map}
 use Rattle.fd_disk.specs.Folders.{Holdings}
 use Rattle.fd_schema.specs.declared.place.Place.{Place}
 use Rattle.fd_schema.specs.Reading.{seen_place}

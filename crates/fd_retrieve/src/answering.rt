@@ -12,7 +12,7 @@ ghost use Rattle.fd_core.specs.declared.batch.Pair.{Pair};
 ghost use Rattle.fd_core.specs.Batches.{newest};
 ghost use Rattle.fd_schema.specs.Rules.{Texts, file_key};
 ghost use Rattle.fd_schema.specs.declared.place.Place.{Place};
-ghost use Rattle.fd_retrieve.specs.Open.{table_in};
+ghost use Rattle.fd_retrieve.specs.Open.{IsDamagedAt, table_in};
 ghost use Rattle.fd_retrieve.specs.Located.{AreLocated, IsIn, IsLocated};
 ghost use Rattle.fd_retrieve.specs.Finding.{IsAnswered, IsAnsweredInPart, IsOne, IsOneInPart, OnDamaged, OnUnwritten, TookSome, asked_of_all, one_if};
 
@@ -22,6 +22,7 @@ use fd_disk::Sealed;
 use fd_io::{Sink, write_all};
 use fd_request::Request;
 use fd_retriever::{FetchFault, Got};
+use fd_segment::Damage;
 use std::alloc::Global;
 
 /// Why an answer ended early.
@@ -33,8 +34,8 @@ pub(crate) enum Halt<F, X> {
     Unwritten(X),
     /// A write of the report failed.
     Untold(X),
-    /// A file of the dataset with this number is damaged.
-    Damaged(usize),
+    /// This is damaged in the dataset with this number.
+    Damaged(usize, Damage),
     /// An allocation was refused.
     NoMemory,
 }
@@ -51,7 +52,7 @@ fn tell_miss<F: Send, X, E: Sink<X>>(
     ensures front { IfErr result (λ e. (key : List keys.Pair) → slice_get (expand request.now) number ≡ Some key → TakesFront (E.taken report.old) (E.taken report.new) (line (codes "miss " ++ key_text key))) }
     ensures count { E.faults report.old ≤ E.faults report.new }
     ensures cause { IfErr result (λ e. OnUnwritten e ⊥ (Rose (E.faults report.old) (E.faults report.new))) }
-    ensures whole { IfErr result (λ e. OnDamaged e (λ n. ⊥)) }
+    ensures whole { IfErr result (λ e. OnDamaged e (λ n d. ⊥)) }
     ensures grew { TookSome (E.taken report.old) (E.taken report.new) }
 {
     let Ok(key) = request.key(alloc, number) else {
@@ -69,15 +70,16 @@ fn tell_miss<F: Send, X, E: Sink<X>>(
     }
 }
 
-/// Where a damage was met: in the dataset of what was located.
-fn damaged_at<F, X>(located: Option<Located>) -> Halt<F, X>
-    ensures damaged { OnDamaged result (λ n. (l : Located) × (located ≡ Some l) × (n ≡ l.number)) }
+/// A damage, with where it was met: in the dataset of what was located.
+fn damaged_at<F, X>(located: Option<Located>, damage: Damage) -> Halt<F, X>
+    requires { (l : Located) × (located ≡ Some l) }
+    ensures damaged { OnDamaged result (λ n d. (l : Located) × (located ≡ Some l) × (n ≡ l.number) × (d ≡ damage)) }
     ensures cause { OnUnwritten result ⊥ ⊥ }
 {
-    match located {
-        Some(located) => Halt::Damaged(located.number),
-        None => Halt::NoMemory,
-    }
+    let Some(located) = located else {
+        unreachable!()
+    };
+    Halt::Damaged(located.number, damage)
 }
 
 /// Writes what is found for a key of a request, where it is located, or tells on the report that it isn't there, and tells
@@ -103,7 +105,7 @@ where
     ensures calm { OnOk result (K.faults output.new ≡ K.faults output.old) }
     ensures report { E.faults report.old ≤ E.faults report.new }
     ensures cause { IfErr result (λ e. OnUnwritten e (Rose (K.faults output.old) (K.faults output.new)) (Rose (E.faults report.old) (E.faults report.new))) }
-    ensures damaged { IfErr result (λ e. OnDamaged e (λ n. n < length datasets.old)) }
+    ensures damaged { IfErr result (λ e. OnDamaged e (IsDamagedAt datasets.old)) }
     ensures grew { TookSome (E.taken report.old) (E.taken report.new) }
 {
     match datasets.copy(alloc, located, output) {
@@ -114,7 +116,7 @@ where
         },
         Err(FetchFault::Disk(fault)) => Err(Halt::Disk(fault)),
         Err(FetchFault::Write(fault)) => Err(Halt::Unwritten(fault)),
-        Err(FetchFault::Damaged(_)) => Err(damaged_at(located)),
+        Err(FetchFault::Damaged(damage)) => Err(damaged_at(located, damage)),
         Err(FetchFault::NoMemory) => Err(Halt::NoMemory),
     }
 }
@@ -149,7 +151,7 @@ where
     ensures calm { OnOk result (K.faults output.new ≡ K.faults output.old) }
     ensures report { E.faults report.old ≤ E.faults report.new }
     ensures cause { IfErr result (λ e. OnUnwritten e (Rose (K.faults output.old) (K.faults output.new)) (Rose (E.faults report.old) (E.faults report.new))) }
-    ensures damaged { IfErr result (λ e. OnDamaged e (λ n. n < length datasets.old)) }
+    ensures damaged { IfErr result (λ e. OnDamaged e (IsDamagedAt datasets.old)) }
     ensures grew { TookSome (E.taken report.old) (E.taken report.new) }
 {
     let mut found = 0;

@@ -5,22 +5,19 @@ ghost use Rattle.fd_segment.specs.Held.{Standing};
 ghost use Rattle.fd_bytes.specs.Causes.{Rose};
 ghost use Rattle.fd_core.specs.Batches.{newest};
 ghost use Rattle.fd_schema.specs.Rules.{Texts, file_key};
-ghost use Rattle.fd_retriever.specs.Answers.{IsAnswer, OnWrite, StandsIn, TookFront};
+ghost use Rattle.fd_retriever.specs.Answers.{IsAnswer, OnDamaged, OnWrite, TookFront};
 ghost use Rattle.fd_retriever.specs.Kept.{AreThose};
-ghost use Rattle.fd_schema.specs.Reading.{seen_place};
 ghost use Rattle.fd_outcome.specs.Asking.{is_among};
-ghost use Rattle.fd_retrieve.specs.Open.{IsDamaged, IsFirstNamed, Open, names_of, table_in};
+ghost use Rattle.fd_retrieve.specs.Open.{IsDamagedAt, IsFirstNamed, Open, names_of, table_in};
 ghost use Rattle.fd_retrieve.specs.Located.{IsIn, IsLocated};
 
 use crate::locating::Located;
 use crate::opened::Opened;
 use fd_bytes::NoMemory;
-use fd_disk::{Down, Reader, Sealed};
+use fd_disk::Sealed;
 use fd_finding::Spot;
 use fd_io::Sink;
 use fd_retriever::{FetchFault, Got, Lenses, copy_at};
-use fd_schema::Place;
-use fd_segment::{Damage, Lens, LensFault, Segment};
 use std::alloc::Global;
 use std::marker::Model;
 
@@ -79,6 +76,7 @@ impl<F: Send, Z: Sealed<F>> Datasets<F, Z> {
         requires within { IfSome located (IsIn self.old) }
         ensures answer { IfOk result (λ got. (place : Texts) (t : List (List Pair)) → IsLocated self.old place located → table_in self.old place.dataset ≡ Some t → IsAnswer (newest t (file_key place)) (K.taken sink.old) (K.taken sink.new) got) }
         ensures err { IfErr result (λ e. (place : Texts) (t : List (List Pair)) → IsLocated self.old place located → table_in self.old place.dataset ≡ Some t → TookFront (newest t (file_key place)) (K.taken sink.old) (K.taken sink.new)) }
+        ensures damaged { IfErr result (λ e. OnDamaged e (λ d. (l : Located) × (located ≡ Some l) × IsDamagedAt self.old l.number d)) }
         ensures same { self.new ≡ self.old }
         ensures count { K.faults sink.old ≤ K.faults sink.new }
         ensures calm { OnOk result (K.faults sink.new ≡ K.faults sink.old) }
@@ -132,77 +130,4 @@ pub(crate) fn number_of<F: Send, Z: Sealed<F>>(opened: &[Opened<F, Z>], name: &s
         }
     }
     None
-}
-
-/// The damage that a look for one of the places that are in a dataset meets in its segments, from the newest on.
-pub(crate) fn damage_of<F: Send, Z: Sealed<F>>(
-    alloc: Global,
-    dataset: &Opened<F, Z>,
-    places: &[Place],
-) -> Result<Option<Damage>, Down<F>>
-where
-    ensures { IfOk result (λ o. IfSome o (λ d. (key : List ℕ) × IsDamaged dataset.now.segments key d)) }
-{
-    let segments = dataset.segments();
-    let count = segments.len();
-    for i in 0..count {
-        let segment = &segments[count - 1 - i];
-        match damage_in(alloc, segment, dataset, places) {
-            Ok(None) => {}
-            Ok(Some(damage)) => return Ok(Some(damage)),
-            Err(fault) => return Err(fault),
-        }
-    }
-    Ok(None)
-}
-
-// The damage that a look for one of the places that are in a dataset meets in one of its segments.
-fn damage_in<F: Send, Z: Sealed<F>>(
-    alloc: Global,
-    segment: &Segment<F, Z>,
-    dataset: &Opened<F, Z>,
-    places: &[Place],
-) -> Result<Option<Damage>, Down<F>>
-where
-    ensures { IfOk result (λ o. IfSome o (λ d. (key : List ℕ) × StandsIn segment.now.files key d)) }
-{
-    let mut lens = match segment.lens(alloc) {
-        Ok(lens) => lens,
-        Err(LensFault::Damaged(damage)) => return Ok(Some(damage)),
-        Err(LensFault::Fault(fault)) => return Err(Down::Fault(fault)),
-        Err(LensFault::NoMemory) => return Err(Down::NoMemory),
-    };
-    for i in 0..places.len() {
-        let place = &places[i];
-        if !dataset.is(place.dataset.as_str()) {
-            continue;
-        }
-        match damage_at(alloc, &mut lens, place) {
-            Ok(None) => {}
-            Ok(Some(damage)) => return Ok(Some(damage)),
-            Err(fault) => return Err(fault),
-        }
-    }
-    Ok(None)
-}
-
-// The damage that a look for a place's key meets in an opened segment.
-fn damage_at<F: Send, R: Reader<F>>(
-    alloc: Global,
-    lens: &mut Lens<F, R>,
-    place: &Place,
-) -> Result<Option<Damage>, Down<F>>
-where
-    ensures damage { IfOk result (λ o. IfSome o (λ d. (key : List ℕ) × StandsIn lens.old.files key d)) }
-    ensures files { lens.new.files ≡ lens.old.files }
-{
-    let Ok(key) = place.file_key(alloc) else {
-        return Err(Down::NoMemory);
-    };
-    match lens.find(alloc, &key) {
-        Ok(_) => Ok(None),
-        Err(LensFault::Damaged(damage)) => Ok(Some(damage)),
-        Err(LensFault::Fault(fault)) => Err(Down::Fault(fault)),
-        Err(LensFault::NoMemory) => Err(Down::NoMemory),
-    }
 }

@@ -3,6 +3,7 @@
 
 mod answering;
 mod asking;
+mod counting;
 mod datasets;
 mod locating;
 mod opened;
@@ -12,6 +13,7 @@ mod stop;
 mod tables;
 mod telling;
 
+pub use counting::{Counted, count_found};
 pub use opened::{Opened, open};
 pub use preparing::unopened;
 pub use retrieving::retrieve;

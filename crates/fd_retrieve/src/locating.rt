@@ -2,6 +2,7 @@
 ghost use Rattle.std.specs.Prelude.{◌≡◌, ◌≤◌, ◌<◌, ◌+◌, ◌++◌, ◌∷◌, [], ℕ, Option, Some, None, length, slice_get, slice_index_or, true, false, IfOk, IfErr, OnOk};
 ghost use Rattle.fd_schema.specs.Reading.{seen_place};
 ghost use Rattle.fd_retrieve.specs.Located.{AreLocated, AreLocatedBy, AreNumbersOf, IsFilled, IsGroup, OnLost, located_in};
+ghost use Rattle.fd_retrieve.specs.Open.{IsDamagedAt};
 
 use crate::datasets::number_of;
 use crate::opened::Opened;
@@ -10,7 +11,7 @@ use fd_disk::Sealed;
 use fd_finding::{Spot, find_all};
 use fd_io::Gate;
 use fd_schema::Place;
-use fd_segment::LensFault;
+use fd_segment::{Damage, LensFault};
 use std::alloc::Global;
 use std::sync::Wait;
 use std::thread::Threads;
@@ -28,8 +29,8 @@ pub(crate) struct Located {
 pub(crate) enum Lost<F> {
     /// A call of the store failed.
     Disk(F),
-    /// A file of the dataset with this number is damaged.
-    Damaged(usize),
+    /// This is damaged in the dataset with this number.
+    Damaged(usize, Damage),
     /// An allocation was refused.
     NoMemory,
 }
@@ -46,7 +47,7 @@ pub(crate) fn locate<F: Send + Drop, Z: Sealed<F>, G: Gate, R: Threads + Wait + 
 where
     requires workers { (1 ≤ workers) × (workers ≤ 8) }
     ensures located { IfOk result (λ v. AreLocated opened.now places.now v.items) }
-    ensures damaged { IfErr result (λ e. OnLost e (λ n. n < length opened.now)) }
+    ensures damaged { IfErr result (λ e. OnLost e (IsDamagedAt opened.now)) }
 {
     let Ok(numbers) = numbers_of(alloc, opened, places) else {
         return Err(Lost::NoMemory);
@@ -92,7 +93,7 @@ where
     requires workers { (1 ≤ workers) × (workers ≤ 8) }
     ensures located { OnOk result (AreLocatedBy opened.now places.now numbers.now number located.old → AreLocatedBy opened.now places.now numbers.now (number + 1) located.new) }
     ensures long { OnOk result (length located.new ≡ length located.old) }
-    ensures damaged { IfErr result (λ e. OnLost e (λ n. n ≡ number)) }
+    ensures damaged { IfErr result (λ e. OnLost e (IsDamagedAt opened.now)) }
 {
     let Ok((group, positions)) = group_of(alloc, places, numbers, number) else {
         return Err(Lost::NoMemory);
@@ -104,7 +105,7 @@ where
             Ok(())
         }
         Err(LensFault::Fault(fault)) => Err(Lost::Disk(fault)),
-        Err(LensFault::Damaged(_)) => Err(Lost::Damaged(number)),
+        Err(LensFault::Damaged(damage)) => Err(Lost::Damaged(number, damage)),
         Err(LensFault::NoMemory) => Err(Lost::NoMemory),
     }
 }

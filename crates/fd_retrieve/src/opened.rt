@@ -1,43 +1,39 @@
 // A dataset of the store that was opened, and given back.
-ghost use Rattle.std.specs.Prelude.{◌≡◌, ◌≤◌, List, ℕ, Option, Some, None, Ok, Err, false, is_some, map, IfOk, IfErr, IfSome, string_bytes};
+ghost use Rattle.std.specs.Prelude.{◌≡◌, ◌≤◌, List, ℕ, Option, Some, None, Ok, Err, false, is_some, length, IfOk, IfErr, IfSome, string_bytes};
 ghost use Rattle.std.specs.Str.{bytes_eq};
 ghost use Rattle.fd_disk.specs.Folders.{WhereTold, folder_at};
 ghost use Rattle.fd_core.specs.declared.table.Entry.{Entry};
 ghost use Rattle.fd_core.specs.Table.{listed};
-ghost use Rattle.fd_segment.specs.Shared.{AreOf, entries, standings};
-ghost use Rattle.fd_dataset.specs.Listed.{listing, listings};
+ghost use Rattle.fd_segment.specs.Shared.{AreOf, standings};
 ghost use Rattle.fd_recovery.specs.Causes.{NotTooMany, OnDamaged, OnNotATable};
 ghost use Rattle.fd_recovery.specs.Damages.{IsFirst, damages};
 ghost use Rattle.fd_recovery.specs.Recovered.{WithTable};
 ghost use Rattle.fd_outcome.specs.Store.{StaysFolder, Stays, has_table};
 ghost use Rattle.fd_retrieve.specs.Open.{IsOpenOf, IsOpenIn, StandsAsSaid};
 
-use fd_bytes::NoMemory;
-use fd_dataset::{Dataset, Snapshot};
+use fd_bytes::{Bytes, NoMemory};
+use fd_dataset::Snapshot;
 use fd_disk::{Disk, Down, Folder, Sealed, Store};
 use fd_recovery::{OpenFault, Recovered, recover};
 use fd_segment::Segment;
-use fd_toc::Toc;
-use std::alloc::{AllocError, Global};
+use std::alloc::Global;
 use std::marker::Model;
-use std::sync::{Arc, Wait};
+use std::sync::Arc;
 
 /// A dataset as it was when it was opened: its text, what its table listed, and the files of that.
 #[derive(Drop)]
 pub struct Opened<F: Send, Z: Sealed<F>> {
     pub(crate) name: String,
     pub(crate) snapshot: Snapshot<F, Z>,
-    pub(crate) segments: Vec<Arc<Segment<F, Z>>>,
 }
 
 impl<F: Send, Z: Sealed<F>> Model for Opened<F, Z> {
     ghost use Rattle.std.specs.Prelude.{string_bytes};
-    ghost use Rattle.fd_segment.specs.Shared.{standings};
     ghost use Rattle.fd_retrieve.specs.Open.{Open};
 
     ghost Value = { Open };
 
-    ghost view = { λ o. record { name = string_bytes o.name; shown = o.snapshot; segments = standings o.segments.items } };
+    ghost view = { λ o. record { name = string_bytes o.name; shown = o.snapshot } };
 }
 
 impl<F: Send, Z: Sealed<F>> Opened<F, Z> {
@@ -61,18 +57,10 @@ impl<F: Send, Z: Sealed<F>> Opened<F, Z> {
     {
         &self.snapshot
     }
-
-    /// The segments of what the table listed, in its order.
-    pub fn segments(&self) -> &[Arc<Segment<F, Z>>]
-        ensures { standings result.now ≡ self.now.segments }
-    {
-        &self.segments
-    }
 }
 
 /// Opens a dataset of the store, whose folder isn't out, and gives it back; `None` exactly where there is no table.
-pub fn open<F: Send, S: Store<F>, R: Wait>(
-    rt: &R,
+pub fn open<F: Send, S: Store<F>>(
     alloc: Global,
     store: &mut S,
     name: &str,
@@ -80,7 +68,6 @@ pub fn open<F: Send, S: Store<F>, R: Wait>(
 where
     requires home { (n : List ℕ) → S.out store.old n ≡ false }
     ensures opened { IfOk result (λ o. IfSome o (λ r. (r.name ≡ name.now) × IfSome (S.has store.old) (λ h. IsOpenIn h r))) }
-    ensures same { IfOk result (λ o. IfSome o (λ r. map listing r.shown ≡ map listing r.segments)) }
     ensures none { IfOk result (λ o. IfSome (S.has store.old) (λ h. is_some o ≡ has_table h name.now)) }
     ensures broken { IfErr result (λ e. IfSome (S.has store.old) (λ h. StandsAsSaid name.now (folder_at h name.now) e)) }
     ensures never { IfErr result NotTooMany }
@@ -93,14 +80,13 @@ where
         Err(Down::Fault(fault)) => return Err(OpenFault::Disk(fault)),
         Err(Down::NoMemory) => return Err(OpenFault::NoMemory),
     };
-    let answer = open_in(rt, alloc, &mut folder, name);
+    let answer = open_in(alloc, &mut folder, name);
     store.give_folder(folder);
     answer
 }
 
 /// Opens the dataset of a folder, whose table isn't out, and gives the table back.
-fn open_in<F: Send, D: Folder<F>, R: Wait>(
-    rt: &R,
+fn open_in<F: Send, D: Folder<F>>(
     alloc: Global,
     folder: &mut D,
     name: &str,
@@ -109,7 +95,6 @@ where
     requires back { D.table_out folder.old ≡ false }
     requires dataset { D.name folder.old ≡ name.now }
     ensures opened { IfOk result (λ o. IfSome o (λ r. (r.name ≡ name.now) × IfSome (D.has folder.old) (λ v. IsOpenOf v r))) }
-    ensures same { IfOk result (λ o. IfSome o (λ r. map listing r.shown ≡ map listing r.segments)) }
     ensures none { IfOk result (λ o. IfSome (D.has folder.old) (λ v. is_some o ≡ is_some v.table)) }
     ensures broken { IfErr result (λ e. IfSome (D.has folder.old) (λ v. StandsAsSaid name.now v e)) }
     ensures never { IfErr result NotTooMany }
@@ -122,86 +107,27 @@ where
         Ok(None) => return Ok(None),
         Err(fault) => return Err(fault),
     };
-    let (toc, answer) = taken_up(rt, alloc, name, toc, segments);
     folder.give_table(toc.into_table());
-    match answer {
+    match taken_up(alloc, name, segments) {
         Ok(opened) => Ok(Some(opened)),
         Err(NoMemory) => Err(OpenFault::NoMemory),
     }
 }
 
-/// What a table lists, with its segments. The table comes back and lists what it listed.
-fn taken_up<F: Send, T: Disk<F>, Z: Sealed<F>, R: Wait>(
-    rt: &R,
+/// What a table lists: these segments, all of the dataset with this text.
+fn taken_up<F: Send, Z: Sealed<F>>(
     alloc: Global,
     name: &str,
-    toc: Toc<F, T>,
     segments: Vec<Arc<Segment<F, Z>>>,
-) -> (Toc<F, T>, Result<Opened<F, Z>, NoMemory>)
-    requires segments { entries segments.items ≡ toc.entries }
-    requires sure { toc.doubt ≡ None }
-    requires name { T.name toc.table ≡ toc.dataset }
-    requires names { AreOf (T.name toc.table) segments.items }
-    ensures table { (result.0.entries ≡ toc.entries) × (result.0.doubt ≡ None) }
-    ensures name { (result.0.dataset ≡ toc.dataset) × (T.name result.0.table ≡ T.name toc.table) }
-    ensures text { IfOk result.1 (λ r. r.name ≡ name.now) }
-    ensures shown { IfOk result.1 (λ r. map listing r.shown ≡ listings segments.items) }
-    ensures segments { IfOk result.1 (λ r. r.segments ≡ standings segments.items) }
+) -> Result<Opened<F, Z>, NoMemory>
+where
+    requires few { length segments.items ≤ 65535 }
+    requires own { AreOf name.now segments.items }
+    ensures text { IfOk result (λ r. r.name ≡ name.now) }
+    ensures shown { IfOk result (λ r. r.shown ≡ standings segments.items) }
 {
-    let Ok(name) = String::from_str(alloc, name) else {
-        return (toc, Err(NoMemory));
-    };
-    let Ok(copy) = copied(alloc, &segments) else {
-        return (toc, Err(NoMemory));
-    };
-    let (toc, answer) = shown(rt, alloc, toc, segments);
-    match answer {
-        Ok(snapshot) => (
-            toc,
-            Ok(Opened {
-                name,
-                snapshot,
-                segments: copy,
-            }),
-        ),
-        Err(NoMemory) => (toc, Err(NoMemory)),
-    }
-}
-
-/// A snapshot of the segments that a table lists. The table comes back and lists what it listed.
-fn shown<F: Send, T: Disk<F>, Z: Sealed<F>, R: Wait>(
-    rt: &R,
-    alloc: Global,
-    toc: Toc<F, T>,
-    segments: Vec<Arc<Segment<F, Z>>>,
-) -> (Toc<F, T>, Result<Snapshot<F, Z>, NoMemory>)
-    requires segments { entries segments.items ≡ toc.entries }
-    requires sure { toc.doubt ≡ None }
-    requires name { T.name toc.table ≡ toc.dataset }
-    requires names { AreOf (T.name toc.table) segments.items }
-    ensures table { (result.0.entries ≡ toc.entries) × (result.0.doubt ≡ None) }
-    ensures name { (result.0.dataset ≡ toc.dataset) × (T.name result.0.table ≡ T.name toc.table) }
-    ensures shown { IfOk result.1 (λ s. map listing s ≡ listings segments.items) }
-{
-    match Dataset::new(alloc, toc, segments) {
-        Ok((dataset, mut pass)) => {
-            let snapshot = dataset.snapshot(rt, alloc, &mut pass);
-            (dataset.close(pass), snapshot)
-        }
-        Err((toc, NoMemory)) => (toc, Err(NoMemory)),
-    }
-}
-
-// The same segments.
-fn copied<F: Send, Z: Sealed<F>>(
-    alloc: Global,
-    segments: &Vec<Arc<Segment<F, Z>>>,
-) -> Result<Vec<Arc<Segment<F, Z>>>, AllocError>
-    ensures { IfOk result (λ v. standings v.items ≡ standings segments.now.items) }
-{
-    let mut all = Vec::new(alloc);
-    for i in 0..segments.len() {
-        all.push(Arc::try_clone(&segments[i])?)?;
-    }
-    Ok(all)
+    let text = Bytes::from_slice(alloc, name.as_bytes())?;
+    let snapshot = Snapshot::of(alloc, text, segments)?;
+    let name = String::from_str(alloc, name)?;
+    Ok(Opened { name, snapshot })
 }

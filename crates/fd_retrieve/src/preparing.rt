@@ -22,7 +22,6 @@ use fd_recovery::OpenFault;
 use fd_request::Request;
 use fd_schema::Place;
 use std::alloc::Global;
-use std::sync::Wait;
 
 /// A request, the places of its keys, and the datasets of the places that have tables.
 #[derive(Drop)]
@@ -33,8 +32,7 @@ pub(crate) struct Ready<F: Send, Z: Sealed<F>> {
 }
 
 /// Reads the request, and opens the datasets of its keys. Each is given back.
-pub(crate) fn prepared<F: Send + Drop, X: Drop, S: Store<F>, I: Source<X>, R: Wait>(
-    rt: &R,
+pub(crate) fn prepared<F: Send + Drop, X: Drop, S: Store<F>, I: Source<X>>(
     alloc: Global,
     root: &str,
     store: &mut S,
@@ -61,7 +59,7 @@ where
         Ok(names) => names,
         Err(stop) => return Err(stop),
     };
-    match open_all(rt, alloc, store, &names) {
+    match open_all(alloc, store, &names) {
         Ok(opened) => Ok(Ready {
             request,
             places,
@@ -107,8 +105,7 @@ fn placed<F: Send, X: Drop, S: Store<F>, I: Source<X>>(
 }
 
 /// Opens the datasets of these names, and gives each back.
-fn open_all<F: Send + Drop, S: Store<F>, R: Wait>(
-    rt: &R,
+pub(crate) fn open_all<F: Send + Drop, S: Store<F>>(
     alloc: Global,
     store: &mut S,
     names: &[String],
@@ -124,7 +121,7 @@ where
 {
     let mut opened = Vec::new(alloc);
     for i in 0..names.len() {
-        match open_more(rt, alloc, store, &mut opened, &names[i]) {
+        match open_more(alloc, store, &mut opened, &names[i]) {
             Ok(()) => {}
             Err(stop) => return Err(stop),
         }
@@ -133,8 +130,7 @@ where
 }
 
 /// Opens one dataset more, where it has a table, and gives it back.
-fn open_more<F: Send + Drop, S: Store<F>, R: Wait>(
-    rt: &R,
+fn open_more<F: Send + Drop, S: Store<F>>(
     alloc: Global,
     store: &mut S,
     opened: &mut Vec<Opened<F, <S::Folder as Folder<F>>::Sealed>>,
@@ -149,7 +145,7 @@ where
     ensures home { (n : List ℕ) → S.out store.new n ≡ false }
     ensures later { S.faults store.old ≤ S.faults store.new }
 {
-    match open(rt, alloc, store, name) {
+    match open(alloc, store, name) {
         Ok(Some(one)) => match opened.push(one) {
             Ok(()) => Ok(()),
             Err(_) => Err(Stop::NoMemory),

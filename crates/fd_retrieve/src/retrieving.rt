@@ -1,26 +1,25 @@
 // `retrieve`.
 ghost use Rattle.std.specs.Prelude.{◌≡◌, ◌≤◌, List, ℕ, Option, false, length};
-ghost use Rattle.fd_bytes.specs.Causes.{Rose};
 ghost use Rattle.fd_disk.specs.Folders.{Holdings};
 ghost use Rattle.fd_request.specs.Expansion.{expand};
 ghost use Rattle.fd_words.specs.declared.command.Command.TheVariants.{Retrieve};
+ghost use Rattle.fd_outcome.specs.Causes.{BadFile, damaged_line};
 ghost use Rattle.fd_outcome.specs.Objects.{Object, object};
 ghost use Rattle.fd_outcome.specs.Ran.{Ran};
 ghost use Rattle.fd_outcome.specs.Told.{ToldOrNoMemory};
 ghost use Rattle.fd_retrieve.specs.Ready.{Begins};
-ghost use Rattle.fd_retrieve.specs.Telling.{ToldDamage, counts_status, counts_text};
+ghost use Rattle.fd_retrieve.specs.Telling.{counts_status, counts_text};
 
 use crate::answering::{Halt, answer_all};
-use crate::datasets::damage_of;
 use crate::locating::{Lost, locate};
 use crate::opened::Opened;
 use crate::preparing::{Ready, prepared};
 use crate::stop::Broken;
 use crate::telling::{tell_broken, tell_stop};
-use fd_disk::{Down, Folder, Sealed, Store};
+use fd_disk::{Folder, Sealed, Store};
 use fd_io::{Gate, Sink, Source};
 use fd_outcome::{Status, tell, tell_disk_failed, tell_no_memory, tell_output_failed};
-use fd_schema::Place;
+use fd_segment::Damage;
 use fd_words::Root;
 use std::alloc::Global;
 use std::sync::Wait;
@@ -56,7 +55,7 @@ where
     ensures ran { Ran (Retrieve root.now workers) result (object (S.has store.old) (S.has store.new) (S.faults store.old) (S.faults store.new)) (object (I.left input.old) (I.left input.new) (I.faults input.old) (I.faults input.new)) (object (K.taken output.old) (K.taken output.new) (K.faults output.old) (K.faults output.new)) (object (E.taken report.old) (E.taken report.new) (E.faults report.old) (E.faults report.new)) }
     ensures home { (name : List ℕ) → S.out store.new name ≡ false }
 {
-    match prepared(rt, alloc, root.as_str(), store, input) {
+    match prepared(alloc, root.as_str(), store, input) {
         Ok(ready) => answered(rt, alloc, store, ready, workers, output, report, gate),
         Err(stop) => tell_stop(alloc, store, report, stop),
     }
@@ -101,8 +100,8 @@ where
             store.note(fault);
             return tell_disk_failed(report);
         }
-        Err(Lost::Damaged(number)) => {
-            return tell_damage(alloc, store, &datasets.opened()[number], &places, report);
+        Err(Lost::Damaged(number, damage)) => {
+            return tell_damaged(alloc, &datasets.opened()[number], damage, report);
         }
         Err(Lost::NoMemory) => return tell_no_memory(report),
     };
@@ -114,8 +113,8 @@ where
         }
         Err(Halt::Unwritten(_)) => tell_output_failed(report),
         Err(Halt::Untold(_)) => Status::OutputFault,
-        Err(Halt::Damaged(number)) => {
-            tell_damage(alloc, store, &datasets.opened()[number], &places, report)
+        Err(Halt::Damaged(number, damage)) => {
+            tell_damaged(alloc, &datasets.opened()[number], damage, report)
         }
         Err(Halt::NoMemory) => tell_no_memory(report),
     }
@@ -141,26 +140,15 @@ fn tell_counts<X: Drop, E: Sink<X>>(
     }
 }
 
-/// Writes the line of the damage that a look for the fields of these places meets in a dataset. Where none is met any more,
-/// nothing can be said of the files, as where memory is refused.
-fn tell_damage<F: Send + Drop, X: Drop, S: Store<F>, Z: Sealed<F>, E: Sink<X>>(
+/// Writes the line of a damage in a dataset.
+fn tell_damaged<F: Send, X: Drop, Z: Sealed<F>, E: Sink<X>>(
     alloc: Global,
-    store: &mut S,
     dataset: &Opened<F, Z>,
-    places: &[Place],
+    damage: Damage,
     report: &mut E,
 ) -> Status
 where
-    ensures told { ToldDamage dataset.now (Rose (S.faults store.old) (S.faults store.new)) result (E.taken report.old) (E.taken report.new) (E.faults report.old) (E.faults report.new) }
-    ensures has { S.has store.new ≡ S.has store.old }
-    ensures out { S.out store.new ≡ S.out store.old }
+    ensures told { ToldOrNoMemory Status.Damaged (damaged_line dataset.now.name (BadFile damage)) result (E.taken report.old) (E.taken report.new) (E.faults report.old) (E.faults report.new) }
 {
-    match damage_of(alloc, dataset, places) {
-        Ok(Some(damage)) => tell_broken(alloc, report, dataset.name(), Broken::File(damage)),
-        Ok(None) | Err(Down::NoMemory) => tell_no_memory(report),
-        Err(Down::Fault(fault)) => {
-            store.note(fault);
-            tell_disk_failed(report)
-        }
-    }
+    tell_broken(alloc, report, dataset.name(), Broken::File(damage))
 }

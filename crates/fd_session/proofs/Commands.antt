@@ -53,12 +53,13 @@ of_session commands.Describe P p = tt
 of_session (commands.Values decimals) P p = tt
 of_session (commands.Generate count) P p = tt
 of_session (commands.Create root) P p = tt
-of_session (commands.Archive root given) P p = tt
+of_session (commands.Archive root given workers) P p = tt
 of_session (commands.Retrieve root workers) P p = tt
 of_session (commands.List root) P p = tt
 of_session (commands.Axes root) P p = tt
 of_session (commands.Stats root) P p = tt
 of_session (commands.Session root) P p = p
+of_session (commands.Trial root count workers) P p = tt
 
 -- a run that ends for want of memory before it has done anything
 pub starved_session : (F : Type 0) (s : Status) (has : Option Holdings) (k : ℕ) (left : Option (List ℕ)) (l : ℕ) (taken : Option (List ℕ)) (o : ℕ) (c d : Option (List ℕ)) (m n : ℕ) → Told statuses.NoMemory no_memory s c d m n

@@ -77,8 +77,11 @@ generate_is = record { met = refl; found = refl; name_is = refl; other = refl; l
 create_is : IsCommand (codes "create") [] (shape_named (codes "create"))
 create_is = record { met = refl; found = refl; name_is = refl; other = refl; leaf = record { shape = refl; help = refl; subcommand = refl } }
 
-archive_is : IsCommand (codes "archive") (codes "with" ∷ []) (shape_named (codes "archive"))
+archive_is : IsCommand (codes "archive") (codes "with" ∷ (codes "workers" ∷ [])) (shape_named (codes "archive"))
 archive_is = record { met = refl; found = refl; name_is = refl; other = refl; leaf = record { shape = refl; help = refl; subcommand = refl } }
+
+trial_is : IsCommand (codes "trial") (codes "workers" ∷ []) (shape_named (codes "trial"))
+trial_is = record { met = refl; found = refl; name_is = refl; other = refl; leaf = record { shape = refl; help = refl; subcommand = refl } }
 
 retrieve_is : IsCommand (codes "retrieve") (codes "workers" ∷ []) (shape_named (codes "retrieve"))
 retrieve_is = record { met = refl; found = refl; name_is = refl; other = refl; leaf = record { shape = refl; help = refl; subcommand = refl } }
@@ -96,7 +99,7 @@ session_is : IsCommand (codes "session") [] (shape_named (codes "session"))
 session_is = record { met = refl; found = refl; name_is = refl; other = refl; leaf = record { shape = refl; help = refl; subcommand = refl } }
 
 all_are : AreCommands leaves
-all_are = (pick_is, (describe_is, (values_is, (generate_is, (create_is, (retrieve_is, (archive_is, (list_is, (axes_is, (stats_is, (session_is, tt)))))))))))
+all_are = (pick_is, (describe_is, (values_is, (generate_is, (create_is, (retrieve_is, (archive_is, (trial_is, (list_is, (axes_is, (stats_is, (session_is, tt))))))))))))
 
 -- a name among them is that of one, with its options
 abbrev Named : List Leaf → Text → Type 0

@@ -15,9 +15,9 @@ use Rattle.std.specs.Str.{bytes_eq}
 use Rattle.fd_words.specs.Reading.{Text, Said, reading, has_dash, double_dash, AreClean, Tells, alone_of, is_name}
 use Rattle.std.specs.Prelude.{codes}
 use Rattle.fd_key.specs.Pairs.{Pair}
-use Rattle.fd_words.specs.declared.command.Command.TheVariants.{Archive, Retrieve}
+use Rattle.fd_words.specs.declared.command.Command.TheVariants.{Retrieve}
 use Rattle.fd_words.specs.Saying.{said, Means}
-use Rattle.fd_words.specs.Words.{rooted, command_said, values_of}
+use Rattle.fd_words.specs.Words.{archive_of, rooted, command_said, trial_of, values_of, workers_in}
 use Rattle.fd_words.proofs.CommandLemmas.{IsCommand, command_passes, command_refuses, command_tells, named, nameless}
 use Rattle.fd_words.proofs.LeafLemmas.{bytes_same}
 use Rattle.fd_words.proofs.UnknownLemmas.{no_words, unknown_command}
@@ -94,8 +94,11 @@ some_alone (x ∷ xs) ys e = ap (λ o. unwrap_or o []) e
 pub archive_named : (name : Text) → bytes_eq name (codes "archive") ≡ true → is_name (options_of name) (codes "with") ≡ true
 archive_named name h = subst (λ n. is_name (options_of n) (codes "with") ≡ true) (sym (bytes_same name (codes "archive") h)) refl
 
-pub archive_rooted : (name : Text) → bytes_eq name (codes "archive") ≡ true → (given : Option (List Pair)) (workers : Option ℕ) (root : Text) → rooted name given workers root ≡ option_map (Archive root) given
-archive_rooted name h given workers root = subst (λ n. rooted n given workers root ≡ option_map (Archive root) given) (sym (bytes_same name (codes "archive") h)) refl
+pub archive_counts : (name : Text) → bytes_eq name (codes "archive") ≡ true → is_name (options_of name) (codes "workers") ≡ true
+archive_counts name h = subst (λ n. is_name (options_of n) (codes "workers") ≡ true) (sym (bytes_same name (codes "archive") h)) refl
+
+pub archive_rooted : (name : Text) → bytes_eq name (codes "archive") ≡ true → (given : Option (List Pair)) (workers : Option ℕ) (root : Text) → rooted name given workers root ≡ archive_of root given workers
+archive_rooted name h given workers root = subst (λ n. rooted n given workers root ≡ archive_of root given workers) (sym (bytes_same name (codes "archive") h)) refl
 
 -- ---- `retrieve`
 
@@ -112,3 +115,11 @@ values_named name h = subst (λ n. is_name (options_of n) (codes "decimals") ≡
 
 pub values_said : (name : Text) → bytes_eq name (codes "values") ≡ true → (s : Said) → command_said name s ≡ values_of s.alone (lookup (bytes_eq (codes "decimals")) s.options)
 values_said name h s = subst (λ n. command_said n s ≡ values_of s.alone (lookup (bytes_eq (codes "decimals")) s.options)) (sym (bytes_same name (codes "values") h)) refl
+
+-- ---- `trial`
+
+pub trial_named : (name : Text) → bytes_eq name (codes "trial") ≡ true → is_name (options_of name) (codes "workers") ≡ true
+trial_named name h = subst (λ n. is_name (options_of n) (codes "workers") ≡ true) (sym (bytes_same name (codes "trial") h)) refl
+
+pub trial_said : (name : Text) → bytes_eq name (codes "trial") ≡ true → (s : Said) → command_said name s ≡ trial_of s.alone (workers_in (lookup (bytes_eq (codes "workers")) s.options))
+trial_said name h s = subst (λ n. command_said n s ≡ trial_of s.alone (workers_in (lookup (bytes_eq (codes "workers")) s.options))) (sym (bytes_same name (codes "trial") h)) refl

@@ -96,11 +96,26 @@ listing_of name root =
     else if bytes_eq name (codes "session") then Some (commands.Session root)
     else None
 
+-- `archive` with the pairs of `--with` and the number of `--workers`, where both have their form
+abbrev pub archive_of : Text → Option (List Pair) → Option ℕ → Option Command
+archive_of root given workers = option_and_then (λ pairs. option_map (commands.Archive root pairs) workers) given
+
+-- `trial` of so many messages by so many workers, where both numbers have their form
+abbrev pub trial_with : Option ℕ → Option ℕ → Text → Option Command
+trial_with count workers root = option_and_then (λ n. option_map (commands.Trial root n) workers) count
+
+-- `trial` has a root and a number of messages, in this order
+abbrev pub trial_of : List Text → Option ℕ → Option Command
+trial_of [] workers = None
+trial_of (word ∷ []) workers = None
+trial_of (word ∷ (number ∷ [])) workers = option_and_then (trial_with (count_number number) workers) (root_of (word ∷ []))
+trial_of (word ∷ (number ∷ (other ∷ words))) workers = None
+
 -- The commands that have a root. A command has its line here, and its words their form, once it is written.
 abbrev pub rooted : Text → Option (List Pair) → Option ℕ → Text → Option Command
 rooted name given workers root =
     if bytes_eq name (codes "create") then Some (commands.Create root)
-    else if bytes_eq name (codes "archive") then option_map (commands.Archive root) given
+    else if bytes_eq name (codes "archive") then archive_of root given workers
     else if bytes_eq name (codes "retrieve") then option_map (commands.Retrieve root) workers
     else listing_of name root
 
@@ -111,6 +126,7 @@ command_said name s =
     else if bytes_eq name (codes "describe") then describe_of s.alone
     else if bytes_eq name (codes "values") then values_of s.alone (lookup (bytes_eq (codes "decimals")) s.options)
     else if bytes_eq name (codes "generate") then generate_of s.alone
+    else if bytes_eq name (codes "trial") then trial_of s.alone (workers_in (lookup (bytes_eq (codes "workers")) s.options))
     else option_and_then (rooted name (given_in (lookup (bytes_eq (codes "with")) s.options)) (workers_in (lookup (bytes_eq (codes "workers")) s.options))) (root_of s.alone)
 
 -- The command that the words ask for, or none where they have no form: a command's name, then its options, each at most
@@ -125,9 +141,10 @@ IsWithinLimits (commands.Generate count) = (0 < count) × (count ≤ 100000)
 IsWithinLimits (commands.Pick wanted) = Unit {0}
 IsWithinLimits commands.Describe = Unit {0}
 IsWithinLimits (commands.Create root) = Unit {0}
-IsWithinLimits (commands.Archive root given) = Unit {0}
+IsWithinLimits (commands.Archive root given workers) = (1 ≤ workers) × (workers ≤ 8)
 IsWithinLimits (commands.Retrieve root workers) = (1 ≤ workers) × (workers ≤ 8)
 IsWithinLimits (commands.List root) = Unit {0}
 IsWithinLimits (commands.Axes root) = Unit {0}
 IsWithinLimits (commands.Stats root) = Unit {0}
 IsWithinLimits (commands.Session root) = Unit {0}
+IsWithinLimits (commands.Trial root count workers) = ((0 < count) × (count ≤ 100000)) × ((1 ≤ workers) × (workers ≤ 8))

@@ -1,4 +1,4 @@
-ghost use Rattle.std.specs.Prelude.{◌≡◌, codes, IfOk, IfSome, option_map};
+ghost use Rattle.std.specs.Prelude.{◌≡◌, ◌≤◌, codes, IfOk, IfSome, option_map};
 ghost use Rattle.std.specs.Str.{bytes_eq};
 ghost use Rattle.std.specs.Map.{lookup};
 ghost use Rattle.std.specs.Option.{option_copied};
@@ -6,8 +6,8 @@ ghost use Rattle.clap.specs.Words.{rows_of, found_of};
 ghost use Rattle.fd_words.specs.Texts.{texts};
 ghost use Rattle.fd_words.specs.Reading.{Said, Tells};
 ghost use Rattle.fd_words.specs.Grammar.{options_of};
-ghost use Rattle.fd_words.specs.declared.command.Command.TheVariants.{Archive, Retrieve};
-ghost use Rattle.fd_words.specs.Words.{command_of, command_said, listing_of, rooted, wanted_pairs, pick_of, describe_of, values_of, is_root, root_of, given_in, given_read, workers_in, IsWithinLimits, generate_of};
+ghost use Rattle.fd_words.specs.declared.command.Command.TheVariants.{Retrieve};
+ghost use Rattle.fd_words.specs.Words.{archive_of, command_of, command_said, listing_of, rooted, wanted_pairs, pick_of, describe_of, values_of, is_root, root_of, given_in, given_read, workers_in, IsWithinLimits, generate_of, trial_of};
 
 use crate::numbers::{count_number, decimals_number, worker_number};
 use crate::parse::{alone, option_text, parse};
@@ -31,8 +31,8 @@ pub enum Command {
     Generate(u32),
     /// To store a schema.
     Create(Root),
-    /// To store the messages of a stream, with the given pairs in their keys.
-    Archive(Root, Given),
+    /// To store the messages of a stream, with the given pairs in their keys, by so many workers.
+    Archive(Root, Given, u32),
     /// The stored messages of a request, which so many workers look for.
     Retrieve(Root, u32),
     /// A line for each stored key.
@@ -43,6 +43,8 @@ pub enum Command {
     Stats(Root),
     /// The lanes of a script, side by side.
     Session(Root),
+    /// To store so many messages that are made up, and to look for them, by so many workers.
+    Trial(Root, u32, u32),
 }
 
 /// The command that the words ask for, or none where they have no form.
@@ -96,6 +98,9 @@ fn command_with(
     if name == "generate" {
         return Ok(generate_command(words));
     }
+    if name == "trial" {
+        return trial_command(alloc, words, option_text(own, "workers"));
+    }
     match root_in(alloc, words)? {
         Some(root) => rooted(alloc, name, root, own),
         None => Ok(None),
@@ -116,7 +121,12 @@ fn rooted(
         return Ok(Some(Command::Create(root)));
     }
     if name == "archive" {
-        return archive_command(alloc, root, option_text(own, "with"));
+        return archive_command(
+            alloc,
+            root,
+            option_text(own, "with"),
+            option_text(own, "workers"),
+        );
     }
     if name == "retrieve" {
         return Ok(retrieve_command(root, option_text(own, "workers")));
@@ -144,21 +154,25 @@ fn listing_of(name: &str, root: Root) -> Option<Command>
     None
 }
 
-/// `archive` with the text of its option, if it has one.
+/// `archive` with the texts of its options, as far as it has them.
 fn archive_command(
     alloc: Global,
     root: Root,
     with: Option<&str>,
+    workers: Option<&str>,
 ) -> Result<Option<Command>, NoMemory>
-    ensures command { IfOk result (λ o. o ≡ option_map (Archive root) (given_in (option_copied with.entry))) }
+    ensures command { IfOk result (λ o. o ≡ archive_of root (given_in (option_copied with.entry)) (workers_in (option_copied workers.entry))) }
     ensures within { IfOk result (λ o. IfSome o IsWithinLimits) }
 {
     let text = match with {
         Some(text) => text,
         None => "",
     };
-    match given_read(alloc, text)? {
-        Some(given) => Ok(Some(Command::Archive(root, given))),
+    let Some(given) = given_read(alloc, text)? else {
+        return Ok(None);
+    };
+    match workers_in(workers) {
+        Some(workers) => Ok(Some(Command::Archive(root, given, workers))),
         None => Ok(None),
     }
 }
@@ -168,12 +182,44 @@ fn retrieve_command(root: Root, workers: Option<&str>) -> Option<Command>
     ensures command { result ≡ option_map (Retrieve root) (workers_in (option_copied workers.entry)) }
     ensures within { IfSome result IsWithinLimits }
 {
-    let Some(text) = workers else {
-        return Some(Command::Retrieve(root, 1));
-    };
-    match worker_number(text.as_bytes()) {
+    match workers_in(workers) {
         Some(workers) => Some(Command::Retrieve(root, workers)),
         None => None,
+    }
+}
+
+/// `trial` with the text of its option, if it has one: a root, and a number of messages.
+fn trial_command(
+    alloc: Global,
+    words: &[&str],
+    workers: Option<&str>,
+) -> Result<Option<Command>, NoMemory>
+    ensures command { IfOk result (λ o. o ≡ trial_of (texts words.now) (workers_in (option_copied workers.entry))) }
+    ensures within { IfOk result (λ o. IfSome o IsWithinLimits) }
+{
+    let [word, number] = words else {
+        return Ok(None);
+    };
+    if !is_root(word) {
+        return Ok(None);
+    }
+    let Some(count) = count_number(number.as_bytes()) else {
+        return Ok(None);
+    };
+    match workers_in(workers) {
+        Some(workers) => Ok(Some(Command::Trial(Root::new(alloc, word)?, count, workers))),
+        None => Ok(None),
+    }
+}
+
+/// The number of workers that the text of an option says; 1 where there is none.
+fn workers_in(option: Option<&str>) -> Option<u32>
+    ensures number { result ≡ workers_in (option_copied option.entry) }
+    ensures within { IfSome result (λ n. (1 ≤ n) × (n ≤ 8)) }
+{
+    match option {
+        Some(text) => worker_number(text.as_bytes()),
+        None => Some(1),
     }
 }
 

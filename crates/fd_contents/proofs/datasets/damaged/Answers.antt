@@ -1,7 +1,5 @@
 use Rattle.std.proofs.Common.{rules, ◌≡◌, ◌∙◌, ◌∷◌, [], refl, ap, subst, sym, true, string_bytes}
 use Rattle.fd_disk.specs.Folders.{folder_at}
-use Rattle.fd_segment.specs.Shared.{standings}
-use Rattle.fd_inventory.specs.Indexes.{IsAmongBad}
 use Rattle.fd_inventory.proofs.Upserting.{self}
 use Rattle.fd_outcome.specs.Asking.{is_among}
 use Rattle.fd_outcome.specs.Causes.{BadFile}
@@ -11,7 +9,6 @@ use Rattle.fd_contents.proofs.datasets.damaged.Goals as goal
 
 pub returns-in-Ok-clause-broken : goal.returns-in-Ok-clause-broken
 returns-in-Ok-clause-broken g c = λ h open_.
-    let d = c.in-Ok-Some.damage in
+    let d = c.args.damage in
     let text : string_bytes c.in-Ok.dataset ≡ c.args.dataset.now.name = search rules in
-    let bad : IsAmongBad c.args.dataset.now.segments d = search rules in
-    subst (λ n. (is_among (c.args.dataset.now.name ∷ []) n ≡ true) × Stands n (folder_at h n) (BadFile d)) (sym text) (among_self c.args.dataset.now.name, stands_at h c.args.dataset.now d open_ bad)
+    subst (λ n. (is_among (c.args.dataset.now.name ∷ []) n ≡ true) × Stands n (folder_at h n) (BadFile d)) (sym text) (among_self c.args.dataset.now.name, stands_at h c.args.dataset.now d open_ c.requires)

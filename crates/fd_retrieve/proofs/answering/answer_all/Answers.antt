@@ -4,7 +4,7 @@ use Rattle.fd_request.specs.Expansion.{expand}
 use Rattle.fd_schema.specs.Reading.{seen_place}
 use Rattle.fd_retrieve.specs.Open.{table_in}
 use Rattle.fd_retrieve.specs.Finding.{IsAnswered}
-use Rattle.fd_retrieve.proofs.AnsweringLemmas.{numbered, as_long, as_many, as_whole, one_few, place_there, there_is, more_one, part_answered, took_both, took_nothing}
+use Rattle.fd_retrieve.proofs.AnsweringLemmas.{numbered, as_long, as_many, as_whole, one_few, there_is, more_one, part_answered, took_both, took_nothing}
 use Rattle.fd_retrieve.proofs.LocatingLemmas.{place_at, within_at}
 use Rattle.fd_retrieve.proofs.answering.answer_all.Goals as goal
 

@@ -2,7 +2,8 @@ use Rattle.std.proofs.Common.{subst}
 use Rattle.fd_core.specs.Batches.{newest}
 use Rattle.fd_schema.specs.Rules.{file_key}
 use Rattle.fd_retriever.specs.Answers.{IsAnswer}
-use Rattle.fd_retrieve.proofs.AnsweringLemmas.{found_one, front_one, missed_one, untold_one}
+use Rattle.fd_retrieve.proofs.AnsweringLemmas.{front_one, untold_one}
+use Rattle.fd_retrieve.proofs.DamageLemmas.{told_at}
 use Rattle.fd_retrieve.proofs.answering.answer_one.Goals as goal
 
 pub returns-in-Err-clause-halted : goal.returns-in-Err-clause-halted
@@ -19,3 +20,6 @@ returns-in-Err-Damaged-clause-halted g c = λ place key t there at told. front_o
 
 pub returns-in-Err-NoMemory-clause-halted : goal.returns-in-Err-NoMemory-clause-halted
 returns-in-Err-NoMemory-clause-halted g c = λ place key t there at told. front_one _ key _ _ _ (c.in-Err-NoMemory.ensures.err place t there told)
+
+pub returns-in-Err-Damaged-clause-damaged : goal.returns-in-Err-Damaged-clause-damaged
+returns-in-Err-Damaged-clause-damaged g c = told_at c.damaged_at.result c.args.datasets.now c.args.located c.in-Err-Damaged.damage (rw c.in-Err-Damaged.field-0-is at c.damaged_at.ensures.damaged) (rw c.in-Err-Damaged.field-0-is at c.in-Err-Damaged.ensures.damaged)

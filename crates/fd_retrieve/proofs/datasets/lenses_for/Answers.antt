@@ -1,4 +1,4 @@
-use Rattle.std.proofs.Common.{◌≡◌, IfSome, subst, sym, ◌∙◌}
+use Rattle.std.proofs.Common.{◌≡◌, IfSome, subst}
 use Rattle.fd_retriever.specs.Kept.{AreThose}
 use Rattle.fd_retrieve.proofs.datasets.lenses_for.Goals as goal
 

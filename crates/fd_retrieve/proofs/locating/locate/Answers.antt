@@ -1,6 +1,5 @@
-use Rattle.std.proofs.Common.{◌≤◌, length, arith, subst}
-use Rattle.fd_retrieve.specs.Located.{AreLocated}
-use Rattle.fd_retrieve.proofs.LocatingLemmas.{located_all, located_first}
+use Rattle.std.proofs.Common.{◌≤◌, length, arith}
+use Rattle.fd_retrieve.proofs.LocatingLemmas.{located_all}
 use Rattle.fd_retrieve.proofs.locating.locate.Goals as goal
 
 pub returns-clause-located : goal.returns-clause-located

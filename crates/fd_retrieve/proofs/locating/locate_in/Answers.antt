@@ -3,6 +3,7 @@ use Rattle.std.specs.Prelude.{IfSome}
 use Rattle.fd_finding.specs.Spots.{IsWithin}
 use Rattle.fd_retrieve.specs.Located.{IsFilled}
 use Rattle.fd_retrieve.specs.Open.{Open}
+use Rattle.fd_retrieve.proofs.DamageLemmas.{damaged_in}
 use Rattle.fd_retrieve.proofs.DatasetLemmas.{at_get}
 use Rattle.fd_retrieve.proofs.LocatingLemmas.{found_answers, located_more}
 use Rattle.fd_retrieve.proofs.locating.locate_in.Goals as goal
@@ -19,3 +20,11 @@ returns-in-Ok-find_all-clause-located g c = λ by.
     (subst (λ xs. IsFilled c.args.number c.args.numbers.now c.in-Ok.positions.items xs (length c.args.numbers.now) c.args.located.now c.fill.new.located) c.deref-in-Ok-find_all-2.ensures.value
     (subst (λ ps. IsFilled c.args.number c.args.numbers.now ps c.deref-in-Ok-find_all-2.result.now (length c.args.numbers.now) c.args.located.now c.fill.new.located) c.deref-in-Ok-find_all.ensures.value c.fill.ensures))
     by
+
+pub returns-in-Err-Damaged-clause-damaged : goal.returns-in-Err-Damaged-clause-damaged
+returns-in-Err-Damaged-clause-damaged g c =
+    let o = c.index-opened-number.result in
+    let lt : c.args.number < length c.args.opened.now = omega (arith, c.requires.number) in
+    let at = at_get c.args.opened.now c.args.number o lt c.index-opened-number.is in
+    let shown : c.dataset.inside.snapshot ≡ o.shown = ap (λ (x : Open). x.shown) c.dataset.view_is in
+    damaged_in c.args.opened.now c.args.number o c.dataset.inside.snapshot _ c.in-Err-Damaged.damage lt at shown (rw c.in-Err-Damaged.field-0-is at c.in-Err-Damaged.ensures.damaged)

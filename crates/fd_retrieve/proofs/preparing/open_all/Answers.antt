@@ -1,12 +1,9 @@
-use Rattle.std.proofs.Common.{rules, ◌≡◌, ◌∙◌, ◌<◌, ◌≤◌, ◌+◌, ◌++◌, ◌∷◌, [], false, true, length, IfSome, List, map, string_bytes, subst, sym, ap, arith, take}
+use Rattle.std.proofs.Common.{rules, ◌≡◌, ◌∷◌, [], IfSome, string_bytes, subst, sym, arith, take}
 use Rattle.std.proofs.lemmas.List.{length-map}
-use Rattle.fd_disk.specs.Folders.{WhereTold}
 use Rattle.fd_schema.specs.Seen.{texts}
-use Rattle.fd_outcome.specs.Store.{Stays}
 use Rattle.fd_retrieve.specs.Ready.{AreOpen, IsBrokenOf, MayOpen}
-use Rattle.fd_retrieve.proofs.DatasetLemmas.{at_get}
-use Rattle.fd_retrieve.proofs.Staying.{stays_told, told_both}
-use Rattle.fd_retrieve.proofs.PrepareLemmas.{among_one_of, broken_told, open_start, open_told_more, take_end, take_more}
+use Rattle.fd_retrieve.proofs.Staying.{told_both}
+use Rattle.fd_retrieve.proofs.PrepareLemmas.{among_one_of, broken_told, open_told_more, take_end, take_more}
 use Rattle.fd_retrieve.proofs.preparing.open_all.Goals as goal
 
 pub returns-in-Err-clause-broken : goal.returns-in-Err-clause-broken

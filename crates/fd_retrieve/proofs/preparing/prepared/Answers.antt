@@ -1,4 +1,4 @@
-use Rattle.std.proofs.Common.{rules, ◌≡◌, ◌∙◌, ◌≤◌, ◌<◌, filter, subst, sym, IfSome, Ok, length, map, string_bytes, arith}
+use Rattle.std.proofs.Common.{rules, ◌≡◌, ◌≤◌, ◌<◌, filter, subst, sym, IfSome, Ok, length, string_bytes, arith}
 use Rattle.std.proofs.lemmas.List.{length-map}
 use Rattle.fd_disk.specs.Folders.{WhereTold}
 use Rattle.fd_request.specs.Expansion.{expand}

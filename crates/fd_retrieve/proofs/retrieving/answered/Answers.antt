@@ -1,5 +1,6 @@
-use Rattle.std.proofs.Common.{◌≡◌, ◌≤◌, refl, sym, ap, subst, arith}
+use Rattle.std.proofs.Common.{◌≡◌, refl, sym, subst, arith}
 use Rattle.fd_outcome.specs.Objects.{object}
+use Rattle.fd_retrieve.specs.Open.{IsDamagedAt}
 use Rattle.fd_retrieve.proofs.AnsweringLemmas.{took_nothing}
 use Rattle.fd_retrieve.proofs.LocatingLemmas.{located_as, number_at}
 use Rattle.fd_retrieve.proofs.RetrieveExits.{counted_ran, damaged_ran, disk_ran, part_none, rose_later, starved_ran, untold_ran, unwritten_ran}
@@ -13,11 +14,13 @@ returns-in-Err-Disk-clause-ran g c = λ root before faults input begins.
 
 pub returns-in-Err-Damaged-clause-ran : goal.returns-in-Err-Damaged-clause-ran
 returns-in-Err-Damaged-clause-ran g c = λ root before faults input begins.
-    damaged_ran root c.args.workers before _ _ faults _ _ input (object (g.K.Sink.taken c.args.output.now) (g.K.Sink.taken c.args.output.now) (g.K.Sink.faults c.args.output.now) (g.K.Sink.faults c.args.output.now)) (object (g.E.Sink.taken c.args.report.now) (g.E.Sink.taken c.tell_damage.new.report) (g.E.Sink.faults c.args.report.now) (g.E.Sink.faults c.tell_damage.new.report))
-    c.args.ready.request c.args.ready.places.items c.args.ready.datasets begins c.tell_damage.ensures.has (g.E.Sink.taken c.args.report.now) (g.E.Sink.faults c.args.report.now) c.tell_damage.result (omega arith)
-    c.requires.count c.args.ready.datasets c.in-Err-Damaged.number c.index-opened-number.result refl
-    (number_at c.args.ready.datasets c.opened.result.now c.opened-in-Err-Damaged.result.now c.in-Err-Damaged.number c.index-opened-number.result c.opened.ensures c.opened-in-Err-Damaged.ensures (rw c.in-Err-Damaged.field-0-is at c.in-Err-Damaged.ensures.damaged) c.index-opened-number.is)
-    (rose_later faults _ _ begins.later) c.tell_damage.ensures.told (λ xs e. part_none xs (g.K.Sink.taken c.args.output.now) (g.E.Sink.taken c.args.report.now)) (took_nothing (g.E.Sink.taken c.args.report.now))
+    let bad : IsDamagedAt c.opened.result.now c.in-Err-Damaged.number c.in-Err-Damaged.damage = rw c.in-Err-Damaged.field-0-is at c.in-Err-Damaged.ensures.damaged in
+    damaged_ran root c.args.workers before _ _ faults _ _ input (object (g.K.Sink.taken c.args.output.now) (g.K.Sink.taken c.args.output.now) (g.K.Sink.faults c.args.output.now) (g.K.Sink.faults c.args.output.now)) (object (g.E.Sink.taken c.args.report.now) (g.E.Sink.taken c.tell_damaged.new.report) (g.E.Sink.faults c.args.report.now) (g.E.Sink.faults c.tell_damaged.new.report))
+    c.args.ready.request c.args.ready.places.items c.args.ready.datasets begins refl (g.E.Sink.taken c.args.report.now) (g.E.Sink.faults c.args.report.now) c.tell_damaged.result (omega arith)
+    c.requires.count c.args.ready.datasets c.in-Err-Damaged.number c.index-opened-number.result c.in-Err-Damaged.damage refl
+    (number_at c.args.ready.datasets c.opened.result.now c.opened-in-Err-Damaged.result.now c.in-Err-Damaged.number c.index-opened-number.result c.opened.ensures c.opened-in-Err-Damaged.ensures bad.inside c.index-opened-number.is)
+    (subst (λ os. IsDamagedAt os c.in-Err-Damaged.number c.in-Err-Damaged.damage) c.opened.ensures bad)
+    c.tell_damaged.ensures.told (λ xs e. part_none xs (g.K.Sink.taken c.args.output.now) (g.E.Sink.taken c.args.report.now)) (took_nothing (g.E.Sink.taken c.args.report.now))
 
 pub returns-in-Err-NoMemory-clause-ran : goal.returns-in-Err-NoMemory-clause-ran
 returns-in-Err-NoMemory-clause-ran g c = λ root before faults input begins.
@@ -51,11 +54,14 @@ returns-in-Err-Untold-clause-ran g c = λ root before faults input begins.
 
 pub returns-in-Err-Damaged-answer_all-clause-ran : goal.returns-in-Err-Damaged-answer_all-clause-ran
 returns-in-Err-Damaged-answer_all-clause-ran g c = λ root before faults input begins.
-    damaged_ran root c.args.workers before _ _ faults _ _ input (object (g.K.Sink.taken c.args.output.now) (g.K.Sink.taken c.answer_all.new.output) (g.K.Sink.faults c.args.output.now) (g.K.Sink.faults c.answer_all.new.output)) (object (g.E.Sink.taken c.args.report.now) (g.E.Sink.taken c.tell_damage-in-Err-Damaged-answer_all.new.report) (g.E.Sink.faults c.args.report.now) (g.E.Sink.faults c.tell_damage-in-Err-Damaged-answer_all.new.report))
-    c.args.ready.request c.args.ready.places.items c.args.ready.datasets begins c.tell_damage-in-Err-Damaged-answer_all.ensures.has (g.E.Sink.taken c.answer_all.new.report) (g.E.Sink.faults c.answer_all.new.report) c.tell_damage-in-Err-Damaged-answer_all.result c.in-Err-Damaged-answer_all.ensures.report
-    c.requires.count c.answer_all.new.datasets c.in-Err-Damaged-answer_all.number c.index-opened-number-in-Err-Damaged-answer_all.result c.in-Err-Damaged-answer_all.ensures.same
-    (number_at c.answer_all.new.datasets c.args.ready.datasets c.opened-in-Err-Damaged-answer_all.result.now c.in-Err-Damaged-answer_all.number c.index-opened-number-in-Err-Damaged-answer_all.result (sym c.in-Err-Damaged-answer_all.ensures.same) c.opened-in-Err-Damaged-answer_all.ensures (rw c.in-Err-Damaged-answer_all.field-0-is at c.in-Err-Damaged-answer_all.ensures.damaged) c.index-opened-number-in-Err-Damaged-answer_all.is)
-    (rose_later faults _ _ begins.later) c.tell_damage-in-Err-Damaged-answer_all.ensures.told (λ xs e. c.in-Err-Damaged-answer_all.ensures.halted c.args.ready.places.items xs (located_as c.opened.result.now c.args.ready.datasets c.deref.result.now c.args.ready.places.items c.in-Ok.located.items c.deref-2.result.now c.opened.ensures c.deref.ensures.value c.deref-2.ensures.value c.in-Ok.ensures.located) e) c.in-Err-Damaged-answer_all.ensures.grew
+    let bad : IsDamagedAt c.args.ready.datasets c.in-Err-Damaged-answer_all.number c.in-Err-Damaged-answer_all.damage = rw c.in-Err-Damaged-answer_all.field-0-is at c.in-Err-Damaged-answer_all.ensures.damaged in
+    let same : c.answer_all.new.datasets ≡ c.args.ready.datasets = c.in-Err-Damaged-answer_all.ensures.same in
+    damaged_ran root c.args.workers before _ _ faults _ _ input (object (g.K.Sink.taken c.args.output.now) (g.K.Sink.taken c.answer_all.new.output) (g.K.Sink.faults c.args.output.now) (g.K.Sink.faults c.answer_all.new.output)) (object (g.E.Sink.taken c.args.report.now) (g.E.Sink.taken c.tell_damaged-in-Err-Damaged-answer_all.new.report) (g.E.Sink.faults c.args.report.now) (g.E.Sink.faults c.tell_damaged-in-Err-Damaged-answer_all.new.report))
+    c.args.ready.request c.args.ready.places.items c.args.ready.datasets begins refl (g.E.Sink.taken c.answer_all.new.report) (g.E.Sink.faults c.answer_all.new.report) c.tell_damaged-in-Err-Damaged-answer_all.result c.in-Err-Damaged-answer_all.ensures.report
+    c.requires.count c.answer_all.new.datasets c.in-Err-Damaged-answer_all.number c.index-opened-number-in-Err-Damaged-answer_all.result c.in-Err-Damaged-answer_all.damage same
+    (number_at c.answer_all.new.datasets c.args.ready.datasets c.opened-in-Err-Damaged-answer_all.result.now c.in-Err-Damaged-answer_all.number c.index-opened-number-in-Err-Damaged-answer_all.result (sym same) c.opened-in-Err-Damaged-answer_all.ensures bad.inside c.index-opened-number-in-Err-Damaged-answer_all.is)
+    (subst (λ os. IsDamagedAt os c.in-Err-Damaged-answer_all.number c.in-Err-Damaged-answer_all.damage) (sym same) bad)
+    c.tell_damaged-in-Err-Damaged-answer_all.ensures.told (λ xs e. c.in-Err-Damaged-answer_all.ensures.halted c.args.ready.places.items xs (located_as c.opened.result.now c.args.ready.datasets c.deref.result.now c.args.ready.places.items c.in-Ok.located.items c.deref-2.result.now c.opened.ensures c.deref.ensures.value c.deref-2.ensures.value c.in-Ok.ensures.located) e) c.in-Err-Damaged-answer_all.ensures.grew
 
 pub returns-clause-ran : goal.returns-clause-ran
 returns-clause-ran g c = λ root before faults input begins.

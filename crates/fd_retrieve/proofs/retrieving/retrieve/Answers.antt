@@ -1,8 +1,7 @@
-use Rattle.std.proofs.Common.{◌≡◌, ◌∙◌, subst, sym}
+use Rattle.std.proofs.Common.{subst, sym}
 use Rattle.fd_disk.specs.Folders.{WhereTold}
 use Rattle.fd_outcome.specs.Objects.{object}
 use Rattle.fd_outcome.specs.Store.{Stays}
-use Rattle.fd_retrieve.proofs.RetrieveExits.{rose_later}
 use Rattle.fd_retrieve.proofs.StopExits.{later_disk, stopped}
 use Rattle.fd_retrieve.proofs.retrieving.retrieve.Goals as goal
 

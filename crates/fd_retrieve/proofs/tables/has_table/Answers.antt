@@ -1,4 +1,4 @@
-use Rattle.std.proofs.Common.{rules, ◌≡◌, ◌∙◌, ap, Option, Some, IfSome, subst, sym}
+use Rattle.std.proofs.Common.{rules, ◌≡◌, Some, IfSome, subst, sym}
 use Rattle.std.specs.Prelude.{option_map}
 use Rattle.fd_disk.specs.Folders.{SameBut, WhereTold, folder_at}
 use Rattle.fd_retrieve.proofs.Staying.{Back, bare_back, looked_back, same_back, stays_given}

@@ -1,11 +1,10 @@
-use Rattle.std.proofs.Common.{rules, ◌≡◌, ◌∙◌, ◌<◌, ◌≤◌, ◌+◌, ◌++◌, ◌∷◌, [], false, true, length, IfSome, List, map, subst, sym, ap, arith, take, drop}
-use Rattle.std.proofs.lemmas.List.{length-map}
+use Rattle.std.proofs.Common.{◌∙◌, ◌+◌, ◌++◌, IfSome, subst, sym, ap, arith, take, drop}
 use Rattle.fd_schema.specs.Reading.{seen_place}
 use Rattle.fd_schema.specs.Seen.{texts}
 use Rattle.fd_schema.specs.declared.place.Place.{Place}
 use Rattle.fd_retrieve.specs.Tables.{AreTables, datasets_in}
-use Rattle.fd_retrieve.proofs.Staying.{stays_told, told_both}
-use Rattle.fd_retrieve.proofs.PrepareLemmas.{many_told, subst_length, tables_start, tables_told, take_end, take_more, take_rest}
+use Rattle.fd_retrieve.proofs.Staying.{told_both}
+use Rattle.fd_retrieve.proofs.PrepareLemmas.{many_told, subst_length, tables_told, take_more, take_rest}
 use Rattle.fd_retrieve.proofs.tables.tables_of.Goals as goal
 
 pub returns-in-Err-clause-too_many : goal.returns-in-Err-clause-too_many

@@ -1,4 +1,4 @@
-use Rattle.std.proofs.Common.{inl, ◌∙◌, subst}
+use Rattle.std.proofs.Common.{inl, subst}
 use Rattle.std.specs.Prelude.{codes, ◌++◌}
 use Rattle.fd_listing.specs.Lines.{line}
 use Rattle.fd_outcome.specs.declared.status.Status.TheVariants.{Refused}
