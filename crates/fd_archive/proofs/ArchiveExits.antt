@@ -1,11 +1,10 @@
 -- The exits of `archive`.
-use Rattle.std.proofs.Common.{◌≡◌, ◌∙◌, ℕ, Bool, true, false, true≢false, List, [], ◌∷◌, ◌++◌, length, Option, Some, None, refl, sym, ap, subst, inl, inr, append-nil, string_bytes, String, Global}
-use Rattle.std.specs.Prelude.{◌⊎◌, IfSome, IfErr, OnOk, is_some, Result, Ok, Err, codes, Contains}
+use Rattle.std.proofs.Common.{◌≡◌, ◌∙◌, ◌+◌, ℕ, false, true≢false, List, [], ◌++◌, length, Option, Some, None, refl, sym, ap, subst, inl, inr, append-nil, string_bytes, String, Global}
+use Rattle.std.specs.Prelude.{◌⊎◌, IfSome, is_some, Result, Ok, Err, codes, Contains}
 use Rattle.std.specs.Fmt.{decimal}
 use Rattle.fd_bytes.specs.Causes.{Rose}
 use Rattle.fd_io.specs.Streams.{Takes}
-use Rattle.fd_disk.specs.Folders.{Contents, Holdings, WhereTold, folder_at}
-use Rattle.fd_disk.specs.declared.folders.FileName.{FileName}
+use Rattle.fd_disk.specs.Folders.{Holdings, WhereTold, folder_at}
 use Rattle.fd_listing.specs.Lines.{line}
 use Rattle.fd_key.specs.Pairs as keys
 use Rattle.fd_schema.specs.Rules.{Rule}
@@ -14,43 +13,42 @@ use Rattle.fd_words.specs.declared.command.Command.TheVariants.{Archive}
 use Rattle.fd_outcome.specs.declared.refusal.Refusal.{Refusal}
 use Rattle.fd_outcome.specs.declared.status.Status.{Status}
 use Rattle.fd_outcome.specs.declared.status.Status.TheVariants.{Done, Missed, Words, Refused, InputFault, OutputFault, DiskFault, NoMemory, Damaged, Limit}
-use Rattle.fd_outcome.specs.Archiving.{Stored, Taken, datasets_in, pairs_for, taken, taken_of}
+use Rattle.fd_outcome.specs.Archiving.{Stored, datasets_in, pairs_for, taken}
 use Rattle.fd_outcome.specs.Asking.{count_distinct, rules_of, stored_rules}
 use Rattle.fd_outcome.specs.Causes as causes
 use Rattle.fd_outcome.specs.Causes.{Cause, damaged_line, table_full, telling}
 use Rattle.fd_outcome.specs.Ends.{AmongTaken, Calm, Ends, Opens, Leaves, LeavesBy, LeavesStored, ReadsOut, disk_failed, input_failed, no_memory, troubles}
 use Rattle.fd_outcome.specs.Objects.{Failed, Failures, IsCalm, Object, failures, object}
-use Rattle.fd_outcome.specs.Outcome.{Outcome, archive_ends, archived, early, nothing_early, outcome, refused}
+use Rattle.fd_outcome.specs.Outcome.{Outcome, archive_ends, archived, nothing_early, outcome}
 use Rattle.fd_outcome.specs.Ran.{Ran}
 use Rattle.fd_outcome.specs.Store.{AreNames, Grows, GrowsBy, IsFull, Stands}
 use Rattle.fd_outcome.specs.Told.{Told, ToldOrNoMemory}
 use Rattle.fd_outcome.proofs.Endings.{CanStop, CanTell, ends_early, ends_told, reached_nothing, takes_nothing}
-use Rattle.fd_outcome.proofs.Exits.{Either, apart, by_cause, cause_calm, cause_not_whole, cause_told, either_of, is_disk_fault, is_input_fault, is_output_fault, is_whole, is_words, neither, never_whole, rose_of}
+use Rattle.fd_outcome.proofs.Exits.{apart, by_cause, cause_calm, cause_told, either_of, is_disk_fault, is_input_fault, is_output_fault, is_whole, is_words, neither, never_whole, rose_of}
 use Rattle.fd_outcome.proofs.Starved.{within}
-use Rattle.fd_archive.specs.declared.archiving.Counts.{Counts}
-use Rattle.fd_archive.specs.declared.archiving.Halt.{Halt}
-use Rattle.fd_archive.specs.declared.archiving.Halt.TheVariants as halts
-use Rattle.fd_archive.specs.declared.fault.KeepFault.{KeepFault}
-use Rattle.fd_archive.specs.declared.fault.KeepFault.TheVariants as refusals
-use Rattle.fd_archive.specs.declared.storing.Ended.{Ended}
-use Rattle.fd_archive.specs.declared.storing.Ended.TheVariants as ends
-use Rattle.fd_archive.specs.Flushed.{IsFront}
-use Rattle.fd_archive.specs.Inputs.{HasRead, is_unread}
-use Rattle.fd_archive.specs.Keeping.{EndsAfter}
-use Rattle.fd_archive.specs.Kept.{FaultKept, InputKept, RefusedKept, StandsFor, StarvedKept, UnreadKept, WholeKept, is_refusal}
-use Rattle.fd_archive.specs.Taking.{behind}
-use Rattle.fd_archive.specs.Telling.{OnDisk, OnFault, ToldFault, ToldHalt}
 use Rattle.fd_outcome.proofs.Leaving.{grows_none, stays}
 use Rattle.fd_schema.specs.Grammar as schemas
 use Rattle.fd_schema.specs.Reading.{IsFirst}
 use Rattle.fd_schema.specs.declared.fault.SchemaKind.{SchemaKind}
 use Rattle.fd_retrieve.specs.Stops.{ToldSome}
+use Rattle.fd_bulk.specs.declared.bulk.Bulk.{Bulk}
+use Rattle.fd_bulk.specs.declared.bulk.BulkFault.{BulkFault}
+use Rattle.fd_bulk.specs.declared.bulk.BulkFault.TheVariants as faults
+use Rattle.fd_bulk.specs.Archived.{HasRead, IsCause, IsFront, IsRead, OnDisk, OnInput, refusal_at}
+use Rattle.fd_sections.specs.declared.bad.Bad.{Bad}
+use Rattle.fd_sections.specs.declared.bad.Bad.TheVariants as bads
+use Rattle.fd_sections.specs.declared.refusal.BadAt.{BadAt}
+use Rattle.fd_sections.specs.Stream.{Bad_end}
+use Rattle.fd_outcome.specs.Inputs as inputs
+use Rattle.fd_outcome.specs.declared.refusal.Refusal.TheVariants as refusals
+use Rattle.fd_archive.specs.Kept.{InputKept, RefusedKept, UnreadKept, WholeKept}
+use Rattle.fd_archive.specs.Telling.{IsRefusalOf, ToldFault, ToldRefusal}
 use Rattle.fd_archive.proofs.Growing.{grows_front, grows_of}
 use Rattle.fd_archive.proofs.Told.{where_told}
 
-module _ (root : List ℕ) (given : List keys.Pair) (start now : Option Holdings) (sm sn : ℕ) (input : Object (List ℕ)) (a : Option (List ℕ)) (k : ℕ) (report : Object (List ℕ)) (result : Status) where
+module _ (root : List ℕ) (given : List keys.Pair) (workers : ℕ) (start now : Option Holdings) (sm sn : ℕ) (input : Object (List ℕ)) (a : Option (List ℕ)) (k : ℕ) (report : Object (List ℕ)) (result : Status) where
   abbrev C : Command
-  C = Archive root given
+  C = Archive root given workers
 
   abbrev Out : Type 0
   Out = Ran C result (object start now sm sn) input (object a a k k) report
@@ -127,220 +125,236 @@ module _ (root : List ℕ) (given : List keys.Pair) (start now : Option Holdings
   -- ---- once the store has rules
 
   module _ (rules : List Rule) (ruled : IfSome start (λ h. rules_of h.schema ≡ Ok rules)) (told_both : is_some now ≡ is_some start) where
-    pub leaves_by : (r : Status) → Where (λ octets h i. LeavesStored r quiet full rules given octets input.now h i) → LeavesIt r
+    pub leaves_by : (r : Status) → Where (λ octets h i. LeavesStored r quiet full workers rules given octets input.now h i) → LeavesIt r
     leaves_by r all = go start now input.before refl refl refl told_both ruled
       where
-        go : (s n : Option Holdings) (o : Option (List ℕ)) → start ≡ s → now ≡ n → input.before ≡ o → is_some n ≡ is_some s → IfSome s (λ h. rules_of h.schema ≡ Ok rules) → WhereTold s n (λ h j. IfSome o (λ octets. LeavesBy r quiet full (rules_of h.schema) given octets input.now h j))
+        go : (s n : Option Holdings) (o : Option (List ℕ)) → start ≡ s → now ≡ n → input.before ≡ o → is_some n ≡ is_some s → IfSome s (λ h. rules_of h.schema ≡ Ok rules) → WhereTold s n (λ h j. IfSome o (λ octets. LeavesBy r quiet full workers (rules_of h.schema) given octets input.now h j))
         go None None o e f g t q = tt
         go None (Some j) o e f g t q = absurd (true≢false t)
         go (Some h) None o e f g t q = absurd (true≢false (sym t))
         go (Some h) (Some j) None e f g t q = tt
-        go (Some h) (Some j) (Some octets) e f g t q = subst (λ x. LeavesBy r quiet full x given octets input.now h j) (sym q) (all octets h j g e f)
+        go (Some h) (Some j) (Some octets) e f g t q = subst (λ x. LeavesBy r quiet full workers x given octets input.now h j) (sym q) (all octets h j g e f)
 
-    either_leaves : (s : Status) (text : List ℕ) → ToldAs s text → (Takes report.before report.now text → Where (λ octets h i. LeavesStored s quiet full rules given octets input.now h i)) → Where (λ octets h i. quiet → Grows (pairs_for (taken rules given octets).stored) h i) → LeavesIt result
-    either_leaves s text told at grown = leaves_by result (λ octets h i x y z. elim told.told as (λ _. LeavesStored result quiet full rules given octets input.now h i) [
-      | inl w ↦ subst (λ q. LeavesStored q quiet full rules given octets input.now h i) (sym w.status) (at w.took octets h i x y z)
-      | inr w ↦ subst (λ q. LeavesStored q quiet full rules given octets input.now h i) (sym w.status) (grown octets h i x y z)
+    either_leaves : (s : Status) (text : List ℕ) → ToldAs s text → (Takes report.before report.now text → Where (λ octets h i. LeavesStored s quiet full workers rules given octets input.now h i)) → Where (λ octets h i. quiet → Grows workers (pairs_for (taken rules given octets).stored) h i) → LeavesIt result
+    either_leaves s text told at grown = leaves_by result (λ octets h i x y z. elim told.told as (λ _. LeavesStored result quiet full workers rules given octets input.now h i) [
+      | inl w ↦ subst (λ q. LeavesStored q quiet full workers rules given octets input.now h i) (sym w.status) (at w.took octets h i x y z)
+      | inr w ↦ subst (λ q. LeavesStored q quiet full workers rules given octets input.now h i) (sym w.status) (grown octets h i x y z)
     ])
 
     outcome_is : (octets : List ℕ) (h : Holdings) (names : List (List ℕ)) (o : Outcome) → start ≡ Some h → archived given (Ok rules) octets ≡ o → outcome C h names octets ≡ Some o
     outcome_is octets h names o e is = ap (λ r. Some (archived given r octets)) (at_some start (λ x. rules_of x.schema ≡ Ok rules) ruled h e) ∙ ap (λ x. Some x) is
 
     -- what was stored is a front of what is stored of the input
-    front_grows : (all : List Stored) → WhereTold start now (Grows (pairs_for all)) → IfSome input.before (λ octets. IsFront all (taken rules given octets)) → Where (λ octets h i. Grows (pairs_for (taken rules given octets).stored) h i)
+    front_grows : (all : List Stored) → WhereTold start now (Grows workers (pairs_for all)) → IfSome input.before (λ octets. IsFront all (taken rules given octets)) → Where (λ octets h i. Grows workers (pairs_for (taken rules given octets).stored) h i)
     front_grows all grows front octets h i x y z =
         let f = at_some input.before (λ o. IsFront all (taken rules given o)) front octets x in
-        subst (λ ss. Grows (pairs_for ss) h i) (sym f.1) (grows_front all f.0 h i (at_both (Grows (pairs_for all)) grows h i y z))
+        subst (λ ss. Grows workers (pairs_for ss) h i) (sym f.1) (grows_front workers all f.0 h i (at_both (Grows workers (pairs_for all)) grows h i y z))
 
     -- memory ran out
-    starved_ran : (all : List Stored) → WhereTold start now (Grows (pairs_for all)) → IfSome input.before (λ octets. IsFront all (taken rules given octets)) → ToldAs NoMemory no_memory → Out
+    starved_ran : (all : List Stored) → WhereTold start now (Grows workers (pairs_for all)) → IfSome input.before (λ octets. IsFront all (taken rules given octets)) → ToldAs NoMemory no_memory → Out
     starved_ran all grows front told =
         told_of NoMemory no_memory told refl refl (λ e. absurd (apart is_input_fault NoMemory InputFault refl refl e)) (λ e. absurd (apart is_disk_fault NoMemory DiskFault refl refl e)) (λ t. tt)
         (either_leaves NoMemory no_memory told (λ _. front_grows all grows front) (λ octets h i x y z q. front_grows all grows front octets h i x y z)) (never_whole _ NoMemory refl)
         (λ octets h i x y z names. stop_ends octets h i names NoMemory no_memory refl told)
 
     -- a call of the store failed
-    disk_ran : Rose sm sn → ToldAs DiskFault disk_failed → Out
-    disk_ran rose told =
+    disk_ran : (all : List Stored) → WhereTold start now (Grows workers (pairs_for all)) → IfSome input.before (λ octets. IsFront all (taken rules given octets)) → Rose sm sn → ToldAs DiskFault disk_failed → Out
+    disk_ran all grows front rose told =
         told_of DiskFault disk_failed told refl refl (λ e. absurd (apart is_input_fault DiskFault InputFault refl refl e)) (λ e. rose) (λ t. tt)
-        (either_leaves DiskFault disk_failed told (λ _ octets h i x y z q. absurd (q rose)) (λ octets h i x y z q. absurd (q rose))) (never_whole _ DiskFault refl)
+        (either_leaves DiskFault disk_failed told (λ _ octets h i x y z q. front_grows all grows front octets h i x y z) (λ octets h i x y z q. front_grows all grows front octets h i x y z)) (never_whole _ DiskFault refl)
         (λ octets h i x y z names. stop_ends octets h i names DiskFault disk_failed (tt, rose, refl) told)
 
-    module _ (D H : Type 0) (has : D → Option Contents) (kept : H → Option (FileName → Option (List ℕ))) where
-      -- a read failed
-      unread_ran : UnreadKept has kept rules given input.before input.now start now → Failed input → ToldAs InputFault input_failed → Out
-      unread_ran u rose told =
-          told_of InputFault input_failed told refl refl (λ e. rose) (λ e. absurd (apart is_disk_fault InputFault DiskFault refl refl e)) (λ t. tt)
-          (either_leaves InputFault input_failed told
-          (λ _ octets h i x y z. let r = read octets x in record {
-            seen = r.seen;
-            rest = r.rest;
-            input_is = r.octets_are;
-            left_is = r.left_is;
-            grows = subst (λ ss. GrowsBy (pairs_for ss) h i) (sym r.whole) (at_both (GrowsBy (pairs_for u.all)) u.grows h i y z);
-          })
-          (λ octets h i x y z q. let r = read octets x in subst (λ ss. Grows (pairs_for ss) h i) (sym r.stored_is) (grows_front u.all r.more h i (grows_of u.all h i (at_both (GrowsBy (pairs_for u.all)) u.grows h i y z)))))
-          (never_whole _ InputFault refl)
-          (λ octets h i x y z names. stop_ends octets h i names InputFault input_failed (rose, refl) told)
+    -- a read failed
+    unread_ran : UnreadKept workers rules given input.before input.now start now → Failed input → ToldAs InputFault input_failed → Out
+    unread_ran u rose told =
+        told_of InputFault input_failed told refl refl (λ e. rose) (λ e. absurd (apart is_disk_fault InputFault DiskFault refl refl e)) (λ t. tt)
+        (either_leaves InputFault input_failed told
+        (λ _ octets h i x y z. let r = read octets x in record {
+          seen = r.seen;
+          rest = r.rest;
+          input_is = r.octets_are;
+          left_is = r.left_is;
+          grows = subst (λ ss. GrowsBy workers (pairs_for ss) h i) (sym r.whole) (at_both (GrowsBy workers (pairs_for u.all)) u.grows h i y z);
+        })
+        (λ octets h i x y z q. let r = read octets x in subst (λ ss. Grows workers (pairs_for ss) h i) (sym r.front.1) (grows_front workers u.all r.front.0 h i (grows_of workers u.all h i (at_both (GrowsBy workers (pairs_for u.all)) u.grows h i y z)))))
+        (never_whole _ InputFault refl)
+        (λ octets h i x y z names. stop_ends octets h i names InputFault input_failed (rose, refl) told)
+      where
+        read : (octets : List ℕ) → input.before ≡ Some octets → HasRead rules given octets input.now u.all
+        read octets x = at_some input.before (λ o. HasRead rules given o input.now u.all) u.read octets x
+
+    -- all messages are stored
+    whole_grows : (bulk : Bulk) → (w : WholeKept workers rules given input.before input.now start now bulk) → Where (λ octets h i. GrowsBy workers (pairs_for (taken rules given octets).stored) h i)
+    whole_grows bulk w octets h i x y z = subst (λ t. GrowsBy workers (pairs_for t.stored) h i) (sym (at_some input.before (λ o. taken rules given o ≡ record { stored = w.all; refusal = None; junk = bulk.junk }) w.taken_is octets x)) (at_both (GrowsBy workers (pairs_for w.all)) w.grows h i y z)
+
+    abbrev counts_line : Bulk → List ℕ
+    counts_line bulk = line (codes "archived " ++ decimal bulk.fields ++ codes " datasets " ++ decimal bulk.datasets ++ codes " junk " ++ decimal bulk.junk)
+
+    pub whole_ran : (bulk : Bulk) → WholeKept workers rules given input.before input.now start now bulk → IfSome input.before (λ octets. input.now ≡ Some []) → IsCalm input
+        → ToldOrNoMemory Done (counts_line bulk) result report.before report.now report.faults_before report.faults_now → Out
+    whole_ran bulk w read calm told = elim told as (λ _. Out) [
+      | inl t ↦
+          told_of Done (counts_line bulk) t refl refl (λ e. absurd (apart is_input_fault Done InputFault refl refl e)) (λ e. absurd (apart is_disk_fault Done DiskFault refl refl e)) (λ _. (calm, refl))
+          (either_leaves Done (counts_line bulk) t (λ _. whole_grows bulk w) grown) (λ _. read)
+          (λ octets h i x y z names. line_ends octets h i names Done (counts_line bulk) tt (outcome_is octets h names _ y (is octets x)) t)
+      | inr t ↦ told_of NoMemory no_memory t refl refl (λ e. absurd (apart is_input_fault NoMemory InputFault refl refl e)) (λ e. absurd (apart is_disk_fault NoMemory DiskFault refl refl e)) (λ t. tt)
+          (either_leaves NoMemory no_memory t (λ _ octets h i x y z. grows_of workers (taken rules given octets).stored h i (whole_grows bulk w octets h i x y z)) grown) (never_whole _ NoMemory refl)
+          (λ octets h i x y z names. stop_ends octets h i names NoMemory no_memory refl t)
+    ]
+      where
+        grown : Where (λ octets h i. quiet → Grows workers (pairs_for (taken rules given octets).stored) h i)
+        grown octets h i x y z q = grows_of workers (taken rules given octets).stored h i (whole_grows bulk w octets h i x y z)
+
+        is : (octets : List ℕ) → input.before ≡ Some octets → archived given (Ok rules) octets ≡ record { output = []; report = counts_line bulk; status = Done }
+        is octets x =
+            ap (λ t. archive_ends t t.refusal) (at_some input.before (λ o. taken rules given o ≡ record { stored = w.all; refusal = None; junk = bulk.junk }) w.taken_is octets x)
+            ∙ ap (λ n. record { output = []; report = line (codes "archived " ++ decimal n ++ codes " datasets " ++ decimal (count_distinct (datasets_in w.all)) ++ codes " junk " ++ decimal bulk.junk); status = Done }) (sym w.fields)
+            ∙ ap (λ n. record { output = []; report = line (codes "archived " ++ decimal bulk.fields ++ codes " datasets " ++ decimal n ++ codes " junk " ++ decimal bulk.junk); status = Done }) (sym w.datasets)
+
+    -- ---- the input is refused, with what stands before it stored
+
+    cause_ran : (all : List Stored) → WhereTold start now (GrowsBy workers (pairs_for all)) → (s : Status) (text : List ℕ) → is_words s ≡ false → is_output_fault s ≡ false → is_input_fault s ≡ false → is_disk_fault s ≡ false → is_whole s ≡ false → CanTell s
+        → Calm C s input (object a a k k) report → ((octets : List ℕ) (h i : Holdings) → GrowsBy workers (pairs_for (taken rules given octets).stored) h i → LeavesStored s quiet full workers rules given octets input.now h i)
+        → ((octets : List ℕ) → input.before ≡ Some octets → ((taken rules given octets).stored ≡ all) × (archived given (Ok rules) octets ≡ record { output = []; report = text; status = s })) → ToldAs s text → Out
+    cause_ran all grows s text words output_no input_no disk_no whole can calm leaves says told =
+        told_of s text told words output_no (λ e. absurd (apart is_input_fault s InputFault input_no refl e)) (λ e. absurd (apart is_disk_fault s DiskFault disk_no refl e)) (λ _. calm)
+        (either_leaves s text told (λ _ octets h i x y z. leaves octets h i (grown octets h i x y z)) (λ octets h i x y z q. grows_of workers (taken rules given octets).stored h i (grown octets h i x y z))) (never_whole _ s whole)
+        (λ octets h i x y z names. line_ends octets h i names s text can (outcome_is octets h names _ y (says octets x).1) told)
+      where
+        grown : Where (λ octets h i. GrowsBy workers (pairs_for (taken rules given octets).stored) h i)
+        grown octets h i x y z = subst (λ ss. GrowsBy workers (pairs_for ss) h i) (sym (says octets x).0) (at_both (GrowsBy workers (pairs_for all)) grows h i y z)
+
+    module _ {X : Type 0} where
+      abbrev RefusedOf : BulkFault X → Type 0
+      RefusedOf fault = RefusedKept workers rules given input.before input.now start now fault
+
+      -- what is refused, and why
+      said : (fault : BulkFault X) (w : RefusedOf fault) (octets : List ℕ) → input.before ≡ Some octets → ((taken rules given octets).stored ≡ w.all) × ((c : Cause) × ((taken rules given octets).refusal ≡ Some c) × IsCause fault c)
+      said fault w octets x = at_some input.before (λ o. ((taken rules given o).stored ≡ w.all) × ((c : Cause) × ((taken rules given o).refusal ≡ Some c) × IsCause fault c)) w.refused octets x
+
+      starved_refused : (fault : BulkFault X) → RefusedOf fault → ToldAs NoMemory no_memory → Out
+      starved_refused fault w told = starved_ran w.all (where_told start now (GrowsBy workers (pairs_for w.all)) (Grows workers (pairs_for w.all)) (grows_of workers w.all) w.grows) (front input.before w.refused) told
         where
-          read : (octets : List ℕ) → input.before ≡ Some octets → HasRead has kept rules given octets input.now u.all
-          read octets x = at_some input.before (λ o. HasRead has kept rules given o input.now u.all) u.read octets x
+          front : (o : Option (List ℕ)) → IfSome o (λ octets. ((taken rules given octets).stored ≡ w.all) × ((c : Cause) × ((taken rules given octets).refusal ≡ Some c) × IsCause fault c)) → IfSome o (λ octets. IsFront w.all (taken rules given octets))
+          front None e = tt
+          front (Some octets) e = ([], e.0 ∙ sym (append-nil w.all))
 
-      -- all messages are stored
-      whole_grows : (counts : Counts) (datasets : ℕ) → (w : WholeKept has kept rules given input.before start now counts datasets) → Where (λ octets h i. GrowsBy (pairs_for (taken rules given octets).stored) h i)
-      whole_grows counts datasets w octets h i x y z = subst (λ t. GrowsBy (pairs_for t.stored) h i) (sym (at_some input.before (λ o. taken rules given o ≡ record { stored = w.all; refusal = None; junk = counts.junk }) w.taken_is octets x)) (at_both (GrowsBy (pairs_for w.all)) w.grows h i y z)
-
-      abbrev counts_line : Counts → ℕ → List ℕ
-      counts_line counts datasets = line (codes "archived " ++ decimal counts.messages ++ codes " datasets " ++ decimal datasets ++ codes " junk " ++ decimal counts.junk)
-
-      pub whole_ran : (counts : Counts) (datasets : ℕ) → WholeKept has kept rules given input.before start now counts datasets → IfSome input.before (λ octets. input.now ≡ Some []) → IsCalm input
-          → ToldOrNoMemory Done (counts_line counts datasets) result report.before report.now report.faults_before report.faults_now → Out
-      whole_ran counts datasets w read calm told = elim told as (λ _. Out) [
-        | inl t ↦
-            told_of Done (counts_line counts datasets) t refl refl (λ e. absurd (apart is_input_fault Done InputFault refl refl e)) (λ e. absurd (apart is_disk_fault Done DiskFault refl refl e)) (λ _. (calm, refl))
-            (either_leaves Done (counts_line counts datasets) t (λ _. whole_grows counts datasets w) grown) (λ _. read)
-            (λ octets h i x y z names. line_ends octets h i names Done (counts_line counts datasets) tt (outcome_is octets h names _ y (is octets x)) t)
-        | inr t ↦ told_of NoMemory no_memory t refl refl (λ e. absurd (apart is_input_fault NoMemory InputFault refl refl e)) (λ e. absurd (apart is_disk_fault NoMemory DiskFault refl refl e)) (λ t. tt)
-            (either_leaves NoMemory no_memory t (λ _ octets h i x y z. grows_of (taken rules given octets).stored h i (whole_grows counts datasets w octets h i x y z)) grown) (never_whole _ NoMemory refl)
-            (λ octets h i x y z names. stop_ends octets h i names NoMemory no_memory refl t)
-      ]
-        where
-          grown : Where (λ octets h i. quiet → Grows (pairs_for (taken rules given octets).stored) h i)
-          grown octets h i x y z q = grows_of (taken rules given octets).stored h i (whole_grows counts datasets w octets h i x y z)
-
-          is : (octets : List ℕ) → input.before ≡ Some octets → archived given (Ok rules) octets ≡ record { output = []; report = counts_line counts datasets; status = Done }
-          is octets x =
-              ap (λ t. archive_ends t t.refusal) (at_some input.before (λ o. taken rules given o ≡ record { stored = w.all; refusal = None; junk = counts.junk }) w.taken_is octets x)
-              ∙ ap (λ n. record { output = []; report = line (codes "archived " ++ decimal n ++ codes " datasets " ++ decimal (count_distinct (datasets_in w.all)) ++ codes " junk " ++ decimal counts.junk); status = Done }) (sym w.messages)
-              ∙ ap (λ n. record { output = []; report = line (codes "archived " ++ decimal counts.messages ++ codes " datasets " ++ decimal n ++ codes " junk " ++ decimal counts.junk); status = Done }) (sym w.datasets_are)
-
-      -- the input is refused, with what stands before it stored
-      cause_ran : (all : List Stored) → WhereTold start now (GrowsBy (pairs_for all)) → (s : Status) (text : List ℕ) → is_words s ≡ false → is_output_fault s ≡ false → is_input_fault s ≡ false → is_disk_fault s ≡ false → is_whole s ≡ false → CanTell s
-          → Calm C s input (object a a k k) report → ((octets : List ℕ) (h i : Holdings) → GrowsBy (pairs_for (taken rules given octets).stored) h i → LeavesStored s quiet full rules given octets input.now h i)
-          → ((octets : List ℕ) → input.before ≡ Some octets → ((taken rules given octets).stored ≡ all) × (archived given (Ok rules) octets ≡ record { output = []; report = text; status = s })) → ToldAs s text → Out
-      cause_ran all grows s text words output_no input_no disk_no whole can calm leaves says told =
-          told_of s text told words output_no (λ e. absurd (apart is_input_fault s InputFault input_no refl e)) (λ e. absurd (apart is_disk_fault s DiskFault disk_no refl e)) (λ _. calm)
-          (either_leaves s text told (λ _ octets h i x y z. leaves octets h i (grown octets h i x y z)) (λ octets h i x y z q. grows_of (taken rules given octets).stored h i (grown octets h i x y z))) (never_whole _ s whole)
-          (λ octets h i x y z names. line_ends octets h i names s text can (outcome_is octets h names _ y (says octets x).1) told)
-        where
-          grown : Where (λ octets h i. GrowsBy (pairs_for (taken rules given octets).stored) h i)
-          grown octets h i x y z = subst (λ ss. GrowsBy (pairs_for ss) h i) (sym (says octets x).0) (at_both (GrowsBy (pairs_for all)) grows h i y z)
-
-      -- where it ends for this cause
-      ended_so : (all : List Stored) (cause : Cause) (t rest : Taken) → t ≡ behind all rest → rest.stored ≡ [] → rest.refusal ≡ Some cause → (t.stored ≡ all) × (archive_ends t t.refusal ≡ refused cause)
-      ended_so all cause t rest is none some = (ap (λ x. x.stored) is ∙ ap (λ x. all ++ x) none ∙ append-nil all, ap (archive_ends t) (ap (λ x. x.refusal) is ∙ some))
-
-      starved_refused : {F : Type 0} (ended : Ended F) → RefusedKept has kept rules given input.before start now ended → ToldAs NoMemory no_memory → Out
-      starved_refused ended w told = starved_ran w.all (where_told start now (GrowsBy (pairs_for w.all)) (Grows (pairs_for w.all)) (grows_of w.all) w.grows)
-          (some_weaker input.before w.ends) told
-        where
-          some_weaker : (o : Option (List ℕ)) → IfSome o (λ octets. EndsAfter w.name ended w.all (taken rules given octets)) → IfSome o (λ octets. IsFront w.all (taken rules given octets))
-          some_weaker None e = tt
-          some_weaker (Some octets) e = (e.rest.stored, ap (λ x. x.stored) e.is)
-
-      stream_ran : {F : Type 0} (refusal : Refusal) → RefusedKept has kept rules given {F = F} input.before start now (ends.Refused refusal) → IsCalm input
-          → ToldAs (telling (causes.InStream refusal)).status (telling (causes.InStream refusal)).line → Out
-      stream_ran refusal w calm told =
+      stream_ran : (fault : BulkFault X) (refusal : Refusal) → ((c : Cause) → IsCause fault c → c ≡ causes.InStream refusal) → RefusedOf fault → IsCalm input → ToldAs (telling (causes.InStream refusal)).status (telling (causes.InStream refusal)).line → Out
+      stream_ran fault refusal only w calm told =
           let cause = causes.InStream refusal in
           cause_ran w.all w.grows (telling cause).status (telling cause).line (by_cause (λ s. is_words s ≡ false) refl refl refl cause) (by_cause (λ s. is_output_fault s ≡ false) refl refl refl cause)
           (by_cause (λ s. is_input_fault s ≡ false) refl refl refl cause) (by_cause (λ s. is_disk_fault s ≡ false) refl refl refl cause) (by_cause (λ s. is_whole s ≡ false) refl refl refl cause) (cause_told cause)
           (cause_calm C input (object a a k k) report (calm, refl) cause)
-          (λ octets h i g. by_cause (λ s. LeavesStored s quiet full rules given octets input.now h i) g (grows_of (taken rules given octets).stored h i g) (inl g) cause)
-          (λ octets x. let e = at_some input.before (λ o. EndsAfter w.name (ends.Refused refusal) w.all (taken rules given o)) w.ends octets x in ended_so w.all cause (taken rules given octets) e.rest e.is e.ends.0 e.ends.1)
+          (λ octets h i g. by_cause (λ s. LeavesStored s quiet full workers rules given octets input.now h i) g (grows_of workers (taken rules given octets).stored h i g) (inl g) cause)
+          (λ octets x. let e = said fault w octets x in (e.0, ap (archive_ends (taken rules given octets)) (e.1.1 ∙ ap (λ (c : Cause). Some c) (only e.1.0 e.1.2))))
           told
 
-      no_rule_ran : {F : Type 0} (text : String Global) → RefusedKept has kept rules given {F = F} input.before start now (ends.NoRule text) → IsCalm input
-          → ToldAs Refused (line (codes "refused NoRule " ++ string_bytes text)) → Out
-      no_rule_ran text w calm told =
+      refusal_ran : (fault : BulkFault X) (refusal : Refusal) → ((c : Cause) → IsCause fault c → c ≡ causes.InStream refusal) → RefusedOf fault → IsCalm input → ToldRefusal refusal result report.before report.now report.faults_before report.faults_now → Out
+      refusal_ran fault refusal only w calm told = elim told as (λ _. Out) [ inl t ↦ stream_ran fault refusal only w calm t | inr t ↦ starved_refused fault w t ]
+
+      no_rule_ran : (number : ℕ) (text : String Global) → RefusedOf (faults.NoRule number text) → IsCalm input → ToldAs Refused (line (codes "refused NoRule " ++ string_bytes text)) → Out
+      no_rule_ran number text w calm told =
           cause_ran w.all w.grows Refused (line (codes "refused NoRule " ++ string_bytes text)) refl refl refl refl refl tt (calm, refl) (λ octets h i g. g)
           (λ octets x.
-          let e = at_some input.before (λ o. EndsAfter w.name (ends.NoRule text) w.all (taken rules given o)) w.ends octets x in
-          let y = ended_so w.all (causes.NoRule e.ends.0) (taken rules given octets) e.rest e.is e.ends.1 e.ends.2 in
-          (y.0, y.1 ∙ ap (λ t. record { output = []; report = line (codes "refused NoRule " ++ t); status = Refused }) (sym e.ends.3)))
+          let e = said (faults.NoRule number text) w octets x in
+          let key = e.1.2.0 in
+          let is : (taken rules given octets).refusal ≡ Some (causes.NoRule key) = e.1.1 ∙ ap (λ (c : Cause). Some c) e.1.2.1 in
+          (e.0, ap (archive_ends (taken rules given octets)) is ∙ ap (λ t. record { output = []; report = line (codes "refused NoRule " ++ t); status = Refused }) (sym e.1.2.2)))
           told
 
-      too_many_ran : {F : Type 0} → RefusedKept has kept rules given {F = F} input.before start now ends.TooMany → IsCalm input → ToldAs (telling causes.TooManyDatasets).status (telling causes.TooManyDatasets).line → Out
-      too_many_ran w calm told =
+      too_many_ran : (count : ℕ) → RefusedOf (faults.TooMany count) → IsCalm input → ToldAs (telling causes.TooManyDatasets).status (telling causes.TooManyDatasets).line → Out
+      too_many_ran count w calm told =
           cause_ran w.all w.grows Limit (telling causes.TooManyDatasets).line refl refl refl refl refl tt (inl (calm, refl)) (λ octets h i g. inl g)
-          (λ octets x. let e = at_some input.before (λ o. EndsAfter w.name ends.TooMany w.all (taken rules given o)) w.ends octets x in ended_so w.all causes.TooManyDatasets (taken rules given octets) e.rest e.is e.ends.0 e.ends.1)
+          (λ octets x. let e = said (faults.TooMany count) w octets x in (e.0, ap (archive_ends (taken rules given octets)) (e.1.1 ∙ ap (λ (c : Cause). Some c) e.1.2.0)))
           told
 
-      -- ---- refusals of the store
+    -- ---- the store refuses
 
-      opens : (octets : List ℕ) (h : Holdings) (names : List (List ℕ)) (name : List ℕ) → start ≡ Some h → Contains (datasets_in (taken rules given octets).stored) name → Opens C h names octets name
-      opens octets h names name e among = subst (λ r. AmongTaken given r octets name) (sym (at_some start (λ x. rules_of x.schema ≡ Ok rules) ruled h e)) among
+    opens : (octets : List ℕ) (h : Holdings) (names : List (List ℕ)) (name : List ℕ) → start ≡ Some h → Contains (datasets_in (taken rules given octets).stored) name → Opens C h names octets name
+    opens octets h names name e among = subst (λ r. AmongTaken given r octets name) (sym (at_some start (λ x. rules_of x.schema ≡ Ok rules) ruled h e)) among
 
-      broken_ran : (all : List Stored) → WhereTold start now (Grows (pairs_for all)) → IfSome input.before (λ octets. IsFront all (taken rules given octets)) → (name : List ℕ) (broken : causes.Broken)
-          → IfSome start (λ s. Stands name (folder_at s name) broken) → IfSome input.before (λ octets. Contains (datasets_in (taken rules given octets).stored) name)
-          → ToldOrNoMemory Damaged (damaged_line name broken) result report.before report.now report.faults_before report.faults_now → Out
-      broken_ran all grows front name broken stands among told = elim told as (λ _. Out) [
-        | inl t ↦
-            told_of Damaged (damaged_line name broken) t refl refl (λ e. absurd (apart is_input_fault Damaged InputFault refl refl e)) (λ e. absurd (apart is_disk_fault Damaged DiskFault refl refl e)) (λ _. tt)
-            (either_leaves Damaged (damaged_line name broken) t (λ _. front_grows all grows front) (λ octets h i x y z q. front_grows all grows front octets h i x y z)) (never_whole _ Damaged refl)
-            (λ octets h i x y z names. stop_ends octets h i names Damaged (damaged_line name broken)
-            (name, broken, opens octets h names name y (at_some input.before (λ o. Contains (datasets_in (taken rules given o).stored) name) among octets x), at_some start (λ s. Stands name (folder_at s name) broken) stands h y, refl) t)
-        | inr t ↦ starved_ran all grows front t
-      ]
+    broken_ran : (all : List Stored) → WhereTold start now (Grows workers (pairs_for all)) → IfSome input.before (λ octets. IsFront all (taken rules given octets)) → (name : List ℕ) (broken : causes.Broken)
+        → IfSome start (λ s. Stands name (folder_at s name) broken) → IfSome input.before (λ octets. Contains (datasets_in (taken rules given octets).stored) name)
+        → ToldOrNoMemory Damaged (damaged_line name broken) result report.before report.now report.faults_before report.faults_now → Out
+    broken_ran all grows front name broken stands among told = elim told as (λ _. Out) [
+      | inl t ↦
+          told_of Damaged (damaged_line name broken) t refl refl (λ e. absurd (apart is_input_fault Damaged InputFault refl refl e)) (λ e. absurd (apart is_disk_fault Damaged DiskFault refl refl e)) (λ _. tt)
+          (either_leaves Damaged (damaged_line name broken) t (λ _. front_grows all grows front) (λ octets h i x y z q. front_grows all grows front octets h i x y z)) (never_whole _ Damaged refl)
+          (λ octets h i x y z names. stop_ends octets h i names Damaged (damaged_line name broken)
+          (name, broken, opens octets h names name y (at_some input.before (λ o. Contains (datasets_in (taken rules given o).stored) name) among octets x), at_some start (λ s. Stands name (folder_at s name) broken) stands h y, refl) t)
+      | inr t ↦ starved_ran all grows front t
+    ]
 
-      full_ran : (all : List Stored) → WhereTold start now (Grows (pairs_for all)) → IfSome input.before (λ octets. IsFront all (taken rules given octets)) → (name : List ℕ)
-          → IfSome now (λ t. IsFull t name) → IfSome input.before (λ octets. Contains (datasets_in (taken rules given octets).stored) name) → ToldAs Limit table_full → Out
-      full_ran all grows front name is_full among told =
-          told_of Limit table_full told refl refl (λ e. absurd (apart is_input_fault Limit InputFault refl refl e)) (λ e. absurd (apart is_disk_fault Limit DiskFault refl refl e)) (λ took. inr (tt, took))
-          (either_leaves Limit table_full told
-          (λ took octets h i x y z. inr (
-            took,
-            record {
-              name = name;
-              among = contains octets x;
-              full = at_some now (λ t. IsFull t name) is_full i z;
-              grows = front_grows all grows front octets h i x y z;
-            },
-          ))
-          (λ octets h i x y z q. front_grows all grows front octets h i x y z))
-          (never_whole _ Limit refl)
-          (λ octets h i x y z names. stop_ends octets h i names Limit table_full (tt, refl, (name, opens octets h names name y (contains octets x), at_some now (λ t. IsFull t name) is_full i z)) told)
-        where
-          contains : (octets : List ℕ) → input.before ≡ Some octets → Contains (datasets_in (taken rules given octets).stored) name
-          contains octets x = at_some input.before (λ o. Contains (datasets_in (taken rules given o).stored) name) among octets x
+    full_ran : (all : List Stored) → WhereTold start now (Grows workers (pairs_for all)) → IfSome input.before (λ octets. IsFront all (taken rules given octets)) → (name : List ℕ)
+        → IfSome now (λ t. IsFull t name) → IfSome input.before (λ octets. Contains (datasets_in (taken rules given octets).stored) name) → ToldAs Limit table_full → Out
+    full_ran all grows front name is_full among told =
+        told_of Limit table_full told refl refl (λ e. absurd (apart is_input_fault Limit InputFault refl refl e)) (λ e. absurd (apart is_disk_fault Limit DiskFault refl refl e)) (λ took. inr (tt, took))
+        (either_leaves Limit table_full told
+        (λ took octets h i x y z. inr (
+          took,
+          record {
+            name = name;
+            among = contains octets x;
+            full = at_some now (λ t. IsFull t name) is_full i z;
+            grows = front_grows all grows front octets h i x y z;
+          },
+        ))
+        (λ octets h i x y z q. front_grows all grows front octets h i x y z))
+        (never_whole _ Limit refl)
+        (λ octets h i x y z names. stop_ends octets h i names Limit table_full (tt, refl, (name, opens octets h names name y (contains octets x), at_some now (λ t. IsFull t name) is_full i z)) told)
+      where
+        contains : (octets : List ℕ) → input.before ≡ Some octets → Contains (datasets_in (taken rules given octets).stored) name
+        contains octets x = at_some input.before (λ o. Contains (datasets_in (taken rules given o).stored) name) among octets x
 
-      fault_ran : {F : Type 0} (fault : KeepFault F) → FaultKept has kept rules given input.before start now fault → OnFault fault (Rose sm sn) → ToldFault fault result report.before report.now report.faults_before report.faults_now → Out
-      fault_ran (refusals.Disk f) w rose told = disk_ran rose told
-      fault_ran (refusals.NotATable dataset at want found) w rose told =
-          broken_ran w.all w.stands.0 w.front w.name (causes.BadTable (record { at = at; want = want; found = found })) w.stands.2 w.among_them
-          (subst (λ n. ToldOrNoMemory Damaged (damaged_line n (causes.BadTable (record { at = at; want = want; found = found }))) result report.before report.now report.faults_before report.faults_now) w.stands.1 told)
-      fault_ran (refusals.Damaged dataset damage) w rose told =
-          broken_ran w.all w.stands.0 w.front w.name (causes.BadFile damage) w.stands.2 w.among_them
-          (subst (λ n. ToldOrNoMemory Damaged (damaged_line n (causes.BadFile damage)) result report.before report.now report.faults_before report.faults_now) w.stands.1 told)
-      fault_ran refusals.TableFull w rose told = full_ran w.all w.stands.0 w.front w.name w.stands.1 w.among_them told
-      fault_ran refusals.TooMany w rose told = starved_ran w.all w.stands w.front told
-      fault_ran refusals.NoMemory w rose told = starved_ran w.all w.stands w.front told
+    -- octets that are no message
+    bad_told : (n : ℕ) (bad : Bad) → inputs.refused false n (Bad_end bad) ≡ Some (refusal_at (n + 1) bad)
+    bad_told n (bads.Edition edition) = refl
+    bad_told n (bads.Length said found) = refl
+    bad_told n (bads.Section want found) = refl
+    bad_told n (bads.Short section len) = refl
+    bad_told n (bads.NoEnd at) = refl
+    bad_told n (bads.MultiField section) = refl
+    bad_told n (bads.TooLong len) = refl
+    bad_told n bads.NoStart = refl
+    bad_told n (bads.Over section said left) = refl
 
-      -- why not all is stored
-      pub halted_ran : {F : Type 0} (halt : Halt F) (datasets : ℕ) → InputKept has kept rules given input.before input.now start now (Err halt) datasets → (is_unread halt ≡ true → Failed input) → (is_refusal halt ≡ true → IsCalm input)
-          → OnDisk halt (Rose sm sn) → ToldHalt halt result report.before report.now report.faults_before report.faults_now → Out
-      halted_ran halts.Unread datasets w read calm rose told = unread_ran w (read refl) told
-      halted_ran (halts.Ended (ends.Refused refusal)) datasets w read calm rose told = elim told as (λ _. Out) [ inl t ↦ stream_ran refusal w (calm refl) t | inr t ↦ starved_refused (ends.Refused refusal) w t ]
-      halted_ran (halts.Ended (ends.NoRule text)) datasets w read calm rose told = elim told as (λ _. Out) [ inl t ↦ no_rule_ran text w (calm refl) t | inr t ↦ starved_refused (ends.NoRule text) w t ]
-      halted_ran (halts.Ended ends.TooMany) datasets w read calm rose told = too_many_ran w (calm refl) told
-      halted_ran (halts.Ended (ends.Store fault)) datasets w read calm rose told = fault_ran fault w rose told
-      halted_ran (halts.Ended ends.NoMemory) datasets w read calm rose told = starved_ran w.all w.grows w.front told
+    message_ran : {X : Type 0} (at : BadAt) → RefusedOf {X = X} (faults.Message at) → IsCalm input → (refusal : Refusal) → IsRefusalOf at refusal → ToldRefusal refusal result report.before report.now report.faults_before report.faults_now → Out
+    message_ran at w calm refusal of told =
+        let same : refusal_at (length w.all + 1) at.bad ≡ refusal = (let e = sym (bad_told (length w.all) at.bad) ∙ of false (length w.all) w.numbered in cc e) in
+        refusal_ran (faults.Message at) refusal (λ c is. is ∙ ap (λ (n : ℕ). causes.InStream (refusal_at n at.bad)) w.numbered ∙ ap causes.InStream same) w calm told
+
+    -- why not all is stored
+    pub halted_ran : {X : Type 0} (fault : BulkFault X) → InputKept workers rules given input.before input.now start now (Err fault) → IsRead (Err fault) (IsCalm input) → OnInput (Err fault) (Failed input)
+        → OnDisk (Err fault) (Rose sm sn) → ToldFault fault result report.before report.now report.faults_before report.faults_now → Out
+    halted_ran (faults.Input f) w calm read rose told = unread_ran w read told
+    halted_ran (faults.Message at) w calm read rose told = message_ran at w calm told.0 told.1 told.2
+    halted_ran (faults.Cut t) w calm read rose told = refusal_ran (faults.Cut t) (refusals.Cut t) (λ c is. is) w calm told
+    halted_ran (faults.Key number fault) w calm read rose told = refusal_ran (faults.Key number fault) (refusals.Key number fault) (λ c is. is) w calm told
+    halted_ran (faults.NoRule number text) w calm read rose told = elim told as (λ _. Out) [ inl t ↦ no_rule_ran number text w calm t | inr t ↦ starved_refused (faults.NoRule number text) w t ]
+    halted_ran faults.Disk w calm read rose told = disk_ran w.all w.grows w.front rose told
+    halted_ran (faults.NotATable dataset at want found) w calm read rose told = broken_ran w.all w.grows w.front (string_bytes dataset) (causes.BadTable (record { at = at; want = want; found = found })) w.stop.0 w.stop.1 told
+    halted_ran (faults.Damaged dataset damage) w calm read rose told = broken_ran w.all w.grows w.front (string_bytes dataset) (causes.BadFile damage) w.stop.0 w.stop.1 told
+    halted_ran (faults.TableFull count) w calm read rose told = full_ran w.all w.grows w.front w.stop.1.0 w.stop.1.1 w.stop.1.2 told
+    halted_ran (faults.TooMany count) w calm read rose told = too_many_ran count w calm told
+    halted_ran faults.InputLimit w calm read rose told = refusal_ran faults.InputLimit refusals.Input (λ c is. is) w calm told
+    halted_ran faults.NoMemory w calm read rose told = starved_ran w.all w.grows w.front told
 
 -- ---- where the store has no rules; nothing of it has changed
 
-module _ (root : List ℕ) (given : List keys.Pair) (has : Option Holdings) (sm sn : ℕ) (input : Object (List ℕ)) (a : Option (List ℕ)) (k : ℕ) (report : Object (List ℕ)) (result : Status) where
+module _ (root : List ℕ) (given : List keys.Pair) (workers : ℕ) (has : Option Holdings) (sm sn : ℕ) (input : Object (List ℕ)) (a : Option (List ℕ)) (k : ℕ) (report : Object (List ℕ)) (result : Status) where
   abbrev LeavesAs : Status → Result (List Rule) Cause → Holdings → List ℕ → Type 0
-  LeavesAs s rules h octets = LeavesBy s (quiet root given has has sm sn input a k report result) (full root given has has sm sn input a k report result) rules given octets input.now h h
+  LeavesAs s rules h octets = LeavesBy s (quiet root given workers has has sm sn input a k report result) (full root given workers has has sm sn input a k report result) workers rules given octets input.now h h
 
-  same_leaves : ((octets : List ℕ) (h : Holdings) → has ≡ Some h → LeavesAs result (rules_of h.schema) h octets) → LeavesIt root given has has sm sn input a k report result result
+  same_leaves : ((octets : List ℕ) (h : Holdings) → has ≡ Some h → LeavesAs result (rules_of h.schema) h octets) → LeavesIt root given workers has has sm sn input a k report result result
   same_leaves all = go has input.before refl
     where
-      go : (s : Option Holdings) (o : Option (List ℕ)) → has ≡ s → WhereTold s s (λ h j. IfSome o (λ octets. LeavesBy result (quiet root given has has sm sn input a k report result) (full root given has has sm sn input a k report result) (rules_of h.schema) given octets input.now h j))
+      go : (s : Option Holdings) (o : Option (List ℕ)) → has ≡ s → WhereTold s s (λ h j. IfSome o (λ octets. LeavesBy result (quiet root given workers has has sm sn input a k report result) (full root given workers has has sm sn input a k report result) workers (rules_of h.schema) given octets input.now h j))
       go None o e = tt
       go (Some h) None e = tt
       go (Some h) (Some octets) e = all octets h e
 
   abbrev OutSame : Type 0
-  OutSame = Out root given has has sm sn input a k report result
+  OutSame = Out root given workers has has sm sn input a k report result
 
   abbrev ToldSo : Status → List ℕ → Type 0
   ToldSo s text = Told s text result report.before report.now report.faults_before report.faults_now
@@ -348,9 +362,9 @@ module _ (root : List ℕ) (given : List keys.Pair) (has : Option Holdings) (sm 
   -- there is no schema
   pub missing_ran : IfSome has (λ h. h.schema ≡ None) → IsCalm input → ToldSo Refused (telling causes.SchemaMissing).line → OutSame
   missing_ran none calm told =
-      told_of root given has has sm sn input a k report result Refused (telling causes.SchemaMissing).line told refl refl (λ e. absurd (apart is_input_fault Refused InputFault refl refl e)) (λ e. absurd (apart is_disk_fault Refused DiskFault refl refl e)) (λ _. (calm, refl))
+      told_of root given workers has has sm sn input a k report result Refused (telling causes.SchemaMissing).line told refl refl (λ e. absurd (apart is_input_fault Refused InputFault refl refl e)) (λ e. absurd (apart is_disk_fault Refused DiskFault refl refl e)) (λ _. (calm, refl))
       (same_leaves (λ octets h e. subst (λ x. LeavesAs result x h octets) (sym (missing h e)) (stays h))) (never_whole _ Refused refl)
-      (λ octets h i x y z names. line_ends root given has has sm sn input a k report result octets h i names Refused (telling causes.SchemaMissing).line tt (ap (λ r. Some (archived given r octets)) (missing h y)) told)
+      (λ octets h i x y z names. line_ends root given workers has has sm sn input a k report result octets h i names Refused (telling causes.SchemaMissing).line tt (ap (λ r. Some (archived given r octets)) (missing h y)) told)
     where
       missing : (h : Holdings) → has ≡ Some h → rules_of h.schema ≡ Err causes.SchemaMissing
       missing h e = ap rules_of (subst (λ q. IfSome q (λ x. x.schema ≡ None)) e none)
@@ -358,20 +372,20 @@ module _ (root : List ℕ) (given : List keys.Pair) (has : Option Holdings) (sm 
   -- the schema couldn't be read
   pub unread_schema_ran : Rose sm sn → ToldSo DiskFault disk_failed → OutSame
   unread_schema_ran rose told =
-      told_of root given has has sm sn input a k report result DiskFault disk_failed told refl refl (λ e. absurd (apart is_input_fault DiskFault InputFault refl refl e)) (λ e. rose) (λ _. tt)
+      told_of root given workers has has sm sn input a k report result DiskFault disk_failed told refl refl (λ e. absurd (apart is_input_fault DiskFault InputFault refl refl e)) (λ e. rose) (λ _. tt)
       (same_leaves (λ octets h e. elim told.told as (λ _. LeavesAs result (rules_of h.schema) h octets) [
         | inl w ↦ subst (λ q. LeavesAs q (rules_of h.schema) h octets) (sym w.status) (idle_disk octets h (rules_of h.schema))
         | inr w ↦ subst (λ q. LeavesAs q (rules_of h.schema) h octets) (sym w.status) (idle_output octets h (rules_of h.schema))
       ]))
       (never_whole _ DiskFault refl)
-      (λ octets h i x y z names. stop_ends root given has has sm sn input a k report result octets h i names DiskFault disk_failed (tt, rose, refl) told)
+      (λ octets h i x y z names. stop_ends root given workers has has sm sn input a k report result octets h i names DiskFault disk_failed (tt, rose, refl) told)
     where
       idle_disk : (octets : List ℕ) (h : Holdings) (r : Result (List Rule) Cause) → LeavesAs DiskFault r h octets
-      idle_disk octets h (Ok rules) = λ q. grows_none _ h
+      idle_disk octets h (Ok rules) = λ q. grows_none workers _ h
       idle_disk octets h (Err cause) = stays h
 
       idle_output : (octets : List ℕ) (h : Holdings) (r : Result (List Rule) Cause) → LeavesAs OutputFault r h octets
-      idle_output octets h (Ok rules) = λ q. grows_none _ h
+      idle_output octets h (Ok rules) = λ q. grows_none workers _ h
       idle_output octets h (Err cause) = stays h
 
   -- the stored schema is damaged, or passes a limit
@@ -379,19 +393,19 @@ module _ (root : List ℕ) (given : List keys.Pair) (has : Option Holdings) (sm 
       → ((text : List ℕ) (fault : schemas.Fault) → IsFirst text line kind fault → ToldOrNoMemory (telling (causes.InStored text fault)).status (telling (causes.InStored text fault)).line result report.before report.now report.faults_before report.faults_now)
       → IfSome has (λ h. (text : List ℕ) × (fault : schemas.Fault) × (h.schema ≡ Some text) × IsFirst text line kind fault) → IsCalm input → OutSame
   schema_ran line kind (s, text, which, told) told_if says calm =
-      told_of root given has has sm sn input a k report result s text told
+      told_of root given workers has has sm sn input a k report result s text told
       (chosen s which (λ s. is_words s ≡ false) refl refl refl) (chosen s which (λ s. is_output_fault s ≡ false) refl refl refl)
       (chosen s which (λ s. s ≡ InputFault → Failed input) (λ e. absurd (apart is_input_fault Damaged InputFault refl refl e)) (λ e. absurd (apart is_input_fault Limit InputFault refl refl e)) (λ e. absurd (apart is_input_fault NoMemory InputFault refl refl e)))
       (chosen s which (λ s. s ≡ DiskFault → Rose sm sn) (λ e. absurd (apart is_disk_fault Damaged DiskFault refl refl e)) (λ e. absurd (apart is_disk_fault Limit DiskFault refl refl e)) (λ e. absurd (apart is_disk_fault NoMemory DiskFault refl refl e)))
-      (λ _. chosen s which (λ s. Calm (Archive root given) s input (object a a k k) report) tt (inl (calm, refl)) tt)
+      (λ _. chosen s which (λ s. Calm (Archive root given workers) s input (object a a k k) report) tt (inl (calm, refl)) tt)
       (same_leaves (λ octets h e. let x = said h e in subst (λ y. LeavesAs result y h octets) (sym x.2) (stays h)))
-      (chosen s which (λ s. ((s ≡ Done) ⊎ (s ≡ Missed)) → ReadsOut (Archive root given) input.before input.now) (never_whole _ Damaged refl) (never_whole _ Limit refl) (never_whole _ NoMemory refl))
+      (chosen s which (λ s. ((s ≡ Done) ⊎ (s ≡ Missed)) → ReadsOut (Archive root given workers) input.before input.now) (never_whole _ Damaged refl) (never_whole _ Limit refl) (never_whole _ NoMemory refl))
       (λ octets h i x y z names.
       let q = said h y in
       let cause = causes.InStored q.0 q.1 in
-      elim (told_if q.0 q.1 q.3) as (λ _. EndsAs root given has has sm sn input a k report result h i names octets) [
-        | inl t ↦ line_ends root given has has sm sn input a k report result octets h i names (telling cause).status (telling cause).line (cause_told cause) (ap (λ r. Some (archived given r octets)) q.2) t
-        | inr t ↦ stop_ends root given has has sm sn input a k report result octets h i names NoMemory no_memory refl t
+      elim (told_if q.0 q.1 q.3) as (λ _. EndsAs root given workers has has sm sn input a k report result h i names octets) [
+        | inl t ↦ line_ends root given workers has has sm sn input a k report result octets h i names (telling cause).status (telling cause).line (cause_told cause) (ap (λ r. Some (archived given r octets)) q.2) t
+        | inr t ↦ stop_ends root given workers has has sm sn input a k report result octets h i names NoMemory no_memory refl t
       ])
     where
       chosen : (s : Status) → (s ≡ Damaged) ⊎ ((s ≡ Limit) ⊎ (s ≡ NoMemory)) → (P : Status → Type 0) → P Damaged → P Limit → P NoMemory → P s

@@ -1,66 +1,269 @@
--- What the store holds once all was given back.
-use Rattle.std.proofs.Common.{◌≡◌, ◌⊎◌, inl, inr, ℕ, Bool, true, false, List, [], length, Option, Some, None, Result, Ok, Err, refl, sym, ap, subst, ◌∙◌}
-use Rattle.std.specs.Prelude.{IfErr, IfSome, OnOk}
+-- All is given back: what the store holds then.
+use Rattle.std.proofs.Common.{◌≡◌, ◌≢◌, ◌∙◌, ◌≤◌, inl, inr, ℕ, ◌+◌, ◌||◌, Bool, false, List, [], ◌∷◌, ◌++◌, All, Contains, length, map, Option, Some, None, IfSome, IsSome, is_some, unwrap_or, refl, sym, ap, subst, arith, append_assoc, length-append, if◌then◌else◌}
+use Rattle.std.specs.Prelude.{◌/◌, Result, Ok, Err}
+use mathlib.Core.List.{map-append}
+use Rattle.std.specs.Str.{bytes_eq}
+use Rattle.std.proofs.lemmas.List.{length-map}
+use Rattle.std.proofs.lemmas.List.Elements.{All-contains, All-head, All-push, All-tail, All-weaker}
+use Rattle.std.proofs.lemmas.Slice.Eq.{bytes_eq-Decides}
+use Rattle.fd_disk.specs.Folders.{Contents, Holdings, WhereTold, folder_at, no_contents}
 use Rattle.fd_disk.specs.declared.folders.FileName.{FileName}
-use Rattle.fd_disk.specs.Folders.{Contents, Holdings, WhereTold}
+use Rattle.fd_disk.proofs.NameLemmas.{is_or_not}
+use Rattle.fd_core.specs.declared.batch.Listing.{Listing}
+use Rattle.fd_core.specs.declared.batch.Pair as batches
+use Rattle.fd_core.specs.declared.table.Entry.{Entry}
+use Rattle.fd_segment.specs.Held.{batch_of}
+use Rattle.fd_dataset.specs.Listed.{entries_of}
+use Rattle.fd_recovery.specs.Recovered.{all_of, batches_listed, files_of, held, held_by}
+use Rattle.fd_library.specs.Open.{OpenDataset, Seated, among, names_of}
+use Rattle.fd_library.specs.Stores.{GivenBack, GivesBack, HasSeenAll, IsGivenBack, IsSettled, held_by_pass, held_in, held_of, held_with}
 use Rattle.fd_key.specs.Pairs.{Pair}
 use Rattle.fd_schema.specs.Rules.{Rule}
-use Rattle.fd_outcome.specs.Archiving.{Stored, datasets_in, pairs_for}
-use Rattle.fd_outcome.specs.Store.{Grows, GrowsBy, IsFull}
-use Rattle.fd_archive.specs.declared.archiving.Counts.{Counts}
-use Rattle.fd_archive.specs.declared.archiving.Halt.{Halt}
-use Rattle.fd_archive.specs.declared.archiving.Halt.TheVariants as halts
-use Rattle.fd_archive.specs.declared.fault.KeepFault.{KeepFault}
-use Rattle.fd_archive.specs.declared.fault.KeepFault.TheVariants as refusals
-use Rattle.fd_archive.specs.declared.storing.Ended.{Ended}
-use Rattle.fd_archive.specs.declared.storing.Ended.TheVariants as ends
-use Rattle.fd_archive.specs.Answers.{HasFull, Refuses}
-use Rattle.fd_archive.specs.Flushed.{InputListed, IsOr}
-use Rattle.fd_archive.specs.Inputs.{InputStored, is_unread}
-use Rattle.fd_archive.specs.Keeps.{Filling, Flushed, Keeping, Keeps, Met, Stage, Stopped}
-use Rattle.fd_archive.specs.Kept.{InputKept, StandsFor, is_refusal}
+use Rattle.fd_outcome.specs.Archiving.{Stored, pairs_for, taken}
+use Rattle.fd_outcome.specs.Store.{Adds, AddsAll, Grows, GrowsBy, HasOnly, IsFull, entries_in, if_listed}
+use Rattle.fd_outcome.proofs.Leaving.{grows_none}
+use Rattle.fd_bulk.specs.Adding.{AddsBy, IsHeldBy, IsOnlyOf}
+use Rattle.fd_bulk.specs.Archived as bulks
+use Rattle.fd_bulk.specs.Archived.{Archived, GrowsAll, IsBack, IsFront, IsSure, RefusedArchived, StoppedArchived}
+use Rattle.fd_bulk.specs.declared.bulk.Bulk.{Bulk}
+use Rattle.fd_bulk.specs.declared.bulk.BulkFault.{BulkFault}
+use Rattle.fd_bulk.specs.declared.bulk.BulkFault.TheVariants as faults
+use Rattle.fd_archive.specs.Crashing.{IsFirm}
+use Rattle.fd_archive.specs.Kept.{InputKept, IsStop, RefusedKept, StoppedKept}
+use Rattle.fd_archive.proofs.Adding.{adds_all_of, adds_of}
+use Rattle.fd_archive.proofs.Firm.{firm}
+use Rattle.fd_archive.proofs.Tables.{all_both, all_long, few_listed, whole_prefix}
+use Rattle.fd_archive.proofs.Told.{both_told, held_inside, through}
 
-module _ {D H : Type 0} (has : D → Option Contents) (kept : H → Option (FileName → Option (List ℕ))) (start before now : Option Holdings) (k : Keeping D H)
-    (grows : (all : List Stored) (stage : Stage) → Keeps has kept (λ i. stage) start before all k → WhereTold start now (Grows (pairs_for all)))
-    (grows_by : (all : List Stored) → Keeps has kept (λ i. Flushed) start before all k → Met (datasets_in all) k → WhereTold start now (GrowsBy (pairs_for all)))
-    (full : (all : List Stored) (stage : Stage) → Keeps has kept (λ i. stage) start before all k → (f : HasFull has kept k) → WhereTold before now (λ s t. IsFull t f.dataset.name)) where
-  full_now : (name other : List ℕ) → other ≡ name → (a b : Option Holdings) → WhereTold a b (λ s t. IsFull t other) → IfSome b (λ t. IsFull t name)
-  full_now name other e None None w = tt
-  full_now name other e None (Some t) w = absurd w
-  full_now name other e (Some s) None w = tt
-  full_now name other e (Some s) (Some t) w = subst (IsFull t) e w
+-- ---- one dataset
 
-  module _ (F : Type 0) where
-    stands_for : (name : List ℕ) (all : List Stored) (fault : KeepFault F) → Refuses has kept name start before all k fault → StandsFor name all start now fault
-    stands_for name all (refusals.Disk f) r = tt
-    stands_for name all (refusals.NotATable dataset at want found) r = (grows all Stopped r.0, r.1, r.2)
-    stands_for name all (refusals.Damaged dataset damage) r = (grows all Stopped r.0, r.1, r.2)
-    stands_for name all refusals.TableFull r = (grows all Stopped r.0, full_now name r.1.0.dataset.name r.1.1 before now (full all Stopped r.0 r.1.0))
-    stands_for name all refusals.TooMany r = grows all Filling r.0
-    stands_for name all refusals.NoMemory r = grows all Stopped r
+-- What an open dataset may have in doubt: each listing is of these pairs, and the files give its batch; one more is few.
+record CanDoubt (workers : ℕ) (pairs : List batches.Pair) (b : List (List batches.Pair)) (files : FileName → Option (List ℕ)) (p : Seated) : Type 0 where
+  seen : p.view.opening + p.view.amount ≡ length p.view.history
+  opening : length b ≡ p.view.opening
+  doubts : All (IsOnlyOf pairs) p.view.doubts
+  files_are : All (IsHeldBy files) p.view.doubts
+  few : p.view.doubts ≢ [] → p.view.amount + 1 ≤ workers + length pairs / 512
 
-    pub kept_so : (rules : List Rule) (given : List Pair) (left after : Option (List ℕ)) (result : Result Counts (Halt F)) (datasets : ℕ) → datasets ≡ length k.library.each
-        → InputListed has kept rules given left after start before k result → InputKept has kept rules given left after start now result datasets
-    kept_so rules given left after (Ok counts) datasets e i = record { all = i.all; grows = grows_by i.all i.keeps i.met; messages = i.count; datasets_are = e ∙ sym i.met.count; taken_is = i.taken_is }
-    kept_so rules given left after (Err halts.Unread) datasets e i = record { all = i.all; grows = grows_by i.all i.keeps i.met; read = i.read }
-    kept_so rules given left after (Err (halts.Ended (ends.Refused refusal))) datasets e i = record { name = i.name; all = i.all; grows = grows_by i.all i.keeps i.met; ends = i.ends }
-    kept_so rules given left after (Err (halts.Ended (ends.NoRule text))) datasets e i = record { name = i.name; all = i.all; grows = grows_by i.all i.keeps i.met; ends = i.ends }
-    kept_so rules given left after (Err (halts.Ended ends.TooMany)) datasets e i = record { name = i.name; all = i.all; grows = grows_by i.all i.keeps i.met; ends = i.ends }
-    kept_so rules given left after (Err (halts.Ended (ends.Store fault))) datasets e i = record { name = i.name; all = i.all; stands = stands_for i.name i.all fault i.refuses; front = i.front; among_them = i.among_them }
-    kept_so rules given left after (Err (halts.Ended ends.NoMemory)) datasets e i = record { all = i.all; grows = grows i.all Stopped i.keeps; front = i.front }
+module _ (workers : ℕ) (name : List ℕ) (pairs : List batches.Pair) (b : List (List batches.Pair)) (files : Contents) (p : Seated) (v : Contents) (back : GivenBack name (Some files) (Some p) v) (can : CanDoubt workers pairs b files.files p)
+    (adds : AddsBy workers pairs b (held_by_pass (Some files) (Some p))) where
+  abbrev batch_at : Entry → Option (List batches.Pair)
+  batch_at e = batch_of (files_of files.files e)
 
--- ---- what holds of what was found holds of what came in its place
+  entries_are : back.entries ≡ entries_of p.view.history
+  entries_are = whole_prefix (entries_of p.view.history) back.entries back.seen (back.count ∙ can.seen ∙ sym (length-map p.view.history (λ (l : Listing). l.entry)))
 
-pub by_or : {F : Type 0} (P : Result Counts (Halt F) → Type 0) (stored result : Result Counts (Halt F)) → IsOr stored result → P stored → ((fault : KeepFault F) → P (Err (halts.Ended (ends.Store fault)))) → P result
-by_or P stored result (inl same) p q = subst P (sym same) p
-by_or P stored result (inr x) p q = subst P (sym x.1) (q x.0)
+  held_as : (es : List Entry) → Rattle.fd_core.specs.Table.listed name back.table.reads ≡ Ok es → held name v ≡ all_of (map batch_at es)
+  held_as es lists = ap (λ (fs : FileName → Option (List ℕ)). held_by name fs v.table) back.files_are ∙ (ap (held_by name files.files) back.table_is ∙ ap (batches_listed files.files) lists)
 
-pub refused_quiet : {F : Type 0} (Q : Type 0) (stored : Result Counts (Halt F)) → IfErr stored (λ e. is_unread e ≡ false → Q) → IfErr stored (λ e. is_refusal e ≡ true → Q)
-refused_quiet Q (Ok counts) h = tt
-refused_quiet Q (Err halts.Unread) h = λ e. absurd cc
-refused_quiet Q (Err (halts.Ended ended)) h = λ e. h refl
+  -- the table lists also an entry that was in doubt
+  doubted : (l : Listing) → Contains p.view.doubts l → Rattle.fd_core.specs.Table.listed name back.table.reads ≡ Ok (back.entries ++ l.entry ∷ []) → Adds workers pairs b (held name v)
+  doubted l there lists =
+      let only = All-contains (IsOnlyOf pairs) p.view.doubts l can.doubts there in
+      let kept = All-contains (IsHeldBy files.files) p.view.doubts l can.files_are there in
+      let c : List batches.Pair = kept.0 in
+      let first : all_of (map batch_at back.entries) ≡ Some (b ++ adds.added) = ap (λ (es : List Entry). all_of (map batch_at es)) entries_are ∙ adds.after_is in
+      let last : all_of (batch_at l.entry ∷ []) ≡ Some (c ∷ []) = ap (λ (o : Option (List batches.Pair)). all_of (o ∷ [])) kept.2 in
+      let long = all_long (map batch_at (entries_of p.view.history)) (b ++ adds.added) adds.after_is in
+      let count = length-map (entries_of p.view.history) batch_at in
+      let listings = length-map p.view.history (λ (x : Listing). x.entry) in
+      let sum = length-append b adds.added in
+      let more = length-append adds.added (c ∷ []) in
+      let some : p.view.doubts ≢ [] = λ none. let e = ap length none in let lt = there.1 in absurd (omega (arith, lt, e)) in
+      let few = can.few some in
+      let seen = can.seen in
+      let opening = can.opening in
+      record {
+        added = adds.added ++ c ∷ [];
+        after_is =
+            held_as (back.entries ++ l.entry ∷ []) lists
+            ∙ ap all_of (map-append batch_at back.entries (l.entry ∷ []))
+            ∙ all_both (map batch_at back.entries) (batch_at l.entry ∷ []) (b ++ adds.added) (c ∷ []) first last
+            ∙ ap (λ (x : List (List batches.Pair)). Some x) (append_assoc b adds.added (c ∷ []));
+        only = All-push (HasOnly pairs) adds.added c adds.only (only c kept.1);
+        few = omega (arith, long, count, listings, sum, more, few, seen, opening);
+      }
 
--- that the input was read to its end
-pub ended_or : {F : Type 0} (Q : Type 0) (left : Option (List ℕ)) (stored result : Result Counts (Halt F)) → IsOr stored result → IfSome left (λ octets. OnOk stored Q) → IfSome left (λ octets. OnOk result Q)
-ended_or Q None stored result or h = tt
-ended_or Q (Some octets) stored result or h = by_or (λ r. OnOk r Q) stored result or h (λ fault. tt)
+  known_grown : Adds workers pairs b (held name v)
+  known_grown = elim (back.images back.table.reads back.reads) as (λ _. Adds workers pairs b (held name v)) [
+    | inl lists ↦ subst (Adds workers pairs b) (sym (held_as back.entries lists ∙ ap (λ (es : List Entry). all_of (map batch_at es)) entries_are)) (adds_of workers pairs b (held_by_pass (Some files) (Some p)) adds)
+    | inr d ↦ doubted d.0 d.1 d.2
+  ]
+
+back_grown : (workers : ℕ) (name : List ℕ) (pairs : List batches.Pair) (b : List (List batches.Pair)) (o : Option Contents) (p : Option Seated) (v : Contents) → GivenBack name o p v → IfSome o (λ files. IfSome p (CanDoubt workers pairs b files.files))
+    → AddsBy workers pairs b (held_by_pass o p) → Adds workers pairs b (held name v)
+back_grown workers name pairs b None p v back can adds = absurd back
+back_grown workers name pairs b (Some files) None v back can adds = absurd back
+back_grown workers name pairs b (Some files) (Some p) v back can adds = known_grown workers name pairs b files p v back can adds
+
+-- a table that was full is full
+full_back : (name : List ℕ) (o : Option Contents) (p : Option Seated) (v : Contents) → GivenBack name o p v → IfSome p (λ q. q.view.opening + q.view.amount ≡ length q.view.history) → IfSome p (λ q. length q.view.history ≡ 65535)
+    → (es : List Entry) × (entries_in name v.table ≡ Some es) × (length es ≡ 65535)
+full_back name None p v back seen full = absurd back
+full_back name (Some c) None v back seen full = absurd back
+full_back name (Some c) (Some p) v back seen full = elim (back.images back.table.reads back.reads) as (λ _. (es : List Entry) × (entries_in name v.table ≡ Some es) × (length es ≡ 65535)) [
+  | inl lists ↦ (back.entries, ap (entries_in name) back.table_is ∙ ap if_listed lists, back.count ∙ seen ∙ full)
+  | inr d ↦
+      absurd (
+      let few = few_listed name back.table.reads (back.entries ++ d.0.entry ∷ []) d.2 in
+      let long = length-append back.entries (d.0.entry ∷ []) in
+      let count = back.count in
+      omega (arith, few, long, count, seen, full)
+      )
+]
+
+-- ---- all datasets
+
+module _ {D : Type 0} (has : D → Option Contents) where
+  pub seated : (workers : ℕ) (all : List Stored) (each : List (OpenDataset D)) → All (IsBack has workers all) each → All (λ (h : OpenDataset D). IsSome h.pass) each
+  seated workers all each back = All-weaker (IsBack has workers all) (λ (h : OpenDataset D). IsSome h.pass) (λ h b. ap is_some b.pass_is) each back
+
+  pub none_out : (workers : ℕ) (all : List Stored) (each : List (OpenDataset D)) → All (IsBack has workers all) each → All (λ (h : OpenDataset D). h.lent ≡ 0) each
+  none_out workers all each back = All-weaker (IsBack has workers all) (λ (h : OpenDataset D). h.lent ≡ 0) (λ h b. b.none_out) each back
+
+  abbrev IsBackSure : ℕ → List Stored → OpenDataset D → Type 0
+  IsBackSure workers all h = IsBack has workers all h × IsSure has h
+
+  settled : (workers : ℕ) (all : List Stored) (each : List (OpenDataset D)) → All (IsBackSure workers all) each → All IsSettled each
+  settled workers all each back = All-weaker (IsBackSure workers all) IsSettled
+      (λ h b. subst (λ (o : Option Seated). IfSome o HasSeenAll) (sym b.0.pass_is) (record {
+        sure = subst (λ (o : Option Seated). IfSome o (λ p. p.view.doubts ≡ [])) b.0.pass_is b.1;
+        all = b.0.seen;
+      }))
+      each back
+
+  back_only : (workers : ℕ) (all : List Stored) (each : List (OpenDataset D)) → All (IsBackSure workers all) each → All (IsBack has workers all) each
+  back_only workers all each back = All-weaker (IsBackSure workers all) (IsBack has workers all) (λ h b. b.0) each back
+
+  -- ---- a dataset that holds batches of its pairs, and may have a listing in doubt
+
+  abbrev OpensAs : Holdings → OpenDataset D → Type 0
+  OpensAs s h = (b : List (List batches.Pair)) → held_of s h.name ≡ Some b → IfSome h.pass (λ p. length b ≡ p.view.opening)
+
+  module _ (workers : ℕ) (all : List Stored) (s t u : Holdings) (b : List (List batches.Pair)) where
+    can_doubt : (h : OpenDataset D) → IsBack has workers all h → IfSome h.pass (λ p. length b ≡ p.view.opening) → IfSome (has h.folder) (λ files. IfSome h.pass (CanDoubt workers (pairs_for all h.name) b files.files))
+    can_doubt h back opening = go (has h.folder) refl
+      where
+        go : (o : Option Contents) → has h.folder ≡ o → IfSome o (λ files. IfSome h.pass (CanDoubt workers (pairs_for all h.name) b files.files))
+        go None is = tt
+        go (Some files) is = subst (λ (q : Option Seated). IfSome q (CanDoubt workers (pairs_for all h.name) b files.files)) (sym back.pass_is) (record {
+          seen = back.seen;
+          opening = subst (λ (q : Option Seated). IfSome q (λ p. length b ≡ p.view.opening)) back.pass_is opening;
+          doubts = back.doubts;
+          files_are = All-weaker (λ l. IfSome (has h.folder) (λ w. IsHeldBy w.files l)) (IsHeldBy files.files) (λ l d. subst (λ (q : Option Contents). IfSome q (λ w. IsHeldBy w.files l)) is d) back.pass.view.doubts back.files;
+          few = back.few;
+        })
+
+    among_grown : (name : List ℕ) → held_of s name ≡ Some b → (hs : List (OpenDataset D)) → All (IsBack has workers all) hs → All (OpensAs s) hs → All (λ (h : OpenDataset D). IsGivenBack has h (folder_at u h.name)) hs → (among name (names_of hs) ≡ false → u.folders name ≡ t.folders name)
+        → AddsBy workers (pairs_for all name) b (held_with has hs t name) → Adds workers (pairs_for all name) b (held_of u name)
+    among_grown name is [] back openings given others adds = subst (Adds workers (pairs_for all name) b) (sym (ap (λ (o : Option Contents). held name (unwrap_or o no_contents)) (others refl))) (adds_of workers (pairs_for all name) b (held_of t name) adds)
+    among_grown name is (h ∷ hs) back openings given others adds = elim (is_or_not (bytes_eq name h.name)) as (λ _. Adds workers (pairs_for all name) b (held_of u name)) [
+      | inl same ↦
+          let one : name ≡ h.name = (bytes_eq-Decides name h.name).0 same in
+          let here : AddsBy workers (pairs_for all name) b (held_in has h) = subst (AddsBy workers (pairs_for all name) b) (held_inside has h hs t name same) adds in
+          let opening = All-head (OpensAs s) h hs openings b (ap (held_of s) (sym one) ∙ is) in
+          subst (λ (m : List ℕ). Adds workers (pairs_for all m) b (held_of u m)) (sym one)
+          (back_grown workers h.name (pairs_for all h.name) b (has h.folder) h.pass (folder_at u h.name) (All-head (λ (g : OpenDataset D). IsGivenBack has g (folder_at u g.name)) h hs given)
+          (can_doubt h (All-head (IsBack has workers all) h hs back) opening) (subst (λ (m : List ℕ). AddsBy workers (pairs_for all m) b (held_in has h)) one here))
+      | inr differs ↦
+          among_grown name is hs (All-tail (IsBack has workers all) h hs back) (All-tail (OpensAs s) h hs openings) (All-tail (λ (g : OpenDataset D). IsGivenBack has g (folder_at u g.name)) h hs given)
+          (λ out. others (ap (λ (x : Bool). x || among name (names_of hs)) differs ∙ out)) (subst (AddsBy workers (pairs_for all name) b) (ap (λ (x : Bool). if x then held_in has h else held_with has hs t name) differs) adds)
+    ]
+
+  module _ (workers : ℕ) (all : List Stored) (each : List (OpenDataset D)) (start now later : Option Holdings) (given : WhereTold now later (GivesBack has each)) where
+    abbrev HoldsWith : Holdings → Holdings → Type 0
+    HoldsWith s t = (n : List ℕ) → held_of t n ≡ held_with has each s n
+
+    all_grow : WhereTold start now (GrowsAll has workers all each) → All (IsBackSure workers all) each → (All IsSettled each → WhereTold now later HoldsWith) → WhereTold start later (GrowsBy workers (pairs_for all))
+    all_grow grows back kept =
+        through start now later (GrowsAll has workers all each) (λ s t. GivesBack has each s t × HoldsWith s t) (GrowsBy workers (pairs_for all)) grows
+        (both_told now later (GivesBack has each) HoldsWith (λ s t. GivesBack has each s t × HoldsWith s t) (λ s t p q. (p, q)) given (kept (settled workers all each back)))
+        (λ s t u g r. record {
+          schema = r.0.schema ∙ g.schema;
+          each = λ name b is. subst (AddsAll workers (pairs_for all name) b) (sym (r.1 name)) (adds_all_of workers (pairs_for all name) b (held_with has each t name) (g.each_is name b is));
+        })
+
+    some_grow : WhereTold start now (bulks.Grows has workers all each) → All (IsBack has workers all) each → WhereTold start later (Grows workers (pairs_for all))
+    some_grow grows back =
+        through start now later (bulks.Grows has workers all each) (GivesBack has each) (Grows workers (pairs_for all)) grows given
+        (λ s t u g r. record {
+          schema = r.schema ∙ g.schema;
+          each = λ name b is. among_grown workers all s t u b name is each back g.openings r.given (r.others name) (g.each_is name b is);
+        })
+
+  is_full : (workers : ℕ) (all : List Stored) (each : List (OpenDataset D)) (now later : Option Holdings) → WhereTold now later (GivesBack has each) → All (IsBack has workers all) each → (h : OpenDataset D) → Contains each h → IfSome h.pass (λ p. length p.view.history ≡ 65535)
+      → IfSome later (λ u. IsFull u h.name)
+  is_full workers all each None None given back h there full = tt
+  is_full workers all each None (Some u) given back h there full = absurd given
+  is_full workers all each (Some t) None given back h there full = tt
+  is_full workers all each (Some t) (Some u) given back h there full =
+      let one = All-contains (IsBack has workers all) each h back there in
+      full_back h.name (has h.folder) h.pass (folder_at u h.name) (All-contains (λ (g : OpenDataset D). IsGivenBack has g (folder_at u g.name)) each h given.given there)
+      (subst (λ (q : Option Seated). IfSome q (λ p. p.view.opening + p.view.amount ≡ length p.view.history)) (sym one.pass_is) one.seen) full
+
+  -- ---- what each answer says
+
+  module _ (workers : ℕ) (rules : List Rule) (pairs : List Pair) (left after : Option (List ℕ)) (start now : Option Holdings) (each : List (OpenDataset D)) where
+    abbrev pub SomeBack : Type 0
+    SomeBack = (all : List Stored) × All (IsBack has workers all) each
+
+    module _ {X : Type 0} where
+      refused_back : (fault : BulkFault X) → RefusedArchived has workers rules pairs left after start now each fault → SomeBack
+      refused_back fault w = (w.all, back_only workers w.all each w.back)
+
+      stopped_back : (fault : BulkFault X) → StoppedArchived has workers rules pairs left after start now each fault → SomeBack
+      stopped_back fault w = (w.all, w.back)
+
+      pub back_of : (r : Result Bulk (BulkFault X)) → Archived has workers rules pairs left after start now each r → SomeBack
+      back_of (Ok bulk) w = (w.all, back_only workers w.all each w.back)
+      back_of (Err (faults.Input f)) w = (w.all, back_only workers w.all each w.back)
+      back_of (Err (faults.Message at)) w = refused_back (faults.Message at) w
+      back_of (Err (faults.Cut t)) w = refused_back (faults.Cut t) w
+      back_of (Err (faults.Key number fault)) w = refused_back (faults.Key number fault) w
+      back_of (Err (faults.NoRule number text)) w = refused_back (faults.NoRule number text) w
+      back_of (Err faults.Disk) w = stopped_back faults.Disk w
+      back_of (Err (faults.NotATable dataset at want found)) w = stopped_back (faults.NotATable dataset at want found) w
+      back_of (Err (faults.Damaged dataset damage)) w = stopped_back (faults.Damaged dataset damage) w
+      back_of (Err (faults.TableFull count)) w = stopped_back (faults.TableFull count) w
+      back_of (Err (faults.TooMany count)) w = refused_back (faults.TooMany count) w
+      back_of (Err faults.InputLimit) w = refused_back faults.InputLimit w
+      back_of (Err faults.NoMemory) w = stopped_back faults.NoMemory w
+
+    module _ (later : Option Holdings) (given : WhereTold now later (GivesBack has each)) (kept : All IsSettled each → WhereTold now later (λ s t. (n : List ℕ) → held_of t n ≡ held_with has each s n)) where
+      firm_all : (all : List Stored) → WhereTold start now (GrowsAll has workers all each) → All (IsBackSure workers all) each → WhereTold start later (IsFirm workers all)
+      firm_all all grows back = firm has workers all each start now later grows (settled workers all each back) given
+
+      module _ {X : Type 0} where
+        refused_kept : (fault : BulkFault X) → RefusedArchived has workers rules pairs left after start now each fault → RefusedKept workers rules pairs left after start later fault
+        refused_kept fault w = record { all = w.all; grows = all_grow workers w.all each start now later given w.grows w.back kept; firm = firm_all w.all w.grows w.back; numbered = w.numbered; refused = w.refused }
+
+        stopped_kept : (fault : BulkFault X) → StoppedArchived has workers rules pairs left after start now each fault → IsStop workers rules pairs left after start later fault → StoppedKept workers rules pairs left after start later fault
+        stopped_kept fault w stop = record { all = w.all; grows = some_grow workers w.all each start now later given w.grows w.back; front = w.front; stop = stop }
+
+        pub kept_of : (r : Result Bulk (BulkFault X)) → Archived has workers rules pairs left after start now each r → InputKept workers rules pairs left after start later r
+        kept_of (Ok bulk) w = record { all = w.all; grows = all_grow workers w.all each start now later given w.grows w.back kept; firm = firm_all w.all w.grows w.back; fields = w.fields; datasets = w.datasets; taken_is = w.taken_is }
+        kept_of (Err (faults.Input f)) w = record { all = w.all; grows = all_grow workers w.all each start now later given w.grows w.back kept; firm = firm_all w.all w.grows w.back; read = w.read }
+        kept_of (Err (faults.Message at)) w = refused_kept (faults.Message at) w
+        kept_of (Err (faults.Cut t)) w = refused_kept (faults.Cut t) w
+        kept_of (Err (faults.Key number fault)) w = refused_kept (faults.Key number fault) w
+        kept_of (Err (faults.NoRule number text)) w = refused_kept (faults.NoRule number text) w
+        kept_of (Err faults.Disk) w = stopped_kept faults.Disk w tt
+        kept_of (Err (faults.NotATable dataset at want found)) w = stopped_kept (faults.NotATable dataset at want found) w w.stop
+        kept_of (Err (faults.Damaged dataset damage)) w = stopped_kept (faults.Damaged dataset damage) w w.stop
+        kept_of (Err (faults.TableFull count)) w = stopped_kept (faults.TableFull count) w (w.stop.0, (w.stop.1.0.name, is_full workers w.all each now later given w.back w.stop.1.0 w.stop.1.1 w.stop.1.2, w.stop.1.3))
+        kept_of (Err (faults.TooMany count)) w = refused_kept (faults.TooMany count) w
+        kept_of (Err faults.InputLimit) w = refused_kept faults.InputLimit w
+        kept_of (Err faults.NoMemory) w = stopped_kept faults.NoMemory w tt
+
+-- ---- nothing was stored
+
+same_grown : (workers : ℕ) (start : Option Holdings) → WhereTold start start (Grows workers (pairs_for []))
+same_grown workers None = tt
+same_grown workers (Some s) = grows_none workers (pairs_for []) s
+
+front_none : (rules : List Rule) (pairs : List Pair) (left : Option (List ℕ)) → IfSome left (λ octets. IsFront [] (taken rules pairs octets))
+front_none rules pairs None = tt
+front_none rules pairs (Some octets) = ((taken rules pairs octets).stored, refl)
+
+pub starved_kept : (X : Type 0) (workers : ℕ) (rules : List Rule) (pairs : List Pair) (left : Option (List ℕ)) (start : Option Holdings) → StoppedKept workers rules pairs left left start start {X = X} faults.NoMemory
+starved_kept X workers rules pairs left start = record { all = []; grows = same_grown workers start; front = front_none rules pairs left; stop = tt }

@@ -1,11 +1,10 @@
 -- What more pairs than those that were stored make of a dataset.
-use Rattle.std.proofs.Common.{◌≡◌, ◌≤◌, ℕ, ◌+◌, Bool, true, false, List, [], ◌∷◌, ◌++◌, All, length, Option, Some, refl, sym, ap, subst, ◌∙◌, arith, length-append, if◌then◌else◌}
-use Rattle.std.specs.Prelude.{◌/◌, Contains}
+use Rattle.std.proofs.Common.{◌≡◌, ◌≤◌, ℕ, Bool, true, false, List, [], ◌∷◌, ◌++◌, length, Option, refl, sym, ap, subst, arith, length-append, if◌then◌else◌}
 use Rattle.std.specs.Str.{bytes_eq}
 use Rattle.std.proofs.lemmas.List.Elements.{Contains-append_left}
-use Rattle.fd_disk.specs.Folders.{Holdings, WhereTold}
+use Rattle.fd_disk.specs.Folders.{Holdings}
 use Rattle.fd_core.specs.declared.batch.Pair.{Pair}
-use Rattle.fd_outcome.specs.Store.{Adds, AddsAll, Grows, GrowsBy, HasOnly, table_at}
+use Rattle.fd_outcome.specs.Store.{Adds, Grows, GrowsBy, table_at}
 use Rattle.fd_outcome.specs.Archiving.{Stored, pairs_for}
 
 if_both : (p : Pair) (xs ys zs : List Pair) → zs ≡ xs ++ ys → (b : Bool) → (if b then p ∷ zs else zs) ≡ (if b then p ∷ xs else xs) ++ ys
@@ -16,8 +15,8 @@ pairs_both : (all more : List Stored) (name : List ℕ) → pairs_for (all ++ mo
 pairs_both [] more name = refl
 pairs_both (s ∷ ss) more name = if_both s.pair (pairs_for ss name) (pairs_for more name) (pairs_for (ss ++ more) name) (pairs_both ss more name) (bytes_eq s.dataset name)
 
-adds_more : (pairs more : List Pair) (t : List (List Pair)) (after : Option (List (List Pair))) → Adds pairs t after → Adds (pairs ++ more) t after
-adds_more pairs more t after a =
+adds_more : (workers : ℕ) (pairs more : List Pair) (t : List (List Pair)) (after : Option (List (List Pair))) → Adds workers pairs t after → Adds workers (pairs ++ more) t after
+adds_more workers pairs more t after a =
     let few = a.few in
     let longer : length pairs ≤ length (pairs ++ more) = omega (arith, length-append pairs more) in
     record {
@@ -27,11 +26,11 @@ adds_more pairs more t after a =
       few = omega (arith, few, longer);
     }
 
-pub grows_front : (all more : List Stored) (h i : Holdings) → Grows (pairs_for all) h i → Grows (pairs_for (all ++ more)) h i
-grows_front all more h i g = record {
+pub grows_front : (workers : ℕ) (all more : List Stored) (h i : Holdings) → Grows workers (pairs_for all) h i → Grows workers (pairs_for (all ++ more)) h i
+grows_front workers all more h i g = record {
   schema = g.schema;
-  each = λ name t is. subst (λ (ps : List Pair). Adds ps t (table_at i name)) (sym (pairs_both all more name)) (adds_more (pairs_for all name) (pairs_for more name) t (table_at i name) (g.each name t is));
+  each = λ name t is. subst (λ (ps : List Pair). Adds workers ps t (table_at i name)) (sym (pairs_both all more name)) (adds_more workers (pairs_for all name) (pairs_for more name) t (table_at i name) (g.each name t is));
 }
 
-pub grows_of : (all : List Stored) (h i : Holdings) → GrowsBy (pairs_for all) h i → Grows (pairs_for all) h i
-grows_of all h i g = record { schema = g.schema; each = λ name t is. (g.each name t is).adds }
+pub grows_of : (workers : ℕ) (all : List Stored) (h i : Holdings) → GrowsBy workers (pairs_for all) h i → Grows workers (pairs_for all) h i
+grows_of workers all h i g = record { schema = g.schema; each = λ name t is. (g.each name t is).adds }

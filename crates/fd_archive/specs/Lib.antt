@@ -1,9 +1,3 @@
-pub mod Keeps
-pub mod Turns
-pub mod Answers
-pub mod Taking
-pub mod Keeping
-pub mod Inputs
-pub mod Flushed
-pub mod Telling
+pub mod Crashing
 pub mod Kept
+pub mod Telling

@@ -5,12 +5,12 @@ ghost use Rattle.fd_words.specs.declared.command.Command.TheVariants.{Archive};
 ghost use Rattle.fd_outcome.specs.Asking.{rules_of};
 ghost use Rattle.fd_outcome.specs.Objects.{object};
 ghost use Rattle.fd_outcome.specs.Ran.{Ran};
+ghost use Rattle.fd_archive.specs.Crashing.{OutlastsCrash};
 
-use crate::keeper::Keeper;
-use crate::telling::{tell_counts, tell_halt};
-use crate::whole::store_all;
+use crate::storing::store_all;
+use crate::telling::{tell_counts, tell_fault};
 use fd_disk::{Folder, Shelf, Store};
-use fd_io::{Sink, Source};
+use fd_io::{Gate, Sink, Source};
 use fd_key::Given;
 use fd_outcome::{Status, Unruled, stored_schema, tell, tell_disk_failed, tell_no_memory};
 use fd_retrieve::tell_schema;
@@ -18,26 +18,44 @@ use fd_schema::Schema;
 use fd_words::Root;
 use std::alloc::Global;
 use std::sync::Wait;
+use std::thread::Threads;
 
 /// Stores the messages of the input under their keys and the given pairs, each in the dataset that the store's schema says,
-/// and tells how many they were, or why the next one isn't stored. No folder of the store is out, and none is out
-/// afterwards. Before a refusal of the input or a failed read is told, all datasets are listed.
-pub fn archive<F: Send + Drop, X: Drop, S: Store<F>, I: Source<X>, E: Sink<X>, R: Wait>(
+/// by so many workers, and tells how many they were, or why the next one isn't stored. No folder of the store is out, and
+/// none is out afterwards. Before a refusal of the input or a failed read is told, all datasets are listed; a refusal that a
+/// worker meets there is told in its place.
+///
+/// What is told to be stored outlasts a crash: each store that it may leave has all these messages.
+pub fn archive<
+    F: Send + Drop,
+    X: Drop,
+    S: Store<F>,
+    I: Source<X>,
+    E: Sink<X>,
+    G: Gate,
+    R: Threads + Wait + Sync,
+>(
     rt: &R,
     alloc: Global,
     root: &Root,
     given: &Given,
+    workers: u32,
     store: &mut S,
     input: &mut I,
     report: &mut E,
+    gate: &G,
 ) -> Status
 where
     requires home { (name : List ℕ) → S.out store.old name ≡ false }
-    ensures ran { (a : Option (List ℕ)) (k : ℕ) → Ran (Archive root.now given.now) result (object (S.has store.old) (S.has store.new) (S.faults store.old) (S.faults store.new)) (object (I.left input.old) (I.left input.new) (I.faults input.old) (I.faults input.new)) (object a a k k) (object (E.taken report.old) (E.taken report.new) (E.faults report.old) (E.faults report.new)) }
+    requires workers { (1 ≤ workers) × (workers ≤ 8) }
+    ensures ran { (a : Option (List ℕ)) (k : ℕ) → Ran (Archive root.now given.now workers) result (object (S.has store.old) (S.has store.new) (S.faults store.old) (S.faults store.new)) (object (I.left input.old) (I.left input.new) (I.faults input.old) (I.faults input.new)) (object a a k k) (object (E.taken report.old) (E.taken report.new) (E.faults report.old) (E.faults report.new)) }
+    ensures outlasts { OutlastsCrash (Archive root.now given.now workers) result (object (S.has store.old) (S.has store.new) (S.faults store.old) (S.faults store.new)) (object (I.left input.old) (I.left input.new) (I.faults input.old) (I.faults input.new)) (object (E.taken report.old) (E.taken report.new) (E.faults report.old) (E.faults report.new)) }
     ensures home { (name : List ℕ) → S.out store.new name ≡ false }
 {
     match stored_schema(alloc, store, root.as_str()) {
-        Ok(schema) => archive_by(rt, alloc, &schema, given, store, input, report),
+        Ok(schema) => archive_by(
+            rt, alloc, &schema, given, workers, store, input, report, gate,
+        ),
         Err(Unruled::Disk(fault)) => {
             store.note(fault);
             tell_disk_failed(report)
@@ -49,28 +67,37 @@ where
 }
 
 /// The same, by the store's rules.
-fn archive_by<F: Send + Drop, X: Drop, S: Store<F>, I: Source<X>, E: Sink<X>, R: Wait>(
+fn archive_by<
+    F: Send + Drop,
+    X: Drop,
+    S: Store<F>,
+    I: Source<X>,
+    E: Sink<X>,
+    G: Gate,
+    R: Threads + Wait + Sync,
+>(
     rt: &R,
     alloc: Global,
     schema: &Schema,
     given: &Given,
+    workers: u32,
     store: &mut S,
     input: &mut I,
     report: &mut E,
+    gate: &G,
 ) -> Status
 where
     requires home { (name : List ℕ) → S.out store.old name ≡ false }
     requires schema { IsSchema schema.now }
+    requires workers { (1 ≤ workers) × (workers ≤ 8) }
     ensures ran { (root : List ℕ) (faults : ℕ) (a : Option (List ℕ)) (k : ℕ) → faults ≤ S.faults store.old → IfSome (S.has store.old) (λ h. rules_of h.schema ≡ Ok schema.now)
-        → Ran (Archive root given.now) result (object (S.has store.old) (S.has store.new) faults (S.faults store.new)) (object (I.left input.old) (I.left input.new) (I.faults input.old) (I.faults input.new)) (object a a k k) (object (E.taken report.old) (E.taken report.new) (E.faults report.old) (E.faults report.new)) }
+        → Ran (Archive root given.now workers) result (object (S.has store.old) (S.has store.new) faults (S.faults store.new)) (object (I.left input.old) (I.left input.new) (I.faults input.old) (I.faults input.new)) (object a a k k) (object (E.taken report.old) (E.taken report.new) (E.faults report.old) (E.faults report.new)) }
+    ensures outlasts { (root : List ℕ) → IfSome (S.has store.old) (λ h. rules_of h.schema ≡ Ok schema.now)
+        → OutlastsCrash (Archive root given.now workers) result (object (S.has store.old) (S.has store.new) (S.faults store.old) (S.faults store.new)) (object (I.left input.old) (I.left input.new) (I.faults input.old) (I.faults input.new)) (object (E.taken report.old) (E.taken report.new) (E.faults report.old) (E.faults report.new)) }
     ensures home { (name : List ℕ) → S.out store.new name ≡ false }
 {
-    let Ok(keeper) = Keeper::new(alloc) else {
-        return tell_no_memory(report);
-    };
-    let (found, datasets) = store_all(rt, alloc, schema, given, keeper, store, input);
-    match found {
-        Ok(counts) => tell_counts(alloc, report, counts, datasets),
-        Err(halt) => tell_halt(alloc, store, report, halt),
+    match store_all(rt, alloc, schema, given, workers, store, input, gate) {
+        Ok(bulk) => tell_counts(alloc, report, bulk),
+        Err(fault) => tell_fault(alloc, report, fault),
     }
 }

@@ -1,0 +1,29 @@
+use Rattle.fd_bytes.specs.Causes.{Rose}
+use Rattle.fd_archive.proofs.Giving.{back_of, kept_of, none_out, seated, starved_kept}
+use Rattle.fd_archive.proofs.Told.{on_disk, rose_before}
+use Rattle.fd_archive.proofs.storing.store_all.Goals as goal
+
+pub returns-in_default-clause-stored : goal.returns-in_default-clause-stored
+returns-in_default-clause-stored g c = starved_kept _ c.args.workers c.args.schema.now c.args.given.now (g.I.Source.left c.args.input.now) (g.S.Store.has c.args.store.now)
+
+pub end-requires-clause-seated : goal.end-requires-clause-seated
+end-requires-clause-seated g c κs within =
+    let back = back_of g.S.Folder.Folder.has c.args.workers c.args.schema.now c.args.given.now (g.I.Source.left c.args.input.now) (g.I.Source.left c.archive_all-found.new.input) (g.S.Store.has c.args.store.now) (g.S.Store.has c.archive_all-found.new.store) c.archive_all-found.new.opener.library.each c.archive_all-found.result c.archive_all-found.ensures.archived in
+    seated g.S.Folder.Folder.has c.args.workers back.0 c.archive_all-found.new.opener.library.each back.1
+
+pub end-requires-clause-none : goal.end-requires-clause-none
+end-requires-clause-none g c κs within =
+    let back = back_of g.S.Folder.Folder.has c.args.workers c.args.schema.now c.args.given.now (g.I.Source.left c.args.input.now) (g.I.Source.left c.archive_all-found.new.input) (g.S.Store.has c.args.store.now) (g.S.Store.has c.archive_all-found.new.store) c.archive_all-found.new.opener.library.each c.archive_all-found.result c.archive_all-found.ensures.archived in
+    none_out g.S.Folder.Folder.has c.args.workers back.0 c.archive_all-found.new.opener.library.each back.1
+
+pub returns-clause-stored : goal.returns-clause-stored
+returns-clause-stored g c =
+    kept_of g.S.Folder.Folder.has c.args.workers c.args.schema.now c.args.given.now (g.I.Source.left c.args.input.now) (g.I.Source.left c.archive_all-found.new.input) (g.S.Store.has c.args.store.now) (g.S.Store.has c.archive_all-found.new.store) c.archive_all-found.new.opener.library.each
+    (g.S.Store.has c.end.new.store) c.end.ensures.given c.end.ensures.kept c.archive_all-found.result c.archive_all-found.ensures.archived
+
+pub returns-clause-disk : goal.returns-clause-disk
+returns-clause-disk g c =
+    let first = g.S.Store.faults c.args.store.now in
+    let mid = g.S.Store.faults c.archive_all-found.new.store in
+    let last = g.S.Store.faults c.end.new.store in
+    on_disk c.archive_all-found.result (Rose first mid) (Rose first last) (rose_before first mid last c.end.ensures.later) c.archive_all-found.ensures.disk

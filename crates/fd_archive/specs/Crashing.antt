@@ -1,0 +1,78 @@
+-- What a crash leaves of a store in which messages were archived.
+use Rattle.std.specs.Prelude.{◌≡◌, ◌⊎◌, ◌++◌, ℕ, List, Option, Some, None, Contains, IfSome, Result, Ok, Err}
+use Rattle.fd_disk.specs.declared.file.File.{File}
+use Rattle.fd_disk.specs.declared.folders.FileName.{FileName}
+use Rattle.fd_io.specs.Streams.{Takes}
+use Rattle.fd_disk.specs.Folders.{Holdings, WhereTold, folder_at}
+use Rattle.fd_disk.specs.Images.{IsImage, firm_file}
+use Rattle.fd_core.specs.declared.batch.Pair.{Pair}
+use Rattle.fd_key.specs.Pairs as keys
+use Rattle.fd_schema.specs.Rules.{Rule}
+use Rattle.fd_outcome.specs.Causes.{Cause, table_full}
+use Rattle.fd_outcome.specs.Asking.{rules_of}
+use Rattle.fd_outcome.specs.Objects.{Object}
+use Rattle.fd_words.specs.declared.command.Command.{Command}
+use Rattle.fd_words.specs.declared.command.Command.TheVariants as commands
+use Rattle.fd_outcome.specs.Archiving.{Stored, datasets_in, pairs_for, taken, taken_of}
+use Rattle.fd_outcome.specs.Store.{AddsAll, Grows, table_at}
+use Rattle.fd_outcome.specs.declared.status.Status.{Status}
+use Rattle.fd_outcome.specs.declared.status.Status.TheVariants.{Done, Missed, Words, Refused, InputFault, OutputFault, DiskFault, NoMemory, Damaged, Limit}
+
+-- a crash leaves the bytes of one of the table's images, which are firm
+abbrev pub IsTableAfter : Option File → Option File → Type 0
+IsTableAfter None g = g ≡ None
+IsTableAfter (Some f) g = (c : List ℕ) × IsImage f c × (g ≡ Some (firm_file c))
+
+-- A crash of the one store may leave the other: the same schema, each folder's files, and an image of each table.
+pub record IsAfterCrash (i j : Holdings) : Type 0 where
+  pub schema : j.schema ≡ i.schema
+  pub files : (name : List ℕ) (n : FileName) → (folder_at j name).files n ≡ (folder_at i name).files n
+  pub tables : (name : List ℕ) → IsTableAfter (folder_at i name).table (folder_at j name).table
+
+-- These messages are whole in each store that a crash may leave: each dataset of them that was sound has all its pairs.
+pub record IsFirm (workers : ℕ) (all : List Stored) (h i : Holdings) : Type 0 where
+  pub each : (j : Holdings) → IsAfterCrash i j → (name : List ℕ) → Contains (datasets_in all) name → (t : List (List Pair)) → table_at h name ≡ Some t → AddsAll workers (pairs_for all name) t (table_at j name)
+
+-- the same of the messages that are whole in the octets before those that are left
+pub record IsFirmRead (workers : ℕ) (rules : List Rule) (given : List keys.Pair) (input : List ℕ) (left : Option (List ℕ)) (h i : Holdings) : Type 0 where
+  pub seen : List ℕ
+  pub rest : List ℕ
+  pub input_is : input ≡ seen ++ rest
+  pub left_is : left ≡ Some rest
+  pub firm : IsFirm workers (taken_of rules given seen) h i
+
+-- What outlasts a crash by the status: all that was archived, where that is told, or what stands before the refusal or the
+-- failed read that is told. `full` says that the line of a full table was told. At a fault of the store, or where no line
+-- could be told, each dataset has few batches more, of its pairs alone.
+abbrev pub Outlasts : Status → Type 0 → ℕ → List Rule → List keys.Pair → List ℕ → Option (List ℕ) → Holdings → Holdings → Type 0
+Outlasts Done full workers rules given input left h i = IsFirm workers (taken rules given input).stored h i
+Outlasts Missed full workers rules given input left h i = ⊥
+Outlasts Words full workers rules given input left h i = ⊥
+Outlasts Refused full workers rules given input left h i = IsFirm workers (taken rules given input).stored h i
+Outlasts InputFault full workers rules given input left h i = IsFirmRead workers rules given input left h i
+Outlasts OutputFault full workers rules given input left h i = Grows workers (pairs_for (taken rules given input).stored) h i
+Outlasts DiskFault full workers rules given input left h i = Grows workers (pairs_for (taken rules given input).stored) h i
+Outlasts NoMemory full workers rules given input left h i = Grows workers (pairs_for (taken rules given input).stored) h i
+Outlasts Damaged full workers rules given input left h i = Grows workers (pairs_for (taken rules given input).stored) h i
+Outlasts Limit full workers rules given input left h i = IsFirm workers (taken rules given input).stored h i ⊎ (full × Grows workers (pairs_for (taken rules given input).stored) h i)
+
+-- the same, where the store has rules
+abbrev pub OutlastsBy : Status → Type 0 → ℕ → Result (List Rule) Cause → List keys.Pair → List ℕ → Option (List ℕ) → Holdings → Holdings → Type 0
+OutlastsBy s full workers (Ok rules) given input left h i = Outlasts s full workers rules given input left h i
+OutlastsBy s full workers (Err cause) given input left h i = Unit {0}
+
+-- What outlasts a crash of what an archive stored, where its input and its store tell.
+abbrev pub OutlastsCrash : Command → Status → Object Holdings → Object (List ℕ) → Object (List ℕ) → Type 0
+OutlastsCrash (commands.Pick wanted) s store input report = Unit {0}
+OutlastsCrash commands.Describe s store input report = Unit {0}
+OutlastsCrash (commands.Values decimals) s store input report = Unit {0}
+OutlastsCrash (commands.Generate count) s store input report = Unit {0}
+OutlastsCrash (commands.Create root) s store input report = Unit {0}
+OutlastsCrash (commands.Archive root given workers) s store input report =
+    IfSome input.before (λ octets. WhereTold store.before store.now (λ h i. OutlastsBy s (Takes report.before report.now table_full) workers (rules_of h.schema) given octets input.now h i))
+OutlastsCrash (commands.Retrieve root workers) s store input report = Unit {0}
+OutlastsCrash (commands.List root) s store input report = Unit {0}
+OutlastsCrash (commands.Axes root) s store input report = Unit {0}
+OutlastsCrash (commands.Stats root) s store input report = Unit {0}
+OutlastsCrash (commands.Session root) s store input report = Unit {0}
+OutlastsCrash (commands.Trial root count workers) s store input report = Unit {0}
