@@ -1,0 +1,9 @@
+pub mod Making
+pub mod Placing
+pub mod Streaming
+pub mod Keeping
+pub mod Finding
+pub mod Giving
+pub mod TrialExits
+pub mod Stepping
+pub mod Stopping

@@ -1,0 +1,49 @@
+use Rattle.std.proofs.Common.{◌≡◌, ◌∙◌, ◌≤◌, ℕ, List, Option, Some, length, map, arith, subst, sym}
+use Rattle.std.specs.Prelude.{IfSome}
+use Rattle.fd_disk.specs.Folders.{WhereTold}
+use Rattle.std.proofs.lemmas.List.{length-map}
+use Rattle.fd_schema.specs.Reading.{seen_place}
+use Rattle.fd_outcome.specs.Store.{Stays, table_at}
+use Rattle.fd_outcome.specs.Trying.{tally_of}
+use Rattle.fd_retrieve.specs.Counting.{IsBrokenAmong, IsTally, finds}
+use Rattle.fd_retrieve.specs.Tables.{datasets_in}
+use Rattle.fd_retrieve.proofs.StopExits.{later_disk}
+use Rattle.fd_trial.specs.Placed.{ArePlaced}
+use Rattle.fd_trial.proofs.Stepping.{asked, begun, grown, says}
+use Rattle.fd_trial.proofs.Stopping.{asked_stop}
+use Rattle.fd_trial.proofs.TrialExits.{counted_ran, starved_ran}
+use Rattle.fd_trial.proofs.command.ask.Goals as goal
+
+pub returns-in_default-clause-ran : goal.returns-in_default-clause-ran
+returns-in_default-clause-ran g c = λ root start faults left l a k le begins.
+    let now = g.S.Store.has c.args.store.now in
+    starved_ran root c.args.count c.args.workers start now _ _ left l a k _ c.tell_no_memory.result c.args.schema.now
+    (grown c.args.count c.args.workers c.args.schema.now start now (begun c.args.count c.args.workers c.args.schema.now start now begins)) c.tell_no_memory.ensures
+
+pub returns-in-Ok-count_found-clause-ran : goal.returns-in-Ok-count_found-clause-ran
+returns-in-Ok-count_found-clause-ran g c = λ root start faults left l a k le begins.
+    let mid = g.S.Store.has c.args.store.now in
+    let now = g.S.Store.has c.count_found.new.store in
+    let rules = c.args.schema.now in
+    let places = c.in-Ok.places.items in
+    let placed = subst (λ given. ArePlaced rules given 0 (map seen_place places)) c.requires.given c.in-Ok.ensures.placed in
+    let long : length (map seen_place places) ≡ c.args.count = length-map places seen_place ∙ c.in-Ok.ensures.many in
+    counted_ran root c.args.count c.args.workers start now _ _ left l a k _ c.tell_counted.result rules begins.none _
+    (asked c.args.count c.args.workers rules start mid now begins c.count_found.ensures.stays)
+    (says c.args.count c.args.workers rules (map seen_place places) c.requires.count placed long begins.none start mid now c.in-Ok-count_found.counted begins
+    (subst (λ ps. IfSome mid (λ h. (xs : List (Option (List ℕ))) → finds (table_at h) (map seen_place ps) ≡ Some xs → IsTally c.in-Ok-count_found.counted (tally_of xs))) c.deref.ensures.value c.in-Ok-count_found.ensures.counted))
+    c.tell_counted.ensures
+
+pub returns-clause-ran : goal.returns-clause-ran
+returns-clause-ran g c = λ root start faults left l a k le begins.
+    let mid = g.S.Store.has c.args.store.now in
+    let now = g.S.Store.has c.tell_unfound.new.store in
+    let places = c.in-Ok.places.items in
+    let placed = subst (λ given. ArePlaced c.args.schema.now given 0 (map seen_place places)) c.requires.given c.in-Ok.ensures.placed in
+    let long : length (map seen_place places) ≡ c.args.count = length-map places seen_place ∙ c.in-Ok.ensures.many in
+    let stays = subst (λ n. WhereTold mid n Stays) (sym c.tell_unfound.ensures.has) c.count_found.ensures.stays in
+    let later : faults ≤ g.S.Store.faults c.count_found.new.store = omega (arith, le, c.count_found.ensures.later) in
+    asked_stop root c.args.count c.args.workers start mid now faults (g.S.Store.faults c.tell_unfound.new.store) left l a k _ c.tell_unfound.result c.args.schema.now
+    c.requires.count places placed long begins stays c.in-Err.stop c.tell_unfound.ensures.told c.in-Err.ensures.of
+    (subst (λ ps. IfSome mid (λ h. IsBrokenAmong c.in-Err.stop h (datasets_in ps))) c.deref.ensures.value c.in-Err.ensures.broken)
+    (later_disk c.in-Err.stop faults (g.S.Store.faults c.count_found.new.store) (g.S.Store.faults c.tell_unfound.new.store) later c.tell_unfound.ensures.noted)

@@ -1,0 +1,42 @@
+use Rattle.std.proofs.Common.{subst}
+use Rattle.fd_bytes.specs.Causes.{Rose}
+use Rattle.fd_disk.specs.Folders.{WhereTold}
+use Rattle.fd_words.specs.declared.command.Command.TheVariants.{Trial}
+use Rattle.fd_outcome.proofs.Starved.{starved}
+use Rattle.fd_trial.specs.Ruling.{IsLeft, IsUnruledIn, OnDisk}
+use Rattle.fd_trial.proofs.Stepping.{where_told}
+use Rattle.fd_trial.proofs.TrialExits.{different_ran, disk_early, schema_ran, starved_early}
+use Rattle.fd_trial.proofs.command.trial.Goals as goal
+
+pub returns-in_default-clause-ran : goal.returns-in_default-clause-ran
+returns-in_default-clause-ran g c = λ left l a k.
+    starved (Trial c.args.root.now c.args.count c.args.workers) c.tell_no_memory.result (g.S.Store.has c.args.store.now) (g.S.Store.faults c.args.store.now) (g.S.Store.faults c.args.store.now) left left l l a k k
+    (g.E.Sink.taken c.args.report.now) (g.E.Sink.taken c.tell_no_memory.new.report) (g.E.Sink.faults c.args.report.now) (g.E.Sink.faults c.tell_no_memory.new.report) c.tell_no_memory.ensures
+
+pub returns-in-Ok-ruled-clause-ran : goal.returns-in-Ok-ruled-clause-ran
+returns-in-Ok-ruled-clause-ran g c = λ left l a k.
+    c.trial_by.ensures.ran c.args.root.now (g.S.Store.has c.args.store.now) (g.S.Store.faults c.args.store.now) left l a k c.ruled.ensures.later c.in-Ok-ruled.ensures.rules
+
+pub returns-in-Err-Disk-clause-ran : goal.returns-in-Err-Disk-clause-ran
+returns-in-Err-Disk-clause-ran g c = λ left l a k.
+    let now = g.S.Store.has c.ruled.new.store in
+    disk_early c.args.root.now c.args.count c.args.workers (g.S.Store.has c.args.store.now) now _ _ left l a k _ c.tell_disk_failed.result
+    (where_told (g.S.Store.has c.args.store.now) now _ IsLeft (λ h i x. x.0) c.in-Err-Disk.ensures.unruled)
+    (subst (λ e. OnDisk e (Rose (g.S.Store.faults c.args.store.now) (g.S.Store.faults c.ruled.new.store))) c.in-Err-Disk.field-0-is c.in-Err-Disk.ensures.disk) c.tell_disk_failed.ensures
+
+pub returns-in-Err-Different-clause-ran : goal.returns-in-Err-Different-clause-ran
+returns-in-Err-Different-clause-ran g c = λ left l a k.
+    different_ran c.args.root.now c.args.count c.args.workers (g.S.Store.has c.args.store.now) (g.S.Store.has c.ruled.new.store) _ _ left l a k _ c.tell.result
+    (subst (λ e. WhereTold (g.S.Store.has c.args.store.now) (g.S.Store.has c.ruled.new.store) (λ h i. IsLeft h i × IsUnruledIn h e)) c.in-Err-Different.field-0-is c.in-Err-Different.ensures.unruled) c.tell.ensures
+
+pub returns-in-Err-At-clause-ran : goal.returns-in-Err-At-clause-ran
+returns-in-Err-At-clause-ran g c = λ left l a k.
+    schema_ran c.args.root.now c.args.count c.args.workers (g.S.Store.has c.args.store.now) (g.S.Store.has c.ruled.new.store) _ _ left l a k _ c.tell_schema.result
+    c.in-Err-At.line c.in-Err-At.kind c.tell_schema.ensures.some c.tell_schema.ensures.told
+    (subst (λ e. WhereTold (g.S.Store.has c.args.store.now) (g.S.Store.has c.ruled.new.store) (λ h i. IsLeft h i × IsUnruledIn h e)) c.in-Err-At.field-0-is c.in-Err-At.ensures.unruled)
+
+pub returns-clause-ran : goal.returns-clause-ran
+returns-clause-ran g c = λ left l a k.
+    let now = g.S.Store.has c.ruled.new.store in
+    starved_early c.args.root.now c.args.count c.args.workers (g.S.Store.has c.args.store.now) now _ _ left l a k _ c.tell_no_memory-in-Err-NoMemory.result
+    (where_told (g.S.Store.has c.args.store.now) now _ IsLeft (λ h i x. x.0) c.in-Err-NoMemory.ensures.unruled) c.tell_no_memory-in-Err-NoMemory.ensures

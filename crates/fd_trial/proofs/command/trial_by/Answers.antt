@@ -1,0 +1,28 @@
+use Rattle.std.proofs.Common.{◌≤◌, Some, Err, subst, arith}
+use Rattle.fd_bytes.specs.Causes.{Rose}
+use Rattle.fd_outcome.specs.Trying.{trial_given}
+use Rattle.fd_retrieve.proofs.RetrieveExits.{rose_later}
+use Rattle.fd_archive.specs.Kept.{InputKept, WholeKept}
+use Rattle.fd_trial.specs.Made.{made_left}
+use Rattle.fd_trial.proofs.Stopping.{kept_ran, kept_whole, on_disk}
+use Rattle.fd_trial.proofs.command.trial_by.Goals as goal
+
+pub returns-in-Ok-clause-ran : goal.returns-in-Ok-clause-ran
+returns-in-Ok-clause-ran g c = λ root start faults left l a k le planted.
+    let mid = g.S.Store.has c.args.store.now in
+    let now = g.S.Store.has c.store_all.new.store in
+    let later : faults ≤ g.S.Store.faults c.store_all.new.store = omega (arith, le, c.store_all.ensures.later) in
+    let w = subst (λ o. WholeKept c.args.workers c.args.schema.now trial_given (Some o) (Some (made_left c.store_all.new.input)) mid now c.in-Ok.field-0) c.new-messages.ensures.left
+    (subst (λ given. WholeKept c.args.workers c.args.schema.now given (Some (made_left c.new-messages.result)) (Some (made_left c.store_all.new.input)) mid now c.in-Ok.field-0) c.requires.given c.in-Ok.ensures.stored) in
+    c.ask.ensures.ran root start faults left l a k later
+    (kept_whole c.args.count c.args.workers c.args.schema.now start mid now c.in-Ok.field-0 (Some (made_left c.store_all.new.input)) planted w)
+
+pub returns-clause-ran : goal.returns-clause-ran
+returns-clause-ran g c = λ root start faults left l a k le planted.
+    let mid = g.S.Store.has c.args.store.now in
+    let now = g.S.Store.has c.store_all.new.store in
+    let after = Some (made_left c.store_all.new.input) in
+    let w = subst (λ o. InputKept c.args.workers c.args.schema.now trial_given (Some o) after mid now (Err c.in-Err.fault)) c.new-messages.ensures.left
+    (subst (λ given. InputKept c.args.workers c.args.schema.now given (Some (made_left c.new-messages.result)) after mid now (Err c.in-Err.fault)) c.requires.given c.in-Err.ensures.stored) in
+    kept_ran root c.args.count c.args.workers start mid now faults (g.S.Store.faults c.store_all.new.store) left l a k _ c.tell_unstored.result c.args.schema.now c.in-Err.fault after planted w c.tell_unstored.ensures
+    (on_disk c.in-Err.fault _ (Rose faults (g.S.Store.faults c.store_all.new.store)) (rose_later faults (g.S.Store.faults c.args.store.now) (g.S.Store.faults c.store_all.new.store) le) c.in-Err.ensures.disk)

@@ -1,0 +1,5 @@
+pub mod Made
+pub mod Placed
+pub mod Ruling
+pub mod Asking
+pub mod Telling
