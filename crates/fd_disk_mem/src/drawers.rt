@@ -1,10 +1,11 @@
 // The files that shelves kept, the newest first.
-ghost use Rattle.std.specs.Prelude.{◌≡◌, [], ◌∷◌, Bool, true, false, List, ℕ, Option, Some, None, OnOk, OnErr, IfOk, MatchOption, option_map};
+ghost use Rattle.std.specs.Prelude.{◌≡◌, if◌then◌else◌, [], ◌∷◌, Bool, true, false, List, ℕ, Option, Some, None, OnOk, OnErr, IfOk, MatchOption, option_map};
 ghost use Rattle.fd_disk.specs.Names.{same_name};
 ghost use Rattle.fd_disk_mem.specs.Drawers.{bytes_among, is_named, bytes_in};
 
 use fd_disk::{FileKind, FileName};
-use std::alloc::AllocError;
+use std::alloc::{AllocError, Global};
+use std::mem;
 
 /// A file that a shelf created, with its bytes where the shelf kept it.
 #[derive(Drop)]
@@ -50,6 +51,33 @@ pub(crate) fn put_both(files: &mut Vec<Kept>, first: Kept, second: Kept) -> Resu
     files.insert(0, first)?;
     files.insert(0, second)?;
     Ok(())
+}
+
+/// One file, with these bytes or none.
+pub(crate) fn drawer_of(
+    alloc: Global,
+    name: FileName,
+    bytes: Option<&[u8]>,
+) -> Result<Vec<Kept>, AllocError>
+    ensures named { IfOk result (λ v. (n : FileName) → is_named v.items n ≡ same_name name n) }
+    ensures bytes { IfOk result (λ v. (n : FileName) → same_name name n ≡ true → bytes_among v.items n ≡ option_map (λ b. b.now) bytes.entry) }
+{
+    let bytes = match bytes {
+        Some(bytes) => Some(bytes.to_vec(alloc)?),
+        None => None,
+    };
+    let mut files = Vec::new(alloc);
+    put(&mut files, Kept { name, bytes })?;
+    Ok(files)
+}
+
+/// Lays a drawer upon the others.
+pub(crate) fn lay(drawers: &mut Drawers, files: Vec<Kept>, place: Box<Drawers>)
+    ensures { (n : FileName) → bytes_in drawers.new n ≡ (if is_named files.items n then bytes_among files.items n else bytes_in drawers.old n) }
+{
+    let mut place = place;
+    *place = mem::replace(drawers, Drawers::Empty);
+    *drawers = Drawers::More(files, place);
 }
 
 /// The first file of this name.

@@ -1,5 +1,5 @@
 // A store in memory.
-ghost use Rattle.std.specs.Prelude.{◌≡◌, ◌≢◌, ◌≤◌, ◌⊎◌, ◌++◌, [], List, ℕ, true, false, nat_le, length, is_ok, option_map, string_bytes, unwrap_or, IfOk, IfErr, IfSome, OnOk, OnErr, None, Some};
+ghost use Rattle.std.specs.Prelude.{◌≡◌, ◌≢◌, ◌≤◌, ◌⊎◌, ◌++◌, [], List, ℕ, true, false, nat_le, length, is_ok, is_some, option_map, string_bytes, unwrap_or, IfOk, IfErr, IfSome, OnOk, OnErr, None, Some};
 ghost use Rattle.fd_disk.specs.Causes.{HasDownCause, OnNoMemory};
 ghost use Rattle.fd_disk.specs.Folders.{IsStoreImage, SameBut, WhereTold, folder_at, no_contents, planted};
 ghost use Rattle.fd_disk.specs.Outstanding.{IsLeftByPlant};
@@ -23,13 +23,13 @@ use std::mem;
 /// A store in memory. It tells everything, has one root, and can be made to fail and to crash.
 #[derive(Drop)]
 pub struct MemStore {
-    schema: Option<Vec<u8>>,
-    slots: Slots,
-    faults: u64,
+    pub(crate) schema: Option<Vec<u8>>,
+    pub(crate) slots: Slots,
+    pub(crate) faults: u64,
     /// The calls of the schema that are to fail.
-    plan: Plan,
-    plans: Plans,
-    room: Room,
+    pub(crate) plan: Plan,
+    pub(crate) plans: Plans,
+    pub(crate) room: Room,
 }
 
 impl MemStore {
@@ -188,6 +188,8 @@ impl Store<MemFault> for MemStore {
         ensures out { (other : List ℕ) → none_told other ≡ true → (none_told other ≡ true) × (other ≢ string_bytes folder.name) }
         ensures faults { self.old.faults ≤ self.new.faults }
         ensures same { (self.new.room ≡ self.old.room) × ((self.new.plan ≡ self.old.plan) × (self.new.plans ≡ self.old.plans)) }
+        ensures count { self.new.faults ≡ self.old.faults }
+        ensures here { is_some (folder_in self.new.slots (string_bytes folder.name)) ≡ true }
     {
         let MemFolder {
             name,
@@ -216,8 +218,8 @@ impl Store<MemFault> for MemStore {
 }
 
 impl MemStore {
-    // Takes a folder out, with the calls of its files that are planned to fail.
-    fn handed_out(&mut self, alloc: Global, name: &str) -> Result<MemFolder, AllocError>
+    /// Takes a folder out, with the calls of its files that are planned to fail.
+    pub(crate) fn handed_out(&mut self, alloc: Global, name: &str) -> Result<MemFolder, AllocError>
         ensures folder { IfOk result (λ d. (string_bytes d.name ≡ name.now) × ((d.table_out ≡ false) × (d.last_writer ≡ 0))) }
         ensures contents { IfOk result (λ d. contents_of d.table d.files ≡ unwrap_or (folder_in self.old.slots name.now) no_contents) }
         ensures others { OnOk result ((other : List ℕ) → other ≢ name.now → folder_in self.new.slots other ≡ folder_in self.old.slots other) }
@@ -226,7 +228,7 @@ impl MemStore {
         ensures plans { IfOk result (λ d. (file : List ℕ) → fails_of file d.plans.items.items ≡ fails_of file self.old.plans.items.items) }
         ensures fuse { IfOk result (λ d. d.plans.fuse.allowed ≡ self.old.plans.fuse.allowed) }
         ensures room { IfOk result (λ d. d.room ≡ self.old.room) }
-        ensures same { (self.new.schema ≡ self.old.schema) × ((self.new.faults ≡ self.old.faults) × (self.new.plans ≡ self.old.plans)) }
+        ensures same { (self.new.schema ≡ self.old.schema) × (self.new.faults ≡ self.old.faults) × (self.new.plans ≡ self.old.plans) × (self.new.plan ≡ self.old.plan) × (self.new.room ≡ self.old.room) }
     {
         let text = String::from_str(alloc, name)?;
         let place = Box::new(alloc, Slots::Empty)?;

@@ -4,6 +4,10 @@
 #[cfg(test)]
 mod finding;
 #[cfg(test)]
+mod full;
+#[cfg(test)]
 mod reopened;
 #[cfg(test)]
 mod retriever;
+#[cfg(test)]
+mod stopped;

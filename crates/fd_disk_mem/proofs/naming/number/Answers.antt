@@ -1,0 +1,9 @@
+use Rattle.std.proofs.Common.{arith}
+use Rattle.std.proofs.lemmas.Fmt.{parse-decimal}
+use Rattle.fd_disk_mem.proofs.naming.number.Goals as goal
+
+pub returns-in-Ok : goal.returns-in-Ok
+returns-in-Ok c = λ n small is. let read = parse-decimal 32 n c.args.text.now c.parse.result small (omega (arith, small)) is c.parse.ensures.value.0 in cc
+
+pub returns-in-Err : goal.returns-in-Err
+returns-in-Err c = λ n small is. let read = parse-decimal 32 n c.args.text.now c.parse.result small (omega (arith, small)) is c.parse.ensures.value.0 in cc
