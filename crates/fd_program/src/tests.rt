@@ -2,7 +2,9 @@
 ghost use Rattle.std.specs.Prelude.{◌≡◌, List, ℕ, false};
 
 mod crashes;
+mod damage;
 mod sessions;
+mod trials;
 
 use crate::Open;
 use crate::top::fdb;
@@ -668,6 +670,46 @@ fn filled<R: Abort + Threads + Wait + Sync>(rt: &R, alloc: Global) -> Result<Mem
     ];
     check_rows(rt, alloc, &mut store, &rows)?;
     Ok(store)
+}
+
+const ARCHIVE_BY_FOUR: [&str; 5] = [
+    "archive",
+    "s",
+    "--with",
+    "class=od,expver=0001",
+    "--workers=4",
+];
+
+/// Four workers, of which two store at the same time, store what one stores.
+#[test]
+fn four_workers_store_what_one_stores(rt: HostRuntime) -> Result<(), Fail> {
+    let alloc = rt.alloc();
+    let mut store = MemStore::new(alloc, 131_072, 2048)?;
+    check_rows(
+        &rt,
+        alloc,
+        &mut store,
+        &[told(&CREATE, SCHEMA, Status::Done, CREATED)],
+    )?;
+    let stream = generated_from(alloc, 0, 400)?;
+    let gate = Meeting {
+        come: AtomicU64::new(0),
+        waited: AtomicU64::new(0),
+    };
+    check_held(
+        &rt,
+        alloc,
+        &mut store,
+        &plain(&ARCHIVE_BY_FOUR, &stream, 100),
+        &gate,
+        Status::Done,
+        b"",
+        "archived 400 datasets 1 junk 0\n",
+    )?;
+    check_met(&rt, &gate);
+    let wanted = found_by_many(alloc)?;
+    let row = shown(&RETRIEVE, MANY, &wanted, "found 182 missed 0\n");
+    check_rows(&rt, alloc, &mut store, &[row])
 }
 
 /// What many keys find, in their order.

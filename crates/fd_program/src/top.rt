@@ -9,6 +9,7 @@ ghost use Rattle.fd_io.specs.Streams.{Takes};
 ghost use Rattle.fd_outcome.specs.Causes.{table_full};
 ghost use Rattle.fd_outcome.specs.Objects.{object};
 ghost use Rattle.fd_outcome.specs.Ran.{Ran};
+ghost use Rattle.fd_archive.specs.Crashing.{OutlastsCrash};
 ghost use Rattle.fd_session.specs.Sessions.{OfSession, SessionRan};
 
 use fd_archive::archive;
@@ -19,6 +20,7 @@ use fd_outcome::{Listing, Status, tell, tell_no_memory};
 use fd_retrieve::retrieve;
 use fd_session::session;
 use fd_streams::{create, generate, pick, write_list};
+use fd_trial::trial;
 use fd_words::{Command, read_command};
 use std::alloc::Global;
 use std::sync::Wait;
@@ -86,6 +88,9 @@ where
     // were listed, and what the store holds then.
     ensures session { IfSome (command_of (texts words.now)) (λ command. OfSession command (SessionRan F result (object (S.has store.old) (S.has store.new) (S.faults store.old) (S.faults store.new)) (object (I.left input.old) (I.left input.new) (I.faults input.old) (I.faults input.new)) (object (K.taken output.old) (K.taken output.new) (K.faults output.old) (K.faults output.new)) (object (E.taken report.old) (E.taken report.new) (E.faults report.old) (E.faults report.new)))) }
 
+    // What an archive tells to be stored outlasts a crash: each store that it may leave has it.
+    ensures outlasts { IfSome (command_of (texts words.now)) (λ command. OutlastsCrash command result (object (S.has store.old) (S.has store.new) (S.faults store.old) (S.faults store.new)) (object (I.left input.old) (I.left input.new) (I.faults input.old) (I.faults input.new)) (object (E.taken report.old) (E.taken report.new) (E.faults report.old) (E.faults report.new))) }
+
     // A fault is told only where a count rose.
     ensures input_fault { result ≡ Status.InputFault → Rose (I.faults input.old) (I.faults input.new) }
     ensures output_fault { result ≡ Status.OutputFault → Rose (K.faults output.old) (K.faults output.new) ⊎ Rose (E.faults report.old) (E.faults report.new) }
@@ -123,6 +128,7 @@ where
     requires within { IsWithinLimits command.now }
     ensures ran { Ran command.now result (object (S.has store.old) (S.has store.new) (S.faults store.old) (S.faults store.new)) (object (I.left input.old) (I.left input.new) (I.faults input.old) (I.faults input.new)) (object (K.taken output.old) (K.taken output.new) (K.faults output.old) (K.faults output.new)) (object (E.taken report.old) (E.taken report.new) (E.faults report.old) (E.faults report.new)) }
     ensures session { OfSession command.now (SessionRan F result (object (S.has store.old) (S.has store.new) (S.faults store.old) (S.faults store.new)) (object (I.left input.old) (I.left input.new) (I.faults input.old) (I.faults input.new)) (object (K.taken output.old) (K.taken output.new) (K.faults output.old) (K.faults output.new)) (object (E.taken report.old) (E.taken report.new) (E.faults report.old) (E.faults report.new))) }
+    ensures outlasts { OutlastsCrash command.now result (object (S.has store.old) (S.has store.new) (S.faults store.old) (S.faults store.new)) (object (I.left input.old) (I.left input.new) (I.faults input.old) (I.faults input.new)) (object (E.taken report.old) (E.taken report.new) (E.faults report.old) (E.faults report.new)) }
     ensures home { (name : List ℕ) → S.out store.new name ≡ false }
 {
     match command {
@@ -133,15 +139,20 @@ where
         }
         Command::Generate(count) => generate(alloc, *count, output, report),
         Command::Create(root) => create(alloc, root, store, input, report),
-        Command::Archive(root, given) => archive(rt, alloc, root, given, store, input, report),
+        Command::Archive(root, given, workers) => {
+            archive(rt, alloc, root, given, *workers, store, input, report, gate)
+        }
         Command::Retrieve(root, workers) => {
             retrieve(
                 rt, alloc, root, *workers, store, input, output, report, gate,
             )
         }
-        Command::List(root) => list(rt, alloc, root, store, input, output, report),
-        Command::Axes(root) => axes(rt, alloc, root, store, input, output, report),
-        Command::Stats(root) => stats(rt, alloc, root, store, output, report),
+        Command::List(root) => list(alloc, root, store, input, output, report),
+        Command::Axes(root) => axes(alloc, root, store, input, output, report),
+        Command::Stats(root) => stats(alloc, root, store, output, report),
         Command::Session(root) => session(rt, alloc, root, store, input, output, report, gate),
+        Command::Trial(root, count, workers) => {
+            trial(rt, alloc, root, *count, *workers, store, report, gate)
+        }
     }
 }

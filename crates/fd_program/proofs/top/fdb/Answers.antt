@@ -3,6 +3,7 @@ use Rattle.fd_words.specs.Texts.{texts}
 use Rattle.fd_words.specs.Words.{command_of}
 use Rattle.fd_outcome.specs.Objects.{object}
 use Rattle.fd_outcome.proofs.Completing.{asked_complete, unasked_ends, unasked_calm, starved_ends, starved_store, starved_calm, starved_complete}
+use Rattle.fd_archive.proofs.Outlasting.{starved_outlasts}
 use Rattle.fd_session.proofs.Commands.{starved_session}
 use Rattle.fd_program.proofs.top.fdb.Goals as goal
 
@@ -35,3 +36,12 @@ returns-in-Ok-None-clause-session g c = rw (sym c.in-Ok-None.ensures.command ∙
 
 pub returns-in-Err-clause-session : goal.returns-in-Err-clause-session
 returns-in-Err-clause-session g c = starved_session _ _ _ _ _ _ _ _ _ _ _ _ c.tell_no_memory.ensures (command_of (texts c.args.words.now))
+
+pub returns-in-Ok-Some-clause-outlasts : goal.returns-in-Ok-Some-clause-outlasts
+returns-in-Ok-Some-clause-outlasts g c = rw (sym c.in-Ok-Some.ensures.command ∙ c.in-Ok-Some.field-0-is) c.run.ensures.outlasts
+
+pub returns-in-Ok-None-clause-outlasts : goal.returns-in-Ok-None-clause-outlasts
+returns-in-Ok-None-clause-outlasts g c = rw (sym c.in-Ok-None.ensures.command ∙ c.in-Ok-None.field-0-is) tt
+
+pub returns-in-Err-clause-outlasts : goal.returns-in-Err-clause-outlasts
+returns-in-Err-clause-outlasts g c = starved_outlasts _ _ _ _ _ _ _ _ _ _ _ c.tell_no_memory.ensures (command_of (texts c.args.words.now))

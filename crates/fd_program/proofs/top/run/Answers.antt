@@ -34,6 +34,9 @@ returns-in-Axes-clause-ran g c = subst (λ command. Ran command c.axes.result (o
 pub returns-in-Stats-clause-ran : goal.returns-in-Stats-clause-ran
 returns-in-Stats-clause-ran g c = subst (λ command. Ran command c.stats.result (object (g.S.Store.has c.args.store.now) (g.S.Store.has c.stats.new.store) (g.S.Store.faults c.args.store.now) (g.S.Store.faults c.stats.new.store)) (object (g.I.Source.left c.args.input.now) (g.I.Source.left c.args.input.now) (g.I.Source.faults c.args.input.now) (g.I.Source.faults c.args.input.now)) (object (g.K.Sink.taken c.args.output.now) (g.K.Sink.taken c.stats.new.output) (g.K.Sink.faults c.args.output.now) (g.K.Sink.faults c.stats.new.output)) (object (g.E.Sink.taken c.args.report.now) (g.E.Sink.taken c.stats.new.report) (g.E.Sink.faults c.args.report.now) (g.E.Sink.faults c.stats.new.report))) (sym c.in-Stats.is) (c.stats.ensures.ran _ _)
 
+pub returns-in-Trial-clause-ran : goal.returns-in-Trial-clause-ran
+returns-in-Trial-clause-ran g c = subst (λ command. Ran command c.trial.result (object (g.S.Store.has c.args.store.now) (g.S.Store.has c.trial.new.store) (g.S.Store.faults c.args.store.now) (g.S.Store.faults c.trial.new.store)) (object (g.I.Source.left c.args.input.now) (g.I.Source.left c.args.input.now) (g.I.Source.faults c.args.input.now) (g.I.Source.faults c.args.input.now)) (object (g.K.Sink.taken c.args.output.now) (g.K.Sink.taken c.args.output.now) (g.K.Sink.faults c.args.output.now) (g.K.Sink.faults c.args.output.now)) (object (g.E.Sink.taken c.args.report.now) (g.E.Sink.taken c.trial.new.report) (g.E.Sink.faults c.args.report.now) (g.E.Sink.faults c.trial.new.report))) (sym c.in-Trial.is) (c.trial.ensures.ran _ _ _ _)
+
 pub returns-in-Session-clause-ran : goal.returns-in-Session-clause-ran
 returns-in-Session-clause-ran g c = subst (λ command. Ran command c.session.result (object (g.S.Store.has c.args.store.now) (g.S.Store.has c.session.new.store) (g.S.Store.faults c.args.store.now) (g.S.Store.faults c.session.new.store)) (object (g.I.Source.left c.args.input.now) (g.I.Source.left c.session.new.input) (g.I.Source.faults c.args.input.now) (g.I.Source.faults c.session.new.input)) (object (g.K.Sink.taken c.args.output.now) (g.K.Sink.taken c.session.new.output) (g.K.Sink.faults c.args.output.now) (g.K.Sink.faults c.session.new.output)) (object (g.E.Sink.taken c.args.report.now) (g.E.Sink.taken c.session.new.report) (g.E.Sink.faults c.args.report.now) (g.E.Sink.faults c.session.new.report))) (sym c.in-Session.is) (session_ran _ _ _ _ _ _ _ c.session.ensures.ran)
 
@@ -69,3 +72,42 @@ returns-in-Axes-clause-session g c = rw c.in-Axes.is tt
 
 pub returns-in-Stats-clause-session : goal.returns-in-Stats-clause-session
 returns-in-Stats-clause-session g c = rw c.in-Stats.is tt
+
+pub returns-in-Trial-clause-session : goal.returns-in-Trial-clause-session
+returns-in-Trial-clause-session g c = rw c.in-Trial.is tt
+
+pub returns-in-Archive-clause-outlasts : goal.returns-in-Archive-clause-outlasts
+returns-in-Archive-clause-outlasts g c = rw c.in-Archive.is c.archive.ensures.outlasts
+
+pub returns-in-Pick-clause-outlasts : goal.returns-in-Pick-clause-outlasts
+returns-in-Pick-clause-outlasts g c = rw c.in-Pick.is tt
+
+pub returns-in-Describe-clause-outlasts : goal.returns-in-Describe-clause-outlasts
+returns-in-Describe-clause-outlasts g c = rw c.in-Describe.is tt
+
+pub returns-in-Values-clause-outlasts : goal.returns-in-Values-clause-outlasts
+returns-in-Values-clause-outlasts g c = rw c.in-Values.is tt
+
+pub returns-in-Generate-clause-outlasts : goal.returns-in-Generate-clause-outlasts
+returns-in-Generate-clause-outlasts g c = rw c.in-Generate.is tt
+
+pub returns-in-Create-clause-outlasts : goal.returns-in-Create-clause-outlasts
+returns-in-Create-clause-outlasts g c = rw c.in-Create.is tt
+
+pub returns-in-Retrieve-clause-outlasts : goal.returns-in-Retrieve-clause-outlasts
+returns-in-Retrieve-clause-outlasts g c = rw c.in-Retrieve.is tt
+
+pub returns-in-List-clause-outlasts : goal.returns-in-List-clause-outlasts
+returns-in-List-clause-outlasts g c = rw c.in-List.is tt
+
+pub returns-in-Axes-clause-outlasts : goal.returns-in-Axes-clause-outlasts
+returns-in-Axes-clause-outlasts g c = rw c.in-Axes.is tt
+
+pub returns-in-Stats-clause-outlasts : goal.returns-in-Stats-clause-outlasts
+returns-in-Stats-clause-outlasts g c = rw c.in-Stats.is tt
+
+pub returns-in-Session-clause-outlasts : goal.returns-in-Session-clause-outlasts
+returns-in-Session-clause-outlasts g c = rw c.in-Session.is tt
+
+pub returns-in-Trial-clause-outlasts : goal.returns-in-Trial-clause-outlasts
+returns-in-Trial-clause-outlasts g c = rw c.in-Trial.is tt
