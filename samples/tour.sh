@@ -28,6 +28,8 @@ step "fdb stats STORE"
 "$fdb" stats "$store"
 step "(cat samples/script; fdb generate 2) | fdb session STORE > found.grib2"
 (cat "$here/script"; "$fdb" generate 2) | "$fdb" session "$store" > "$work/found.grib2"
+step "fdb trial STORE 400 --workers 4"
+"$fdb" trial "$store" 400 --workers 4
 step "fdb stats STORE"
 "$fdb" stats "$store"
 echo
