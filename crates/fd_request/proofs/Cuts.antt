@@ -1,57 +1,18 @@
--- Tokens and words, one after the other.
-use Rattle.std.proofs.Common.{◌≡◌, ℕ, ◌+◌, ◌<◌, ◌≤◌, true, false, cond, eqb, List, [], ◌∷◌, ◌++◌, length, drop, get_or, map, Option, Some, None, refl, sym, ap, ◌∙◌, append_assoc}
+-- Words, one after the other.
+use Rattle.std.proofs.Common.{◌≡◌, ℕ, ◌+◌, ◌<◌, ◌≤◌, true, false, List, [], ◌∷◌, ◌++◌, length, drop, get_or, map, Option, Some, None, refl, sym, ap, ◌∙◌, append_assoc}
 use Rattle.std.specs.Prelude.{is_some}
-use Rattle.std.proofs.lemmas.Bool.{cond-true, cond-false, eq-eqb, ne_eqb}
 use Rattle.std.proofs.lemmas.List.{at_drop_more, at_drop_all, append-nil, map_push}
-use Rattle.fd_schema.specs.declared.token.Token.{Token}
-use Rattle.fd_schema.specs.Tokens.{Part, views}
+use Rattle.fd_tokens.specs.Tokens.{Piece, Part}
 use Rattle.fd_request.specs.declared.word.Word as code_word
-use Rattle.fd_request.specs.Grammar.{Word, side_by_side, joined, behind_words, first_of_two, word_in, unless_behind, up_to_behind}
+use Rattle.fd_request.specs.Grammar.{Word, led, begun, behind_words, first_of_two, word_in, unless_behind, up_to_behind}
 use Rattle.fd_request.specs.Seen.{seen_word, seen_words}
-
--- ---- tokens side by side
-
-pub beside : (place : ℕ) (ts : List Token) (i : ℕ) (t : Token) → i < length ts → t ≡ get_or ts i t → t.at ≡ place
-    → side_by_side place (views (drop i ts)) ≡ 1 + side_by_side (t.at + length t.text.now) (views (drop (i + 1) ts))
-unfolding side_by_side
-beside place ts i t lt is here =
-    at_drop_more (λ (us : List Token). side_by_side place (views us)) ts i t lt
-    ∙ ap (λ (x : Token). cond (eqb x.at place) (1 + side_by_side (place + length x.text.now) (views (drop (i + 1) ts))) 0) (sym is)
-    ∙ cond-true (eqb t.at place) (1 + side_by_side (place + length t.text.now) (views (drop (i + 1) ts))) 0 (eq-eqb t.at place here)
-    ∙ ap (λ k. 1 + side_by_side (k + length t.text.now) (views (drop (i + 1) ts))) (sym here)
-
-pub apart : (place : ℕ) (ts : List Token) (i : ℕ) (t : Token) → i < length ts → t ≡ get_or ts i t → (t.at ≡ place → ⊥) → side_by_side place (views (drop i ts)) ≡ 0
-unfolding side_by_side
-apart place ts i t lt is there =
-    at_drop_more (λ (us : List Token). side_by_side place (views us)) ts i t lt
-    ∙ ap (λ (x : Token). cond (eqb x.at place) (1 + side_by_side (place + length x.text.now) (views (drop (i + 1) ts))) 0) (sym is)
-    ∙ cond-false (eqb t.at place) (1 + side_by_side (place + length t.text.now) (views (drop (i + 1) ts))) 0 (ne_eqb t.at place there)
-
-pub none_beside : (place : ℕ) (ts : List Token) (i : ℕ) → length ts ≤ i → side_by_side place (views (drop i ts)) ≡ 0
-unfolding side_by_side
-none_beside place ts i le = at_drop_all (λ (us : List Token). side_by_side place (views us)) ts i le
-
--- ---- their bytes
-
-pub one_joined : (out : List ℕ) (ts : List Token) (i : ℕ) (t : Token) → i < length ts → t ≡ get_or ts i t
-    → out ++ joined (views (drop i ts)) ≡ (out ++ t.text.now) ++ joined (views (drop (i + 1) ts))
-unfolding joined
-one_joined out ts i t lt is =
-    ap (λ (bs : List ℕ). out ++ bs) (at_drop_more (λ (us : List Token). joined (views us)) ts i t lt ∙ ap (λ (x : Token). x.text.now ++ joined (views (drop (i + 1) ts))) (sym is))
-    ∙ sym (append_assoc out t.text.now (joined (views (drop (i + 1) ts))))
-
-pub all_joined : (out : List ℕ) (ts : List Token) (i : ℕ) → length ts ≤ i → out ++ joined (views (drop i ts)) ≡ out
-unfolding joined
-all_joined out ts i le = ap (λ (bs : List ℕ). out ++ bs) (at_drop_all (λ (us : List Token). joined (views us)) ts i le) ∙ append-nil out
 
 -- ---- what stands behind words
 
-one_behind : (ws : List code_word.Word) (i : ℕ) (w : code_word.Word) → i < length ws → w ≡ get_or ws i w
-    → behind_words (seen_words (drop i ws)) ≡ first_of_two w.behind (behind_words (seen_words (drop (i + 1) ws)))
+one_behind : (ws : List code_word.Word) (i : ℕ) (d : code_word.Word) → i < length ws
+    → behind_words (seen_words (drop i ws)) ≡ first_of_two (get_or ws i d).behind (behind_words (seen_words (drop (i + 1) ws)))
 unfolding behind_words
-one_behind ws i w lt is =
-    at_drop_more (λ (us : List code_word.Word). behind_words (seen_words us)) ws i w lt
-    ∙ ap (λ (x : code_word.Word). first_of_two x.behind (behind_words (seen_words (drop (i + 1) ws)))) (sym is)
+one_behind ws i d lt = at_drop_more (λ (us : List code_word.Word). behind_words (seen_words us)) ws i d lt
 
 first_is : (o p : Option ℕ) → is_some o ≡ true → first_of_two o p ≡ o
 first_is None p h = absurd (cc)
@@ -61,17 +22,22 @@ second_is : (o p : Option ℕ) → is_some o ≡ false → first_of_two o p ≡ 
 second_is None p h = refl
 second_is (Some x) p h = absurd (cc)
 
-pub found_behind : (ws : List code_word.Word) (i : ℕ) (w : code_word.Word) → i < length ws → w ≡ get_or ws i w → is_some w.behind ≡ true → behind_words (seen_words (drop i ws)) ≡ w.behind
-found_behind ws i w lt is some = one_behind ws i w lt is ∙ first_is w.behind (behind_words (seen_words (drop (i + 1) ws))) some
+pub found_behind : (ws : List code_word.Word) (i : ℕ) (d : code_word.Word) → i < length ws → is_some (get_or ws i d).behind ≡ true → behind_words (seen_words (drop i ws)) ≡ (get_or ws i d).behind
+found_behind ws i d lt some = one_behind ws i d lt ∙ first_is (get_or ws i d).behind (behind_words (seen_words (drop (i + 1) ws))) some
 
-pub not_behind : (ws : List code_word.Word) (i : ℕ) (w : code_word.Word) → i < length ws → w ≡ get_or ws i w → is_some w.behind ≡ false → behind_words (seen_words (drop i ws)) ≡ behind_words (seen_words (drop (i + 1) ws))
-not_behind ws i w lt is none = one_behind ws i w lt is ∙ second_is w.behind (behind_words (seen_words (drop (i + 1) ws))) none
+pub not_behind : (ws : List code_word.Word) (i : ℕ) (d : code_word.Word) → i < length ws → is_some (get_or ws i d).behind ≡ false → behind_words (seen_words (drop i ws)) ≡ behind_words (seen_words (drop (i + 1) ws))
+not_behind ws i d lt none = one_behind ws i d lt ∙ second_is (get_or ws i d).behind (behind_words (seen_words (drop (i + 1) ws))) none
 
 pub none_behind : (ws : List code_word.Word) (i : ℕ) → length ws ≤ i → behind_words (seen_words (drop i ws)) ≡ None
 unfolding behind_words
 none_behind ws i le = at_drop_all (λ (us : List code_word.Word). behind_words (seen_words us)) ws i le
 
 -- ---- one more word
+
+-- what is left of a token begins the first part
+pub begun_first : (o : Option Piece) (p : Part) (ps qs : List Part) → qs ≡ p ∷ ps → begun o qs ≡ record { tokens = led o p.tokens; stop = p.stop } ∷ ps
+begun_first None p ps qs is = is
+begun_first (Some t) p ps qs is = ap (begun (Some t)) is
 
 all_after : (o : Option ℕ) (ws : List Word) → is_some o ≡ false → ws ≡ unless_behind o ws
 all_after None ws h = refl

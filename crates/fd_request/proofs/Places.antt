@@ -1,14 +1,14 @@
 -- The places that are named are those of the text, or its end.
-use Rattle.std.proofs.Common.{◌≡◌, ℕ, zero, suc, ◌+◌, ◌≤◌, Bool, true, false, cond, not, eqb, ltb, List, [], ◌∷◌, ◌++◌, length, take, drop, map, Option, Some, None, Result, Ok, Err, refl, subst, arith}
-use Rattle.std.specs.Prelude.{◌&&◌, IfSome}
+use Rattle.std.proofs.Common.{◌≡◌, ℕ, ◌+◌, ◌≤◌, Bool, true, false, cond, not, ltb, List, [], ◌∷◌, ◌++◌, length, take, drop, map, Option, Some, None, Result, Ok, Err, refl, subst, arith, length-drop}
+use Rattle.std.specs.Prelude.{IfSome}
 use Rattle.std.specs.List.{list_any, prefix_len}
 use Rattle.std.specs.Str.{bytes_eq}
 use Rattle.std.specs.Char.{to_ascii_lowercase}
-use Rattle.std.proofs.lemmas.Bool.{and_parts, eqb-true}
+use Rattle.std.proofs.lemmas.Bool.{ltb-true}
 use Rattle.std.proofs.lemmas.List.{length-map}
-use Rattle.std.proofs.lemmas.List.Sums.{prefix_len-le-length}
 use Rattle.fd_key.specs.Names.{is_name, is_name_byte, lower}
-use Rattle.fd_schema.specs.Tokens.{Piece, Part, onto, parts, is_token, is_word, is_blank, begins_word, glue, with_byte, tokens}
+use Rattle.fd_tokens.specs.Tokens.{Piece, Part, parts, tokens}
+use Rattle.fd_tokens.proofs.Places.{Ends, AllEnd, PartEnds, PartsEnd, tokens_end, parts_end}
 use Rattle.fd_schema.specs.Grammar.{spelled}
 use Rattle.fd_request.specs.declared.fault.Refusal.{Refusal}
 use Rattle.fd_request.specs.declared.fault.Refusal.TheVariants as refusals
@@ -16,7 +16,7 @@ use Rattle.fd_request.specs.Reading.{Fails}
 use Rattle.fd_request.specs.Requests.{IsPlace}
 use Rattle.fd_request.specs.Expansion.{Keyword}
 use Rattle.fd_request.specs.Ranges.{range_of}
-use Rattle.fd_request.specs.Grammar.{Fault, ◌>>=◌, wrong, Verb, Pair, Repeated, each_of, front_place, verb_of, Word, first_place, side_by_side, word_in, value_or, value_of, value_in, word_texts, is_range_word, first_of_two, behind_words, range_or, values_of, has_name, unless_behind, up_to_behind, words_of, behind_name, name_of, keyword_of, keyword_in, behind_verb, request_in, keywords_of}
+use Rattle.fd_request.specs.Grammar.{marks, Fault, ◌>>=◌, wrong, Verb, Pair, Repeated, each_of, front_place, verb_of, Word, first_place, past, led, word_of, word_in, value_or, value_of, value_in, word_texts, is_range_word, first_of_two, behind_words, range_or, values_of, has_name, unless_behind, up_to_behind, begun, words_of, begins, given, behind_name, name_of, keyword_of, keyword_in, behind_verb, request_in, keywords_of}
 
 -- what is wrong is wrong at most at this place
 abbrev pub Within : {A : Type 0} → ℕ → Result A Fault → Type 0
@@ -31,55 +31,6 @@ choice : {A : Type 0} (n : ℕ) (b : Bool) (x y : Result A Fault) → Within n x
 choice n true x y hx hy = hx
 choice n false x y hx hy = hy
 
--- a token ends at most at this place
-abbrev Ends : ℕ → Piece → Type 0
-Ends n t = t.at + length t.text ≤ n
-
-abbrev AllEnd : ℕ → List Piece → Type 0
-AllEnd n [] = Unit {0}
-AllEnd n (t ∷ ts) = Ends n t × AllEnd n ts
-
-glue_end : (n at b : ℕ) (ts : List Piece) → at + 1 ≤ n → AllEnd n ts → AllEnd n (glue at b ts)
-glue_end n at b [] le h = (omega arith, tt)
-glue_end n at b (t ∷ ts) le h = go (eqb t.at (at + 1) && begins_word t.text) refl
-  where
-    go : (c : Bool) → eqb t.at (at + 1) && begins_word t.text ≡ c → AllEnd n (cond c (record { at = at; text = b ∷ t.text } ∷ ts) (record { at = at; text = b ∷ [] } ∷ t ∷ ts))
-    go true e = let here = eqb-true t.at (at + 1) (and_parts (eqb t.at (at + 1)) (begins_word t.text) e).0 in (omega (arith, h.0), h.1)
-    go false e = (omega arith, (h.0, h.1))
-
-with_byte_end : (n at b : ℕ) (ts : List Piece) → at + 1 ≤ n → AllEnd n ts → AllEnd n (with_byte at b ts)
-with_byte_end n at b ts le h = go (is_word b) (is_blank b) (glue_end n at b ts le h)
-  where
-    go : (c d : Bool) → AllEnd n (glue at b ts) → AllEnd n (cond c (glue at b ts) (cond d ts (record { at = at; text = b ∷ [] } ∷ ts)))
-    go true d g = g
-    go false true g = h
-    go false false g = (omega arith, h)
-
-tokens_end : (n at : ℕ) (text : List ℕ) → at + length text ≤ n → AllEnd n (tokens at text)
-unfolding tokens
-tokens_end n at [] le = tt
-tokens_end n at (b ∷ bs) le = with_byte_end n at b (tokens (at + 1) bs) (omega arith) (tokens_end n (at + 1) bs (omega arith))
-
-abbrev PartEnds : ℕ → Part → Type 0
-PartEnds n p = AllEnd n p.tokens × Ends n p.stop
-
-abbrev PartsEnd : ℕ → List Part → Type 0
-PartsEnd n [] = Unit {0}
-PartsEnd n (p ∷ ps) = PartEnds n p × PartsEnd n ps
-
-onto_end : (n : ℕ) (t : Piece) (ps : List Part) → Ends n t → PartsEnd n ps → PartsEnd n (onto t ps)
-onto_end n t [] e h = tt
-onto_end n t (p ∷ ps) e h = (((e, h.0.0), h.0.1), h.1)
-
-parts_end : (n mark : ℕ) (stop : Piece) (ts : List Piece) → Ends n stop → AllEnd n ts → PartsEnd n (parts mark stop ts)
-unfolding parts
-parts_end n mark stop [] e h = ((tt, e), tt)
-parts_end n mark stop (t ∷ ts) e h = go (is_token mark t) (parts_end n mark stop ts e h.1)
-  where
-    go : (c : Bool) → PartsEnd n (parts mark stop ts) → PartsEnd n (cond c (record { tokens = []; stop = t } ∷ parts mark stop ts) (onto t (parts mark stop ts)))
-    go true g = ((tt, h.0), g)
-    go false g = onto_end n t (parts mark stop ts) h.0 g
-
 -- ---- words
 
 front_end : (n : ℕ) (stop : Piece) (ts : List Piece) → Ends n stop → AllEnd n ts → front_place stop ts ≤ n
@@ -93,10 +44,29 @@ first_end : (n : ℕ) (ts : List Piece) → AllEnd n ts → PlaceIn n (first_pla
 first_end n [] h = tt
 first_end n (t ∷ ts) h = omega (arith, h.0)
 
-drop_end : (n k : ℕ) (ts : List Piece) → AllEnd n ts → AllEnd n (drop k ts)
-drop_end n zero ts h = h
-drop_end n (suc k) [] h = tt
-drop_end n (suc k) (t ∷ ts) h = drop_end n k ts h.1
+-- what is left of a token ends where it does
+left_end : (n k : ℕ) (t : Piece) (ts : List Piece) → Ends n t → AllEnd n ts → AllEnd n (led (past k t) ts)
+left_end n k t ts e h = go (ltb k (length t.text)) refl
+  where
+    go : (b : Bool) → ltb k (length t.text) ≡ b → AllEnd n (led (cond b (Some (record { at = t.at + k; text = drop k t.text })) None) ts)
+    go true is = let less = ltb-true k (length t.text) is in (omega (arith, e, less, length-drop k t.text), h)
+    go false is = h
+
+abbrev RestEnds : ℕ → Option Piece → Type 0
+RestEnds n None = Unit {0}
+RestEnds n (Some t) = Ends n t
+
+rest_end : (n k : ℕ) (t : Piece) → Ends n t → RestEnds n (past k t)
+rest_end n k t e = go (ltb k (length t.text)) refl
+  where
+    go : (b : Bool) → ltb k (length t.text) ≡ b → RestEnds n (cond b (Some (record { at = t.at + k; text = drop k t.text })) None)
+    go true is = let less = ltb-true k (length t.text) is in omega (arith, e, less, length-drop k t.text)
+    go false is = tt
+
+begun_end : (n : ℕ) (o : Option Piece) (ps : List Part) → RestEnds n o → PartsEnd n ps → PartsEnd n (begun o ps)
+begun_end n None ps e h = h
+begun_end n (Some t) [] e h = tt
+begun_end n (Some t) (p ∷ ps) e h = (((e, h.0.0), h.0.1), h.1)
 
 abbrev WordEnds : ℕ → Word → Type 0
 WordEnds n w = (w.at ≤ n) × PlaceIn n w.behind
@@ -105,9 +75,12 @@ abbrev WordsEnd : ℕ → List Word → Type 0
 WordsEnd n [] = Unit {0}
 WordsEnd n (w ∷ ws) = WordEnds n w × WordsEnd n ws
 
+word_go : (n : ℕ) (stop : Piece) (ts : List Piece) → Ends n stop → AllEnd n ts → WordEnds n (word_of stop ts)
+word_go n stop [] e h = (omega arith, tt)
+word_go n stop (t ∷ ts) e h = (omega (arith, h.0), first_end n ts h.1)
+
 word_end : (n : ℕ) (p : Part) → PartEnds n p → WordEnds n (word_in p)
-unfolding word_in
-word_end n p h = (front_end n p.stop p.tokens h.1 h.0, first_end n (drop (side_by_side (front_place p.stop p.tokens) p.tokens) p.tokens) (drop_end n (side_by_side (front_place p.stop p.tokens) p.tokens) p.tokens h.0))
+word_end n p h = word_go n p.stop p.tokens h.1 h.0
 
 words_end : (n : ℕ) (ps : List Part) → PartsEnd n ps → WordsEnd n (map word_in ps)
 words_end n [] h = tt
@@ -164,8 +137,11 @@ behind_within : (n : ℕ) (name : List ℕ) (stop : Piece) (ts : List Piece) →
 unfolding behind_name
 behind_within n name stop [] e h = let le : stop.at ≤ n = omega arith in le
 behind_within n name stop (t ∷ ts) e h =
-    choice n (is_token 61 t) (values_of name (front_place stop ts) (words_of stop ts)) (wrong t.at Pair)
-    (values_within n name (front_place stop ts) (words_of stop ts) (front_end n stop ts e h.1) (cut_end n (map word_in (parts 47 stop ts)) (words_end n (parts 47 stop ts) (parts_end n 47 stop ts e h.1))))
+    let rest = past 1 t in
+    let ps = begun rest (parts 47 stop ts) in
+    choice n (begins 61 t.text) (given name stop rest ts) (wrong t.at Pair)
+    (values_within n name (front_place stop (led rest ts)) (words_of stop rest ts) (front_end n stop (led rest ts) e (left_end n 1 t ts h.0 h.1))
+    (cut_end n (map word_in ps) (words_end n ps (begun_end n rest (parts 47 stop ts) (rest_end n 1 t h.0) (parts_end n 47 stop ts e h.1)))))
     (let le : t.at ≤ n = omega (arith, h.0) in le)
 
 name_within : (n : ℕ) (before : List Keyword) (t : Piece) → Ends n t → Within n (name_of before t)
@@ -173,17 +149,15 @@ unfolding name_of
 name_within n before t e =
     let k = prefix_len is_name_byte t.text in
     let first : t.at ≤ n = omega arith in
-    let next : t.at + k ≤ n = omega (arith, prefix_len-le-length is_name_byte t.text) in
-    choice n (not (is_name (take k t.text))) (wrong t.at Pair) _ first
-    (choice n (has_name before (take k t.text)) (wrong t.at (Repeated (take k t.text))) _ first
-    (choice n (ltb k (length t.text)) (wrong (t.at + k) Pair) (Ok (take k t.text)) next tt))
+    choice n (not (is_name (take k t.text))) (wrong t.at Pair) _ first (choice n (has_name before (take k t.text)) (wrong t.at (Repeated (take k t.text))) (Ok (take k t.text)) first tt)
 
 keyword_go : (n : ℕ) (before : List Keyword) (stop : Piece) (ts : List Piece) → Ends n stop → AllEnd n ts → Within n (keyword_of before stop ts)
 unfolding keyword_of
 keyword_go n before stop [] e h = let le : stop.at ≤ n = omega arith in le
 keyword_go n before stop (t ∷ ts) e h =
-    bind n (name_of before t) (λ name. behind_name name stop ts >>= λ values. Ok (record { name = name; values = values })) (name_within n before t h.0)
-    (λ name. bind n (behind_name name stop ts) (λ values. Ok (record { name = name; values = values })) (behind_within n name stop ts e h.1) (λ values. tt))
+    bind n (name_of before t) (λ name. behind_name name stop (led (past (length name) t) ts) >>= λ values. Ok (record { name = name; values = values })) (name_within n before t h.0)
+    (λ name. bind n (behind_name name stop (led (past (length name) t) ts)) (λ values. Ok (record { name = name; values = values }))
+    (behind_within n name stop (led (past (length name) t) ts) e (left_end n (length name) t ts h.0 h.1)) (λ values. tt))
 
 keyword_within : (n : ℕ) (before : List Keyword) (p : Part) → PartEnds n p → Within n (keyword_in before p)
 keyword_within n before p h = keyword_go n before p.stop p.tokens h.1 h.0
@@ -193,12 +167,12 @@ unfolding each_of
 each_keyword n before [] h = tt
 each_keyword n before (p ∷ ps) h = bind n (keyword_in before p) (λ k. each_of keyword_in (before ++ k ∷ []) ps) (keyword_within n before p h.0) (λ k. each_keyword n (before ++ k ∷ []) ps h.1)
 
--- the tokens behind a verb, or what is wrong, stand within
-abbrev LeftEnd : ℕ → Result (List Piece) Fault → Type 0
-LeftEnd n (Ok ts) = AllEnd n ts
+-- the place behind a verb, or what is wrong, stands within
+abbrev LeftEnd : ℕ → Result (Option ℕ) Fault → Type 0
+LeftEnd n (Ok place) = PlaceIn n place
 LeftEnd n (Err f) = f.at ≤ n
 
-left_choice : (n : ℕ) (b : Bool) (x y : Result (List Piece) Fault) → LeftEnd n x → LeftEnd n y → LeftEnd n (cond b x y)
+left_choice : (n : ℕ) (b : Bool) (x y : Result (Option ℕ) Fault) → LeftEnd n x → LeftEnd n y → LeftEnd n (cond b x y)
 left_choice n true x y hx hy = hx
 left_choice n false x y hx hy = hy
 
@@ -208,15 +182,14 @@ verb_within n verb stop [] e h = let le : stop.at ≤ n = omega arith in le
 verb_within n verb stop (t ∷ ts) e h =
     let k = prefix_len is_name_byte t.text in
     let first : t.at ≤ n = omega (arith, h.0) in
-    let next : t.at + k ≤ n = omega (arith, h.0, prefix_len-le-length is_name_byte t.text) in
-    left_choice n (not (bytes_eq (take k t.text) verb)) (wrong t.at Verb) _ first (left_choice n (ltb k (length t.text)) (wrong (t.at + k) Pair) (Ok ts) next h.1)
+    left_choice n (bytes_eq (take k t.text) verb) (Ok (first_place (led (past k t) ts))) (wrong t.at Verb) (first_end n (led (past k t) ts) (left_end n k t ts h.0 h.1)) first
 
 left_within : (n : ℕ) (o : Option ℕ) (ps : List Part) → PlaceIn n o → PartsEnd n ps → Within n (behind_verb o ps)
 left_within n None ps h g = each_keyword n [] ps g
 left_within n (Some place) ps h g = h
 
-behind_left : (n : ℕ) (r : Result (List Piece) Fault) (ps : List Part) → LeftEnd n r → PartsEnd n ps → Within n (r >>= λ rest. behind_verb (first_place rest) ps)
-behind_left n (Ok rest) ps h g = left_within n (first_place rest) ps (first_end n rest h) g
+behind_left : (n : ℕ) (r : Result (Option ℕ) Fault) (ps : List Part) → LeftEnd n r → PartsEnd n ps → Within n (r >>= λ place. behind_verb place ps)
+behind_left n (Ok place) ps h g = left_within n place ps h g
 behind_left n (Err e) ps h g = h
 
 request_within : (n : ℕ) (verb : List ℕ) (ps : List Part) → PartsEnd n ps → Within n (request_in verb ps)
@@ -230,8 +203,8 @@ places_within verb text =
     let size = length-map text to_ascii_lowercase in
     let end : Piece = record { at = length text; text = [] } in
     let last : length text + 0 ≤ length text = omega arith in
-    request_within (length text) verb (parts 44 end (tokens 0 (lower text)))
-    (parts_end (length text) 44 end (tokens 0 (lower text)) last (tokens_end (length text) 0 (lower text) (omega (arith, size))))
+    request_within (length text) verb (parts 44 end (tokens marks 0 (lower text)))
+    (parts_end (length text) 44 end (tokens marks 0 (lower text)) last (tokens_end marks (length text) 0 (lower text) (omega (arith, size))))
 
 -- ---- refusals
 

@@ -7,7 +7,6 @@ use Rattle.std.proofs.lemmas.Bool.{and_parts, eq-eqb}
 use borrow.Author.Tests.{leb-true}
 use Rattle.jiff_core.specs.declared.civil.date.Date.{Date}
 use Rattle.jiff_core.specs.Calendar.{days_from_civil, IsCivilDate, IsEpochDay}
-use Rattle.jiff_core.specs.Date.{epoch_day}
 use Rattle.jiff_core.proofs.DateLemmas.{epoch_day_range, epoch_day_injective}
 use Rattle.fd_key.specs.declared.meaning.Meaning.{Meaning}
 use Rattle.fd_key.specs.declared.meaning.Meaning.TheVariants as meanings
@@ -18,7 +17,7 @@ use Rattle.fd_schema.specs.Grammar.{spelled}
 use Rattle.fd_request.specs.Ranges.{Day, End, Number, Hour, OnDay, next_day, later, whole, signed_whole, hour_of, day_if, day_of, end_in, end_of, place, distance, text_behind, values_from, above_zero, step_of, between}
 use Rattle.fd_request.specs.Behind.{end_behind}
 use Rattle.fd_request.specs.Reached.{IsRange}
-use Rattle.fd_request.proofs.Ends.{IsNumbered, later_is}
+use Rattle.fd_request.proofs.Ends.{later_is}
 use Rattle.fd_request.proofs.RangeLaws.{distance_is, length_values, get_value}
 
 -- ---- what was read is an end: its day is one of the calendar

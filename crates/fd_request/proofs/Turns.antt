@@ -1,6 +1,6 @@
 -- One step of each reading.
-use Rattle.std.proofs.Common.{◌≡◌, ℕ, ◌+◌, ◌<◌, ◌≤◌, Bool, true, false, cond, not, List, [], ◌∷◌, ◌++◌, length, get_or, drop, Option, Result, Ok, eqb, refl, ap, subst, ◌∙◌, sym, arith, append_assoc}
-use Rattle.std.specs.Prelude.{◌&&◌, ◌||◌, String, string_bytes}
+use Rattle.std.proofs.Common.{◌≡◌, ℕ, ◌+◌, ◌<◌, ◌≤◌, Bool, true, false, cond, not, List, [], ◌∷◌, ◌++◌, length, get_or, drop, Option, Result, Ok, refl, ap, subst, ◌∙◌, sym, append_assoc}
+use Rattle.std.specs.Prelude.{◌||◌, String, string_bytes}
 use Rattle.std.specs.String.{string_cmp}
 use Rattle.std.specs.Str.{bytes_eq}
 use Rattle.std.specs.BTreeSet.{BTreeSet, UpdatesBy, contains_text}
@@ -11,14 +11,14 @@ use Rattle.std.specs.declared.alloc.Global.{Global}
 use Rattle.std.proofs.lemmas.Bool.{and_parts, and_from}
 use Rattle.std.proofs.lemmas.List.{at_drop_more, at_drop_all, map_push, append-nil}
 use Rattle.fd_key.specs.Names.{is_value}
-use Rattle.fd_schema.specs.Tokens.{Piece, Part, begins_word, glue, with_byte, tokens, is_word, is_blank}
+use Rattle.fd_tokens.specs.Tokens.{Part}
 use Rattle.fd_schema.specs.Seen.{texts}
 use Rattle.fd_request.specs.declared.word.Word as code_word
 use Rattle.fd_request.specs.declared.keyword.Keyword as code_keyword
 use Rattle.fd_request.specs.declared.fault.Refusal.{Refusal}
 use Rattle.fd_request.specs.declared.fault.Refusal.TheVariants as refusals
 use Rattle.fd_request.specs.Expansion.{Keyword}
-use Rattle.fd_request.specs.Grammar.{Fault, each_of, value_of, value_in, keyword_in, has_name, verb_of, first_place, behind_verb, request_in}
+use Rattle.fd_request.specs.Grammar.{Fault, each_of, value_of, value_in, keyword_in, has_name, verb_of, behind_verb, request_in}
 use Rattle.fd_request.specs.Seen.{seen_word, seen_words}
 use Rattle.fd_request.specs.Keywords.{seen_keyword, seen_keywords, differ_after, AreNames}
 use Rattle.fd_request.specs.Reading.{Fails}
@@ -38,25 +38,25 @@ ends read before = refl
 
 -- ---- values
 
-next_word : (name : List ℕ) (vs : List (List ℕ)) (ws : List code_word.Word) (i : ℕ) (w : code_word.Word) → i < length ws → w ≡ get_or ws i w
-    → each_of (value_in name) vs (seen_words (drop i ws)) ≡ each_of (value_in name) vs (seen_word w ∷ seen_words (drop (i + 1) ws))
-next_word name vs ws i w lt is =
-    at_drop_more (λ (us : List code_word.Word). each_of (value_in name) vs (seen_words us)) ws i w lt
-    ∙ ap (λ (x : code_word.Word). each_of (value_in name) vs (seen_word x ∷ seen_words (drop (i + 1) ws))) (sym is)
+next_word : (name : List ℕ) (vs : List (List ℕ)) (ws : List code_word.Word) (i : ℕ) (d : code_word.Word) → i < length ws
+    → each_of (value_in name) vs (seen_words (drop i ws)) ≡ each_of (value_in name) vs (seen_word (get_or ws i d) ∷ seen_words (drop (i + 1) ws))
+next_word name vs ws i d lt = at_drop_more (λ (us : List code_word.Word). each_of (value_in name) vs (seen_words us)) ws i d lt
 
-pub value_stops : (name : List ℕ) (vs : List (List ℕ)) (ws : List code_word.Word) (i : ℕ) (w : code_word.Word) (e : Refusal) (total : Result (List (List ℕ)) Fault) → i < length ws → w ≡ get_or ws i w
-    → each_of (value_in name) vs (seen_words (drop i ws)) ≡ total → Fails e (value_of name (seen_word w)) → Fails e total
-value_stops name vs ws i w e total lt is so_far h =
-    subst (λ (r : Result (List (List ℕ)) Fault). Fails e r) (sym (next_word name vs ws i w lt is) ∙ so_far) (stops (value_in name) vs (seen_word w) (seen_words (drop (i + 1) ws)) e h)
+pub value_stops : (name : List ℕ) (vs : List (List ℕ)) (ws : List code_word.Word) (i : ℕ) (d : code_word.Word) (e : Refusal) (total : Result (List (List ℕ)) Fault) → i < length ws
+    → each_of (value_in name) vs (seen_words (drop i ws)) ≡ total → Fails e (value_of name (seen_word (get_or ws i d))) → Fails e total
+value_stops name vs ws i d e total lt so_far h =
+    let w = get_or ws i d in
+    subst (λ (r : Result (List (List ℕ)) Fault). Fails e r) (sym (next_word name vs ws i d lt) ∙ so_far) (stops (value_in name) vs (seen_word w) (seen_words (drop (i + 1) ws)) e h)
 
-pub value_goes : (name : List ℕ) (vs new : List (String Global)) (ws : List code_word.Word) (i : ℕ) (w : code_word.Word) (v : String Global) (total : Result (List (List ℕ)) Fault) → i < length ws → w ≡ get_or ws i w
-    → each_of (value_in name) (texts vs) (seen_words (drop i ws)) ≡ total → value_of name (seen_word w) ≡ Ok (string_bytes v) → new ≡ vs ++ v ∷ []
+pub value_goes : (name : List ℕ) (vs new : List (String Global)) (ws : List code_word.Word) (i : ℕ) (d : code_word.Word) (v : String Global) (total : Result (List (List ℕ)) Fault) → i < length ws
+    → each_of (value_in name) (texts vs) (seen_words (drop i ws)) ≡ total → value_of name (seen_word (get_or ws i d)) ≡ Ok (string_bytes v) → new ≡ vs ++ v ∷ []
     → each_of (value_in name) (texts new) (seen_words (drop (i + 1) ws)) ≡ total
-value_goes name vs new ws i w v total lt is so_far h pushed =
+value_goes name vs new ws i d v total lt so_far h pushed =
+    let w = get_or ws i d in
     ap (λ (us : List (String Global)). each_of (value_in name) (texts us) (seen_words (drop (i + 1) ws))) pushed
     ∙ ap (λ (us : List (List ℕ)). each_of (value_in name) us (seen_words (drop (i + 1) ws))) (map_push string_bytes vs v)
     ∙ sym (goes (value_in name) (texts vs) (seen_word w) (seen_words (drop (i + 1) ws)) (string_bytes v) h)
-    ∙ sym (next_word name (texts vs) ws i w lt is) ∙ so_far
+    ∙ sym (next_word name (texts vs) ws i d lt) ∙ so_far
 
 pub values_end : (name : List ℕ) (vs : List (List ℕ)) (ws : List code_word.Word) (i : ℕ) → length ws ≤ i → each_of (value_in name) vs (seen_words (drop i ws)) ≡ Ok vs
 values_end name vs ws i le = at_drop_all (λ (us : List code_word.Word). each_of (value_in name) vs (seen_words us)) ws i le ∙ ends (value_in name) vs
@@ -117,29 +117,6 @@ names_more s n name ks new k updates same pushed names q =
     ∙ last_or (bytes_eq (string_bytes k.name) q) (has_name (seen_keywords ks) q) ∙ sym last
     ∙ ap (λ (us : List Keyword). has_name us q) (sym (map_push seen_keyword ks k)) ∙ ap (λ (us : List code_keyword.Keyword). has_name (seen_keywords us) q) (sym pushed)
 
--- ---- there are no more tokens than bytes
-
-glue_few : (at b : ℕ) (ts : List Piece) → length (glue at b ts) ≤ length ts + 1
-glue_few at b [] = omega arith
-glue_few at b (t ∷ ts) = go (eqb t.at (at + 1) && begins_word t.text)
-  where
-    go : (c : Bool) → length (cond c (record { at = at; text = b ∷ t.text } ∷ ts) (record { at = at; text = b ∷ [] } ∷ t ∷ ts)) ≤ length (t ∷ ts) + 1
-    go true = omega arith
-    go false = omega arith
-
-with_byte_few : (at b : ℕ) (ts : List Piece) → length (with_byte at b ts) ≤ length ts + 1
-with_byte_few at b ts = go (is_word b) (is_blank b) (glue_few at b ts)
-  where
-    go : (c d : Bool) → length (glue at b ts) ≤ length ts + 1 → length (cond c (glue at b ts) (cond d ts (record { at = at; text = b ∷ [] } ∷ ts))) ≤ length ts + 1
-    go true d h = h
-    go false true h = omega arith
-    go false false h = omega arith
-
-pub tokens_few : (at : ℕ) (text : List ℕ) → length (tokens at text) ≤ length text
-unfolding tokens
-tokens_few at [] = omega arith
-tokens_few at (b ∷ bs) = omega (arith, with_byte_few at b (tokens (at + 1) bs), tokens_few (at + 1) bs)
-
 -- ---- requests
 
 pub verb_stops : (verb : List ℕ) (p : Part) (ps qs : List Part) (e : Refusal) → qs ≡ p ∷ ps → Fails e (verb_of verb p.stop p.tokens) → Fails e (request_in verb qs)
@@ -147,6 +124,6 @@ unfolding request_in
 verb_stops verb p ps qs (refusals.At at kind) is h = rw (is, h) refl
 verb_stops verb p ps qs refusals.NoMemory is h = tt
 
-pub verb_goes : (verb : List ℕ) (p : Part) (ps qs : List Part) (rest : List Piece) (place : Option ℕ) → qs ≡ p ∷ ps → verb_of verb p.stop p.tokens ≡ Ok rest → place ≡ first_place rest → request_in verb qs ≡ behind_verb place ps
+pub verb_goes : (verb : List ℕ) (p : Part) (ps qs : List Part) (place : Option ℕ) → qs ≡ p ∷ ps → verb_of verb p.stop p.tokens ≡ Ok place → request_in verb qs ≡ behind_verb place ps
 unfolding request_in
-verb_goes verb p ps qs rest place is h e = rw (is, h, e) refl
+verb_goes verb p ps qs place is h = rw (is, h) refl

@@ -2,14 +2,18 @@
 --
 --   request = verb { "," name "=" values }
 --   values  = value { "/" value } | value "/" "to" "/" value [ "/" "by" "/" number ]
-use Rattle.std.specs.Prelude.{ℕ, ◌+◌, Bool, not, ◌||◌, List, [], ◌∷◌, ◌++◌, length, take, drop, map, nat_lt, ◌==◌, if◌then◌else◌, Option, Some, None, Result, Ok, Err}
+use Rattle.std.specs.Prelude.{ℕ, ◌+◌, Bool, not, ◌||◌, List, [], ◌∷◌, ◌++◌, codes, false, length, take, drop, map, nat_lt, ◌==◌, if◌then◌else◌, Option, Some, None, Result, Ok, Err}
 use Rattle.std.specs.List.{list_any, prefix_len}
 use Rattle.std.specs.Str.{bytes_eq}
 use Rattle.fd_key.specs.Names.{is_name, is_name_byte, lower}
-use Rattle.fd_schema.specs.Tokens.{Piece, Part, is_token, parts, tokens}
+use Rattle.fd_tokens.specs.Tokens.{Piece, Part, onto, parts, tokens}
 use Rattle.fd_schema.specs.Grammar.{spelled}
 use Rattle.fd_request.specs.Expansion.{Keyword}
 use Rattle.fd_request.specs.Ranges.{is_to, is_by, range_of}
+
+-- The marks of requests. `=` is none of them, since what is given as a value goes on behind it: a keyword is cut at its first one.
+abbrev pub marks : List ℕ
+marks = codes ",/"
 
 -- what is wrong at a place
 pub data Wrong : Type 0 where
@@ -46,44 +50,44 @@ abbrev pub front_place : Piece → List Piece → ℕ
 front_place stop [] = stop.at
 front_place stop (t ∷ ts) = t.at
 
+-- the place of the first token, if there is one
+abbrev pub first_place : List Piece → Option ℕ
+first_place [] = None
+first_place (t ∷ ts) = Some t.at
+
+-- what is left of a token behind so many of its bytes, if anything is
+abbrev pub past : ℕ → Piece → Option Piece
+past n t = if nat_lt n (length t.text) then Some (record { at = t.at + n; text = drop n t.text }) else None
+
+-- what is left of a token, and the tokens behind it
+abbrev pub led : Option Piece → List Piece → List Piece
+led None ts = ts
+led (Some t) ts = t ∷ ts
+
 -- ---- the verb
 
-unfoldable pub verb_of : List ℕ → Piece → List Piece → Result (List Piece) Fault
+-- the place behind the verb where something stands, if anything does
+unfoldable pub verb_of : List ℕ → Piece → List Piece → Result (Option ℕ) Fault
 verb_of verb stop [] = wrong stop.at Verb
 verb_of verb stop (t ∷ ts) =
     let n = prefix_len is_name_byte t.text in
-    if not (bytes_eq (take n t.text) verb) then wrong t.at Verb
-    else if nat_lt n (length t.text) then wrong (t.at + n) Pair
-    else Ok ts
+    if bytes_eq (take n t.text) verb then Ok (first_place (led (past n t) ts)) else wrong t.at Verb
 
 -- ---- values
 
--- A value is what stands up to a blank, a comma, a slash or the end: a token and all that begin right behind it. It has the
--- place where it begins, and the place of the token behind it, if there is one.
+-- A value is a token: what stands up to a blank, a comma, a slash or the end. It has the place where it begins, or that of what
+-- stands there instead, and the place of the token behind it, if there is one.
 pub record Word : Type 0 where
   pub at : ℕ
   pub text : List ℕ
   pub behind : Option ℕ
 
-abbrev pub first_place : List Piece → Option ℕ
-first_place [] = None
-first_place (t ∷ ts) = Some t.at
+abbrev pub word_of : Piece → List Piece → Word
+word_of stop [] = record { at = stop.at; text = []; behind = None }
+word_of stop (t ∷ ts) = record { at = t.at; text = t.text; behind = first_place ts }
 
--- how many tokens stand side by side from a place on
-unfoldable pub side_by_side : ℕ → List Piece → ℕ
-side_by_side at [] = 0
-side_by_side at (t ∷ ts) = if t.at == at then 1 + side_by_side (at + length t.text) ts else 0
-
--- their bytes
-unfoldable pub joined : List Piece → List ℕ
-joined [] = []
-joined (t ∷ ts) = t.text ++ joined ts
-
-unfoldable pub word_in : Part → Word
-word_in p =
-    let at = front_place p.stop p.tokens in
-    let n = side_by_side at p.tokens in
-    record { at = at; text = joined (take n p.tokens); behind = first_place (drop n p.tokens) }
+abbrev pub word_in : Part → Word
+word_in p = word_of p.stop p.tokens
 
 abbrev pub value_or : Option (List ℕ) → ℕ → Option ℕ → Result (List ℕ) Fault
 value_or None at behind = wrong at Value
@@ -141,28 +145,41 @@ unfoldable pub up_to_behind : List Word → List Word
 up_to_behind [] = []
 up_to_behind (w ∷ ws) = w ∷ unless_behind w.behind (up_to_behind ws)
 
-abbrev pub words_of : Piece → List Piece → List Word
-words_of stop ts = up_to_behind (map word_in (parts 47 stop ts))
+-- the first of the parts begins with what is left of a token
+abbrev pub begun : Option Piece → List Part → List Part
+begun None ps = ps
+begun (Some t) ps = onto t ps
+
+-- the words between slashes
+abbrev pub words_of : Piece → Option Piece → List Piece → List Word
+words_of stop rest ts = up_to_behind (map word_in (begun rest (parts 47 stop ts)))
+
+abbrev pub begins : ℕ → List ℕ → Bool
+begins b [] = false
+begins b (c ∷ cs) = c == b
+
+-- the values behind `=`: what is left of its token, and the tokens behind it
+abbrev pub given : List ℕ → Piece → Option Piece → List Piece → Result (List (List ℕ)) Fault
+given name stop rest ts = values_of name (front_place stop (led rest ts)) (words_of stop rest ts)
 
 -- what stands behind a name
 unfoldable pub behind_name : List ℕ → Piece → List Piece → Result (List (List ℕ)) Fault
 behind_name name stop [] = wrong stop.at Pair
-behind_name name stop (e ∷ ts) = if is_token 61 e then values_of name (front_place stop ts) (words_of stop ts) else wrong e.at Pair
+behind_name name stop (e ∷ ts) = if begins 61 e.text then given name stop (past 1 e) ts else wrong e.at Pair
 
--- the name that a token is, behind these keywords
+-- the name that a token begins with, behind these keywords
 unfoldable pub name_of : List Keyword → Piece → Result (List ℕ) Fault
 name_of before t =
     let n = prefix_len is_name_byte t.text in
     if not (is_name (take n t.text)) then wrong t.at Pair
     else if has_name before (take n t.text) then wrong t.at (Repeated (take n t.text))
-    else if nat_lt n (length t.text) then wrong (t.at + n) Pair
     else Ok (take n t.text)
 
 unfoldable pub keyword_of : List Keyword → Piece → List Piece → Result Keyword Fault
 keyword_of before stop [] = wrong stop.at Pair
 keyword_of before stop (t ∷ ts) = do
   name ← name_of before t
-  values ← behind_name name stop ts
+  values ← behind_name name stop (led (past (length name) t) ts)
   Ok (record { name = name; values = values })
 
 abbrev pub keyword_in : List Keyword → Part → Result Keyword Fault
@@ -176,9 +193,9 @@ behind_verb (Some place) ps = wrong place Pair
 unfoldable pub request_in : List ℕ → List Part → Result (List Keyword) Fault
 request_in verb [] = Ok []
 request_in verb (p ∷ ps) = do
-  rest ← verb_of verb p.stop p.tokens
-  behind_verb (first_place rest) ps
+  place ← verb_of verb p.stop p.tokens
+  behind_verb place ps
 
 -- the keywords of a text, or the first place that is wrong
 unfoldable pub keywords_of : List ℕ → List ℕ → Result (List Keyword) Fault
-keywords_of verb text = request_in verb (parts 44 (record { at = length text; text = [] }) (tokens 0 (lower text)))
+keywords_of verb text = request_in verb (parts 44 (record { at = length text; text = [] }) (tokens marks 0 (lower text)))

@@ -1,8 +1,6 @@
--- What the code's parts, words, ranges and keywords are, and what holds of them.
-use Rattle.std.specs.Prelude.{ℕ, ◌^◌, ℤ, pos, neg_ℤ, ◌+ℤ◌, ◌≤ℤ◌, unsigned_abs, List, [], drop, map, Option, Some, None}
+-- What the code's words, days and ends are, and what holds of them.
+use Rattle.std.specs.Prelude.{ℕ, ◌^◌, ℤ, pos, neg_ℤ, ◌+ℤ◌, ◌≤ℤ◌, unsigned_abs, List, map}
 use Rattle.jiff_core.specs.declared.civil.date.Date as code_date
-use Rattle.fd_schema.specs.Tokens.{Piece, Part, parts, views}
-use Rattle.fd_schema.specs.declared.token.Token.{Token}
 use Rattle.fd_request.specs.declared.word.Word as code_word
 use Rattle.fd_request.specs.declared.day.Day as code_day
 use Rattle.fd_request.specs.declared.end.End as code_end
@@ -10,13 +8,8 @@ use Rattle.fd_request.specs.declared.end.End.TheVariants as ends
 use Rattle.fd_request.specs.Ranges.{Day, End, Number, Hour, OnDay, place}
 use Rattle.fd_request.specs.Grammar.{Word}
 
--- the parts from a place on, if there is one
-abbrev pub parts_if : ℕ → Piece → List Token → Option ℕ → List Part
-parts_if mark stop ts None = []
-parts_if mark stop ts (Some next) = parts mark stop (views (drop next ts))
-
 abbrev pub seen_word : code_word.Word → Word
-seen_word w = record { at = w.at; text = w.text.items; behind = w.behind }
+seen_word w = record { at = w.at; text = w.text.now; behind = w.behind }
 
 abbrev pub seen_words : List code_word.Word → List Word
 seen_words ws = map seen_word ws

@@ -9,7 +9,6 @@ mod keyword;
 mod laws;
 mod limits;
 mod matching;
-mod part;
 mod partial;
 mod range;
 mod reading;

@@ -1,12 +1,12 @@
 // Keywords, from the first token to the last.
-ghost use Rattle.std.specs.Prelude.{◌≡◌, ◌<◌, ◌≤◌, ◌+◌, ◌-◌, [], ◌∷◌, ◌++◌, ℕ, List, IsTrue, true, false, IfOk, length, take, drop, string_bytes, codes};
+ghost use Rattle.std.specs.Prelude.{◌≡◌, ◌<◌, ◌≤◌, ◌+◌, ◌-◌, [], ◌∷◌, ◌++◌, ℕ, List, IsTrue, true, false, IfOk, option_map, Option, length, take, drop, string_bytes, codes};
 ghost use Rattle.std.specs.List.{list_any, prefix_len};
 ghost use Rattle.std.specs.Str.{bytes_eq};
 ghost use Rattle.fd_key.specs.Names.{is_name, is_name_byte, is_value, lower};
-ghost use Rattle.fd_schema.specs.Tokens.{view, views, parts, tokens};
+ghost use Rattle.fd_tokens.specs.Tokens.{view, views, parts, tokens};
 ghost use Rattle.fd_schema.specs.Seen.{texts};
 ghost use Rattle.fd_request.specs.Ranges.{range_of};
-ghost use Rattle.fd_request.specs.Grammar.{each_of, front_place, verb_of, value_of, value_in, values_of, range_or, word_texts, behind_words, words_of, has_name, behind_name, name_of, keyword_of, keyword_in, behind_verb, request_in, keywords_of};
+ghost use Rattle.fd_request.specs.Grammar.{marks, each_of, verb_of, value_of, value_in, values_of, range_or, word_texts, behind_words, given, led, has_name, behind_name, name_of, keyword_of, keyword_in, behind_verb, request_in, keywords_of};
 ghost use Rattle.fd_request.specs.Seen.{seen_word, seen_words};
 ghost use Rattle.fd_request.specs.Values.{seen_values, AreValues};
 ghost use Rattle.fd_request.specs.Keywords.{seen_keyword, seen_keywords, differ_after};
@@ -15,13 +15,15 @@ ghost use Rattle.fd_request.specs.Reading.{Gives, Fails};
 use crate::fault::{Refusal, RequestKind};
 use crate::found::Found;
 use crate::keyword::Keyword;
-use crate::part::part_from;
 use crate::value::spelled;
 use crate::values::{Values, range_of};
-use crate::word::{Word, behind_words, first_place, front_place, has_range_word, words_of};
+use crate::word::{
+    Word, begins, behind_words, first_place, has_range_word, led_place, past, words_of,
+};
 use fd_bytes::NoMemory;
 use fd_key::is_name;
-use fd_schema::{Token, is_token, name_end, name_text, tokens_of};
+use fd_schema::{name_end, name_text};
+use fd_tokens::{Token, part_from, tokens_of};
 use std::alloc::Global;
 
 /// A value in its one spelling.
@@ -30,7 +32,7 @@ fn value(alloc: Global, name: &str, word: &Word) -> Result<String, Refusal>
     ensures gives { Gives string_bytes result (value_of name.now (seen_word word.now)) }
     ensures value { IfOk result (λ s. IsTrue (is_value (string_bytes s))) }
 {
-    let Some(value) = spelled(alloc, name, &word.text)? else {
+    let Some(value) = spelled(alloc, name, word.text)? else {
         return Err(Refusal::At(word.at, RequestKind::Value));
     };
     match word.behind {
@@ -85,23 +87,48 @@ fn values(alloc: Global, name: &str, at: usize, words: &[Word]) -> Result<Values
     }
 }
 
-/// What stands behind a name.
+/// What a token says that stands behind a name, with the tokens behind it: `=`, and values.
 #[tactic(auto, unfolding(crate::specs::Grammar::behind_name))]
-fn behind_name(alloc: Global, name: &str, stop: &Token, tokens: &[Token]) -> Result<Values, Refusal>
-    ensures gives { Gives seen_values result (behind_name name.now (view stop.now) (views tokens.now)) }
+fn given<'s, 't>(
+    alloc: Global,
+    name: &str,
+    stop: &'s Token<'t>,
+    first: &Token<'t>,
+    others: &'s [Token<'t>],
+) -> Result<Values, Refusal>
+    ensures gives { Gives seen_values result (behind_name name.now (view stop.now) (view first.now ∷ views others.now)) }
     ensures values { IfOk result (λ v. AreValues (seen_values v)) }
 {
-    let [first, others @ ..] = tokens else {
-        return Err(Refusal::At(stop.at, RequestKind::Pair));
-    };
-    if !is_token(b'=', first) {
+    if !begins(b'=', first.text) {
         return Err(Refusal::At(first.at, RequestKind::Pair));
     }
-    let words = words_of(alloc, stop, others)?;
-    values(alloc, name, front_place(stop, others), &words)
+    let rest = past(1, first);
+    let words = words_of(alloc, stop, rest, others)?;
+    values(alloc, name, led_place(stop, rest, others), &words)
 }
 
-/// The name that a token is, behind these keywords.
+/// What stands behind a name: what is left of its token, and the tokens behind it.
+#[tactic(auto, unfolding(crate::specs::Grammar::behind_name))]
+fn behind_name<'s, 't>(
+    alloc: Global,
+    name: &str,
+    stop: &'s Token<'t>,
+    rest: Option<Token<'t>>,
+    tokens: &'s [Token<'t>],
+) -> Result<Values, Refusal>
+    ensures gives { Gives seen_values result (behind_name name.now (view stop.now) (led (option_map view rest.entry) (views tokens.now))) }
+    ensures values { IfOk result (λ v. AreValues (seen_values v)) }
+{
+    match rest {
+        Some(first) => given(alloc, name, stop, &first, tokens),
+        None => match tokens {
+            [] => Err(Refusal::At(stop.at, RequestKind::Pair)),
+            [first, others @ ..] => given(alloc, name, stop, first, others),
+        },
+    }
+}
+
+/// The name that a token begins with, behind these keywords.
 #[tactic(auto, unfolding(crate::specs::Grammar::name_of))]
 fn name_of(alloc: Global, before: &Found, token: &Token) -> Result<String, Refusal>
     ensures gives { Gives string_bytes result (name_of (seen_keywords before.now.keywords.items) (view token.now)) }
@@ -117,19 +144,16 @@ fn name_of(alloc: Global, before: &Found, token: &Token) -> Result<String, Refus
     if before.has(name.as_str()) {
         return Err(Refusal::At(token.at, RequestKind::Repeated(name)));
     }
-    if end < token.text.len() {
-        return Err(Refusal::At(token.at + end, RequestKind::Pair));
-    }
     Ok(name)
 }
 
 /// A keyword, behind these.
 #[tactic(auto, unfolding(crate::specs::Grammar::keyword_of))]
-fn keyword(
+fn keyword<'s, 't>(
     alloc: Global,
     before: &Found,
-    stop: &Token,
-    tokens: &[Token],
+    stop: &'s Token<'t>,
+    tokens: &'s [Token<'t>],
 ) -> Result<Keyword, Refusal>
     ensures gives { Gives seen_keyword result (keyword_of (seen_keywords before.now.keywords.items) (view stop.now) (views tokens.now)) }
     ensures new { IfOk result (λ k. has_name (seen_keywords before.now.keywords.items) (string_bytes k.name) ≡ false) }
@@ -138,7 +162,8 @@ fn keyword(
         return Err(Refusal::At(stop.at, RequestKind::Pair));
     };
     let name = name_of(alloc, before, first)?;
-    let values = behind_name(alloc, name.as_str(), stop, others)?;
+    let rest = past(name.len(), first);
+    let values = behind_name(alloc, name.as_str(), stop, rest, others)?;
     Ok(Keyword { name, values })
 }
 
@@ -169,14 +194,10 @@ fn keywords<'s, 't>(
     }
 }
 
-/// The tokens behind the verb.
+/// The place behind the verb where something stands, if anything does.
 #[tactic(auto, unfolding(crate::specs::Grammar::verb_of))]
-fn verb_of<'s, 't>(
-    verb: &[u8],
-    stop: &Token,
-    tokens: &'s [Token<'t>],
-) -> Result<&'s [Token<'t>], Refusal>
-    ensures { Gives (λ ts. views ts.now) result (verb_of verb.now (view stop.now) (views tokens.now)) }
+fn verb_of(verb: &[u8], stop: &Token, tokens: &[Token]) -> Result<Option<usize>, Refusal>
+    ensures { Gives (λ (o : Option ℕ). o) result (verb_of verb.now (view stop.now) (views tokens.now)) }
 {
     let [first, others @ ..] = tokens else {
         return Err(Refusal::At(stop.at, RequestKind::Verb));
@@ -186,10 +207,10 @@ fn verb_of<'s, 't>(
     if front != verb {
         return Err(Refusal::At(first.at, RequestKind::Verb));
     }
-    if end < first.text.len() {
-        return Err(Refusal::At(first.at + end, RequestKind::Pair));
+    match past(end, first) {
+        Some(rest) => Ok(Some(rest.at)),
+        None => Ok(first_place(others)),
     }
-    Ok(others)
 }
 
 /// The keywords behind this verb.
@@ -206,7 +227,7 @@ fn request_in<'s, 't>(
     let (inside, behind, next) = part_from(b',', stop, tokens, 0);
     match verb_of(verb, behind, inside) {
         Err(refusal) => Err(refusal),
-        Ok(rest) => match first_place(rest) {
+        Ok(other) => match other {
             Some(place) => Err(Refusal::At(place, RequestKind::Pair)),
             None => match next {
                 Some(place) => keywords(alloc, stop, tokens, place),
@@ -225,6 +246,13 @@ fn lower(alloc: Global, text: &[u8]) -> Result<Vec<u8>, NoMemory>
     Ok(lowered)
 }
 
+/// The marks of requests.
+fn marks() -> &'static [u8]
+    ensures { result.now ≡ marks }
+{
+    b",/"
+}
+
 /// The keywords of a text with this verb, or the first place that is wrong.
 #[tactic(auto, unfolding(crate::specs::Grammar::keywords_of))]
 pub(crate) fn keywords_of(alloc: Global, verb: &[u8], text: &[u8]) -> Result<Vec<Keyword>, Refusal>
@@ -233,7 +261,7 @@ pub(crate) fn keywords_of(alloc: Global, verb: &[u8], text: &[u8]) -> Result<Vec
     ensures few { IfOk result (λ v. length v.items ≤ length text.now + 1) }
 {
     let lowered = lower(alloc, text)?;
-    let tokens = tokens_of(alloc, &lowered)?;
+    let tokens = tokens_of(alloc, marks(), &lowered)?;
     let end = Token {
         at: text.len(),
         text: b"",

@@ -68,15 +68,15 @@ pub(crate) fn range_of(alloc: Global, name: &str, words: &[Word]) -> Result<Opti
 {
     match words {
         [a, to, b] => {
-            if is_to(&to.text) {
-                between(alloc, name, &a.text, &b.text, b"1")
+            if is_to(to.text) {
+                between(alloc, name, a.text, b.text, b"1")
             } else {
                 Ok(None)
             }
         }
         [a, to, b, by, c] => {
-            if is_to(&to.text) && is_by(&by.text) {
-                between(alloc, name, &a.text, &b.text, &c.text)
+            if is_to(to.text) && is_by(by.text) {
+                between(alloc, name, a.text, b.text, c.text)
             } else {
                 Ok(None)
             }

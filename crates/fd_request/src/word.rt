@@ -1,35 +1,44 @@
 // Values as they are written.
-ghost use Rattle.std.specs.Prelude.{◌≡◌, ◌<◌, ◌≤◌, ◌+◌, ℕ, length, take, map, IfOk, Option};
+ghost use Rattle.std.specs.Prelude.{◌≡◌, ◌<◌, ◌≤◌, ◌+◌, ℕ, length, map, IfOk, Option, option_map};
 ghost use Rattle.std.specs.List.{list_any};
 ghost use Rattle.std.specs.Str.{bytes_eq};
-ghost use Rattle.fd_schema.specs.Tokens.{view, views, parts};
+ghost use Rattle.fd_tokens.specs.Tokens.{view, views, parts};
 ghost use Rattle.fd_request.specs.Ranges.{is_to, is_by};
-ghost use Rattle.fd_request.specs.Grammar.{front_place, first_place, side_by_side, joined, word_in, words_of, is_range_word, behind_words};
+ghost use Rattle.fd_request.specs.Grammar.{front_place, first_place, past, led, begins, word_of, words_of, is_range_word, behind_words};
 ghost use Rattle.fd_request.specs.Seen.{seen_word, seen_words};
 
-use crate::part::part_from;
 use fd_bytes::NoMemory;
-use fd_schema::Token;
+use fd_tokens::{Token, part_from};
 use std::alloc::Global;
 
 /// What stands up to a blank, a comma, a slash or the end.
-#[derive(Debug, Drop)]
-pub(crate) struct Word {
+#[derive(Clone, Copy, Debug)]
+pub(crate) struct Word<'a> {
     /// The place of its first byte, or of what stands there instead.
     pub(crate) at: usize,
     /// Its bytes.
-    pub(crate) text: Vec<u8>,
+    pub(crate) text: &'a [u8],
     /// The place of the token behind it, if there is one before the next mark.
     pub(crate) behind: Option<usize>,
 }
 
 /// The place of the first token, or of what stands behind.
-pub(crate) fn front_place(stop: &Token, tokens: &[Token]) -> usize
+fn front_place(stop: &Token, tokens: &[Token]) -> usize
     ensures { result ≡ front_place (view stop.now) (views tokens.now) }
 {
     match tokens {
         [] => stop.at,
         [first, ..] => first.at,
+    }
+}
+
+/// The place of what is left of a token, or of the first token behind it, or of what stands behind these.
+pub(crate) fn led_place(stop: &Token, rest: Option<Token>, tokens: &[Token]) -> usize
+    ensures { result ≡ front_place (view stop.now) (led (option_map view rest.entry) (views tokens.now)) }
+{
+    match rest {
+        Some(token) => token.at,
+        None => front_place(stop, tokens),
     }
 }
 
@@ -43,60 +52,79 @@ pub(crate) fn first_place(tokens: &[Token]) -> Option<usize>
     }
 }
 
-/// How many tokens stand side by side from a place on.
-fn side_by_side(at: usize, tokens: &[Token]) -> usize
-    ensures value { result ≡ side_by_side at (views tokens.now) }
-    ensures within { result ≤ length tokens.now }
+/// What is left of a token behind so many of its bytes, if anything is.
+pub(crate) fn past<'t>(len: usize, token: &Token<'t>) -> Option<Token<'t>>
+    ensures { option_map view result ≡ past len (view token.now) }
 {
-    let mut place = at;
-    for (i, token) in tokens.iter().enumerate() {
-        if token.at != place {
-            return i;
-        }
-        place = token.at + token.text.len();
+    if len < token.text.len() {
+        let (_, text) = token.text.split_at(len);
+        Some(Token {
+            at: token.at + len,
+            text,
+        })
+    } else {
+        None
     }
-    tokens.len()
 }
 
-/// The bytes of tokens, one after the other.
-fn joined(alloc: Global, tokens: &[Token]) -> Result<Vec<u8>, NoMemory>
-    ensures { IfOk result (λ v. v.items ≡ joined (views tokens.now)) }
+/// Tells that a text begins with a byte.
+pub(crate) fn begins(byte: u8, text: &[u8]) -> bool
+    ensures { result ≡ begins byte text.now }
 {
-    let mut text = Vec::new(alloc);
-    for token in tokens {
-        text.extend_from_slice(token.text)?;
+    match text {
+        [] => false,
+        [first, ..] => *first == byte,
     }
-    Ok(text)
 }
 
-/// The word that these tokens begin with.
-#[tactic(auto, unfolding(crate::specs::Grammar::word_in))]
-fn word_in(alloc: Global, stop: &Token, tokens: &[Token]) -> Result<Word, NoMemory>
-    ensures { IfOk result (λ w. seen_word w ≡ word_in (record { tokens = views tokens.now; stop = view stop.now })) }
+/// The word that these tokens are.
+fn word_in<'t>(stop: &Token, tokens: &[Token<'t>]) -> Word<'t>
+    ensures { seen_word result ≡ word_of (view stop.now) (views tokens.now) }
 {
-    let at = front_place(stop, tokens);
-    let (inside, behind) = tokens.split_at(side_by_side(at, tokens));
-    Ok(Word {
-        at,
-        text: joined(alloc, inside)?,
-        behind: first_place(behind),
-    })
+    match tokens {
+        [] => Word {
+            at: stop.at,
+            text: b"",
+            behind: None,
+        },
+        [first, others @ ..] => Word {
+            at: first.at,
+            text: first.text,
+            behind: first_place(others),
+        },
+    }
+}
+
+/// The word that what is left of a token and the tokens behind it are.
+fn word_of<'t>(stop: &Token, rest: Option<Token<'t>>, tokens: &[Token<'t>]) -> Word<'t>
+    ensures { seen_word result ≡ word_of (view stop.now) (led (option_map view rest.entry) (views tokens.now)) }
+{
+    match rest {
+        Some(token) => Word {
+            at: token.at,
+            text: token.text,
+            behind: first_place(tokens),
+        },
+        None => word_in(stop, tokens),
+    }
 }
 
 /// The words between slashes, up to the first one that has something else behind it.
 pub(crate) fn words_of<'s, 't>(
     alloc: Global,
     stop: &'s Token<'t>,
+    rest: Option<Token<'t>>,
     tokens: &'s [Token<'t>],
-) -> Result<Vec<Word>, NoMemory>
-    ensures words { IfOk result (λ v. seen_words v.items ≡ words_of (view stop.now) (views tokens.now)) }
+) -> Result<Vec<Word<'t>>, NoMemory>
+    ensures words { IfOk result (λ v. seen_words v.items ≡ words_of (view stop.now) (option_map view rest.entry) (views tokens.now)) }
     ensures some { IfOk result (λ v. 0 < length v.items) }
 {
     let mut words = Vec::new(alloc);
+    let mut left = rest;
     let mut from = 0;
     'parts: loop {
         let (inside, behind, next) = part_from(b'/', stop, tokens, from);
-        let word = word_in(alloc, behind, inside)?;
+        let word = word_of(behind, left, inside);
         let is_last = word.behind.is_some();
         words.push(word)?;
         if is_last {
@@ -104,7 +132,10 @@ pub(crate) fn words_of<'s, 't>(
         }
         match next {
             None => return Ok(words),
-            Some(place) => from = place,
+            Some(place) => {
+                left = None;
+                from = place;
+            }
         }
     }
 }
@@ -126,7 +157,7 @@ pub(crate) fn has_range_word(words: &[Word]) -> bool
     ensures { result ≡ list_any (λ w. is_range_word w.text) (seen_words words.now) }
 {
     for word in words {
-        if is_to(&word.text) || is_by(&word.text) {
+        if is_to(word.text) || is_by(word.text) {
             return true;
         }
     }

@@ -10,7 +10,8 @@ use Rattle.fd_key.proofs.NameLaws.{value_is_ascii}
 use Rattle.fd_key.proofs.Spelled.{spelled_again}
 use Rattle.fd_schema.specs.declared.rule.Level.{Level}
 use Rattle.fd_schema.specs.declared.rule.Level.TheVariants.{Dataset, Index, Datum}
-use Rattle.fd_schema.specs.Tokens.{Piece, Part, is_token, onto, parts}
+use Rattle.fd_tokens.specs.Tokens.{Piece, Part, is_token, parts}
+use Rattle.fd_tokens.proofs.Cuts.{parts_some}
 use Rattle.fd_schema.specs.Rules.{Want, Needed, Optional, OneOf, Item, has_name, Rule}
 use Rattle.fd_schema.specs.Grammar.{Fault, Wrong, TooLong, Byte, Name, Twice, Depth, NoneRequired, TooMany, wrong, ◌>>=◌, each_of, begins_value, is_ascii, spelled, value_or, value_of, value_in, values_of, name_of, nothing_behind, want_of, item_of, item_in, items_of, inside, behind, front, level_of, opened, has_required, closed, rule_of, rules_of, some_rule, schema_of}
 
@@ -56,19 +57,6 @@ each_added read P each before (p ∷ ps) out h =
       count = omega (arith, rest.count);
       all = (each before p x.0 x.1, rest.all);
     }
-
-onto_some : (t : Piece) (ps : List Part) → 0 < length ps → 0 < length (onto t ps)
-onto_some t [] some = some
-onto_some t (p ∷ ps) some = some
-
-pub parts_some : (mark : ℕ) (stop : Piece) (ts : List Piece) → 0 < length (parts mark stop ts)
-unfolding parts
-parts_some mark stop [] = omega arith
-parts_some mark stop (t ∷ ts) = go (is_token mark t) (parts_some mark stop ts)
-  where
-    go : (b : Bool) → 0 < length (parts mark stop ts) → 0 < length (cond b (record { tokens = []; stop = t } ∷ parts mark stop ts) (onto t (parts mark stop ts)))
-    go true h = omega arith
-    go false h = onto_some t (parts mark stop ts) h
 
 -- ---- values
 

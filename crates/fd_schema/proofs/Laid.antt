@@ -1,15 +1,16 @@
 -- The tokens of printed texts.
-use Rattle.std.proofs.Common.{◌≡◌, ◌<◌, ◌+◌, ◌∙◌, ℕ, Bool, true, false, cond, not, List, [], ◌∷◌, ◌++◌, length, take, drop, eqb, ltb, leb, Result, Ok, refl, sym, ap, append_assoc, length-append, arith}
+use Rattle.std.proofs.Common.{◌≡◌, ◌<◌, ◌+◌, ◌∙◌, ℕ, Bool, true, false, not, List, [], ◌∷◌, ◌++◌, length, eqb, ltb, leb, Result, Ok, refl, sym, ap, append_assoc, length-append, arith}
 use Rattle.std.specs.Prelude.{◌&&◌, ◌||◌}
 use Rattle.std.specs.List.{list_all}
 use Rattle.std.specs.Char.{to_ascii_lowercase}
-use Rattle.std.proofs.lemmas.Bool.{and_parts, and_from, eqb-true, ltb-true}
+use Rattle.std.proofs.lemmas.Bool.{and_parts, and_from, ltb-true}
 use Rattle.std.proofs.lemmas.Bool.Decides.{nat_tests}
-use Rattle.std.proofs.Math.Seq.{take-append_seam, drop-append_seam}
 use Rattle.fd_key.specs.Names.{is_name, is_name_byte, is_letter, is_value, is_value_byte}
-use Rattle.fd_schema.specs.Tokens.{in_comment, shown, plain, is_blank, is_word, word_len, Piece, Part, begins_word, one, glue, tokens, is_token, onto, parts}
-use Rattle.fd_schema.specs.Grammar.{Fault, ◌>>=◌, each_of}
-use Rattle.fd_schema.proofs.Words.{words}
+use Rattle.fd_tokens.specs.Tokens.{is_word, Piece, Part, begins_word, tokens, is_token, parts}
+use Rattle.fd_tokens.proofs.Written.{are_word, piece, word_token}
+use Rattle.fd_tokens.proofs.Cuts.{are_apart, no_cut, first_cut}
+use Rattle.fd_schema.specs.Plain.{in_comment, shown, plain}
+use Rattle.fd_schema.specs.Grammar.{marks, Fault, ◌>>=◌, each_of}
 use Rattle.fd_schema.proofs.Facts.{Follow}
 
 -- ---- bytes that are shown as they are
@@ -42,22 +43,19 @@ kept_joined (x ∷ xs) ys hx hy =
 
 -- ---- words
 
-abbrev pub are_word : List ℕ → Bool
-are_word text = list_all is_word text
-
 all_from : (p q : ℕ → Bool) → ((b : ℕ) → p b ≡ true → q b ≡ true) → (bs : List ℕ) → list_all p bs ≡ true → list_all q bs ≡ true
 all_from p q each [] h = refl
 all_from p q each (b ∷ bs) h =
     let parts = and_parts (p b) (list_all p bs) h in
     and_from (q b) (list_all q bs) (each b parts.0) (all_from p q each bs parts.1)
 
-name_word : (b : ℕ) → is_name_byte b ≡ true → is_word b ≡ true
+name_word : (b : ℕ) → is_name_byte b ≡ true → is_word marks b ≡ true
 name_word b h = grind (arith, nat_tests)
 
 name_kept : (b : ℕ) → is_name_byte b ≡ true → is_kept b ≡ true
 name_kept b h = grind (arith, nat_tests)
 
-value_word : (b : ℕ) → is_value_byte b ≡ true → is_word b ≡ true
+value_word : (b : ℕ) → is_value_byte b ≡ true → is_word marks b ≡ true
 value_word b h = grind (arith, nat_tests)
 
 value_kept : (b : ℕ) → is_value_byte b ≡ true → is_kept b ≡ true
@@ -69,7 +67,7 @@ letter_name b h = grind (arith, nat_tests)
 -- a text that is one word, and that is shown as it is
 pub record IsWord (text : List ℕ) : Type 0 where
   pub some : 0 < length text
-  pub word : are_word text ≡ true
+  pub word : are_word marks text ≡ true
   pub kept : are_kept text ≡ true
 
 pub name_bytes : (name : List ℕ) → is_name name ≡ true → list_all is_name_byte name ≡ true
@@ -85,74 +83,27 @@ name_some (b ∷ bs) h = omega arith
 pub name_is_word : (name : List ℕ) → is_name name ≡ true → IsWord name
 name_is_word name h =
     let bytes = name_bytes name h in
-    record { some = name_some name h; word = all_from is_name_byte is_word name_word name bytes; kept = all_from is_name_byte is_kept name_kept name bytes }
+    record { some = name_some name h; word = all_from is_name_byte (is_word marks) name_word name bytes; kept = all_from is_name_byte is_kept name_kept name bytes }
 
 pub value_is_word : (value : List ℕ) → is_value value ≡ true → IsWord value
 value_is_word value h =
     let parts = and_parts (ltb 0 (length value) && leb (length value) 255) (list_all is_value_byte value) h in
     record {
       some = ltb-true 0 (length value) (and_parts (ltb 0 (length value)) (leb (length value) 255) parts.0).0;
-      word = all_from is_value_byte is_word value_word value parts.1;
+      word = all_from is_value_byte (is_word marks) value_word value parts.1;
       kept = all_from is_value_byte is_kept value_kept value parts.1;
     }
 
-word_end : (rest : List ℕ) → begins_word rest ≡ false → word_len rest ≡ 0
-word_end [] h = refl
-word_end (b ∷ bs) h = ap (λ w. cond w (1 + word_len bs) 0) h
-
-word_len_is : (word rest : List ℕ) → are_word word ≡ true → begins_word rest ≡ false → word_len (word ++ rest) ≡ length word
-word_len_is [] rest h ends = word_end rest ends
-word_len_is (b ∷ bs) rest h ends =
-    let parts = and_parts (is_word b) (are_word bs) h in
-    ap (λ w. cond w (1 + word_len (bs ++ rest)) 0) parts.0 ∙ omega (arith, word_len_is bs rest parts.1 ends)
-
-begins : (word rest : List ℕ) → 0 < length word → are_word word ≡ true → begins_word (word ++ rest) ≡ true
-begins [] rest some h = absurd (omega arith)
-begins (b ∷ bs) rest some h = (and_parts (is_word b) (are_word bs) h).0
-
-abbrev pub piece : ℕ → List ℕ → Piece
-piece at text = record { at = at; text = text }
-
--- a word before what begins no word is a token
-pub word_token : (at : ℕ) (word rest : List ℕ) → IsWord word → begins_word rest ≡ false → tokens at (word ++ rest) ≡ piece at word ∷ tokens (at + length word) rest
-word_token at word rest w ends =
-    let n : word_len (word ++ rest) ≡ length word = word_len_is word rest w.word ends in
-    words at (word ++ rest) (begins word rest w.some w.word)
-    ∙ ap (λ k. piece at (take k (word ++ rest)) ∷ tokens (at + k) (drop k (word ++ rest))) n
-    ∙ ap (λ (t : List ℕ). piece at t ∷ tokens (at + length word) (drop (length word) (word ++ rest))) (take-append_seam word rest)
-    ∙ ap (λ (t : List ℕ). piece at word ∷ tokens (at + length word) t) (drop-append_seam word rest)
-
-pub mark_token : (at mark : ℕ) (rest : List ℕ) → is_word mark ≡ false → is_blank mark ≡ false → tokens at (mark ∷ rest) ≡ one at mark ∷ tokens (at + 1) rest
-unfolding tokens
-mark_token at mark rest w b =
-    let ts = tokens (at + 1) rest in
-    ap (λ v. cond v (glue at mark ts) (cond (is_blank mark) ts (one at mark ∷ ts))) w ∙ ap (λ v. cond v ts (one at mark ∷ ts)) b
-
-pub blank_token : (at blank : ℕ) (rest : List ℕ) → is_word blank ≡ false → is_blank blank ≡ true → tokens at (blank ∷ rest) ≡ tokens (at + 1) rest
-unfolding tokens
-blank_token at blank rest w b =
-    let ts = tokens (at + 1) rest in
-    ap (λ v. cond v (glue at blank ts) (cond (is_blank blank) ts (one at blank ∷ ts))) w ∙ ap (λ v. cond v ts (one at blank ∷ ts)) b
-
--- a word is no mark
-pub word_is_no_mark : (at mark : ℕ) (word : List ℕ) → are_word word ≡ true → is_word mark ≡ false → is_token mark (piece at word) ≡ false
-word_is_no_mark at mark [] w m = refl
-word_is_no_mark at mark (b ∷ []) w m = go (eqb b mark) refl
-  where
-    go : (e : Bool) → eqb b mark ≡ e → e ≡ false
-    go true e =
-        let same : is_word b ≡ is_word mark = ap is_word (eqb-true b mark e) in
-        let word : is_word b ≡ true = (and_parts (is_word b) true w).0 in
-        absurd (cc)
-    go false e = refl
-word_is_no_mark at mark (b ∷ c ∷ bs) w m = refl
+-- such a word before what begins no word is a token
+pub laid_word : (at : ℕ) (word rest : List ℕ) → IsWord word → begins_word marks rest ≡ false → tokens marks at (word ++ rest) ≡ piece at word ∷ tokens marks (at + length word) rest
+laid_word at word rest w ends = word_token marks at word rest w.some w.word ends
 
 -- ---- parts between marks
 
 -- the tokens of one part, which is read as this
 pub record IsPart {A : Type 0} (read : List A → Part → Result A Fault) (mark : ℕ) (before : List A) (x : A) (ts : List Piece) : Type 0 where
   pub some : 0 < length ts
-  pub whole : list_all (λ t. not (is_token mark t)) ts ≡ true
+  pub whole : are_apart mark ts ≡ true
   pub reads : (stop : Piece) → read before (record { tokens = ts; stop = stop }) ≡ Ok x
 
 -- the tokens of parts with marks between them
@@ -160,31 +111,6 @@ pub data AreParts {A : Type 0} (read : List A → Part → Result A Fault) (mark
   Last : (before : List A) (x : A) (ts : List Piece) → IsPart read mark before x ts → AreParts read mark before (x ∷ []) ts
   More : (before : List A) (x : A) (xs : List A) (ts : List Piece) (m : Piece) (others : List Piece) → IsPart read mark before x ts → is_token mark m ≡ true
       → AreParts read mark (before ++ x ∷ []) xs others → AreParts read mark before (x ∷ xs) (ts ++ m ∷ others)
-
-no_cut : (mark : ℕ) (ts : List Piece) (stop : Piece) → list_all (λ t. not (is_token mark t)) ts ≡ true → parts mark stop ts ≡ record { tokens = ts; stop = stop } ∷ []
-unfolding parts
-no_cut mark [] stop h = refl
-no_cut mark (t ∷ ts) stop h =
-    let both = and_parts (not (is_token mark t)) (list_all (λ t. not (is_token mark t)) ts) h in
-    go (is_token mark t) both.0 (no_cut mark ts stop both.1)
-  where
-    go : (b : Bool) → not b ≡ true → parts mark stop ts ≡ record { tokens = ts; stop = stop } ∷ []
-        → cond b (record { tokens = []; stop = t } ∷ parts mark stop ts) (onto t (parts mark stop ts)) ≡ record { tokens = t ∷ ts; stop = stop } ∷ []
-    go true n h = absurd (cc)
-    go false n h = ap (onto t) h
-
-first_cut : (mark : ℕ) (ts : List Piece) (m : Piece) (others : List Piece) (stop : Piece) → list_all (λ t. not (is_token mark t)) ts ≡ true → is_token mark m ≡ true
-    → parts mark stop (ts ++ m ∷ others) ≡ record { tokens = ts; stop = m } ∷ parts mark stop others
-unfolding parts
-first_cut mark [] m others stop h is = ap (λ b. cond b (record { tokens = []; stop = m } ∷ parts mark stop others) (onto m (parts mark stop others))) is
-first_cut mark (t ∷ ts) m others stop h is =
-    let both = and_parts (not (is_token mark t)) (list_all (λ t. not (is_token mark t)) ts) h in
-    go (is_token mark t) both.0 (first_cut mark ts m others stop both.1 is)
-  where
-    go : (b : Bool) → not b ≡ true → parts mark stop (ts ++ m ∷ others) ≡ record { tokens = ts; stop = m } ∷ parts mark stop others
-        → cond b (record { tokens = []; stop = t } ∷ parts mark stop (ts ++ m ∷ others)) (onto t (parts mark stop (ts ++ m ∷ others))) ≡ record { tokens = t ∷ ts; stop = m } ∷ parts mark stop others
-    go true n h = absurd (cc)
-    go false n h = ap (onto t) h
 
 -- the parts are read in turn
 pub parts_read : {A : Type 0} (read : List A → Part → Result A Fault) (mark : ℕ) (before xs : List A) (ts : List Piece) → AreParts read mark before xs ts → (stop : Piece) → each_of read before (parts mark stop ts) ≡ Ok (before ++ xs)
@@ -206,15 +132,15 @@ parts_some read mark before xs ts (More b x ys us m others p is rest) = omega (a
 pub record Laid (P : List Piece → Type 0) (at : ℕ) (text rest : List ℕ) : Type 0 where
   pub ts : List Piece
   pub end : ℕ
-  pub is : tokens at (text ++ rest) ≡ ts ++ tokens end rest
+  pub is : tokens marks at (text ++ rest) ≡ ts ++ tokens marks end rest
   pub holds : P ts
 
 -- a separator's one token
 pub record IsSeparator (mark : ℕ) (clean : Piece → Bool) (at : ℕ) (text rest : List ℕ) : Type 0 where
   pub token : Piece
   pub end : ℕ
-  pub is : tokens at (text ++ rest) ≡ token ∷ tokens end rest
-  pub marks : is_token mark token ≡ true
+  pub is : tokens marks at (text ++ rest) ≡ token ∷ tokens marks end rest
+  pub cuts : is_token mark token ≡ true
   pub cleans : clean token ≡ true
 
 abbrev pub joined_text : {A : Type 0} → (A → List ℕ) → List ℕ → A → List A → List ℕ
@@ -238,13 +164,13 @@ PartOf read mark clean before x ts = IsPart read mark before x ts × (are_clean 
 
 -- how each is laid, and what stands between them
 pub record Lays {A : Type 0} (read : List A → Part → Result A Fault) (mark : ℕ) (clean : Piece → Bool) (P : List A → A → Type 0) (text : A → List ℕ) (separator : List ℕ) : Type 0 where
-  pub each : (before : List A) (x : A) → P before x → (at : ℕ) (rest : List ℕ) → begins_word rest ≡ false → Laid (PartOf read mark clean before x) at (text x) rest
+  pub each : (before : List A) (x : A) → P before x → (at : ℕ) (rest : List ℕ) → begins_word marks rest ≡ false → Laid (PartOf read mark clean before x) at (text x) rest
   pub between : (at : ℕ) (rest : List ℕ) → IsSeparator mark clean at separator rest
-  pub apart : (rest : List ℕ) → begins_word (separator ++ rest) ≡ false
+  pub apart : (rest : List ℕ) → begins_word marks (separator ++ rest) ≡ false
 
 pub joined_laid : {A : Type 0} (read : List A → Part → Result A Fault) (mark : ℕ) (clean : Piece → Bool) (P : List A → A → Type 0) (text : A → List ℕ) (separator : List ℕ)
     → Lays read mark clean P text separator
-    → (before : List A) (x : A) (xs : List A) → Follow P before (x ∷ xs) → (at : ℕ) (rest : List ℕ) → begins_word rest ≡ false
+    → (before : List A) (x : A) (xs : List A) → Follow P before (x ∷ xs) → (at : ℕ) (rest : List ℕ) → begins_word marks rest ≡ false
     → Laid (PartsOf read mark clean before (x ∷ xs)) at (joined_text text separator x xs) rest
 joined_laid read mark clean P text separator lays before x [] all at rest ends =
     let l = lays.each before x all.0 at rest ends in
@@ -260,10 +186,10 @@ joined_laid {A} read mark clean P text separator lays before x (y ∷ ys) all at
       ts = l.ts ++ s.token ∷ m.ts;
       end = m.end;
       is =
-          ap (tokens at) whole ∙ l.is ∙ ap (λ (us : List Piece). l.ts ++ us) s.is ∙ ap (λ (us : List Piece). l.ts ++ s.token ∷ us) m.is
-          ∙ sym (append_assoc l.ts (s.token ∷ m.ts) (tokens m.end rest));
+          ap (tokens marks at) whole ∙ l.is ∙ ap (λ (us : List Piece). l.ts ++ us) s.is ∙ ap (λ (us : List Piece). l.ts ++ s.token ∷ us) m.is
+          ∙ sym (append_assoc l.ts (s.token ∷ m.ts) (tokens marks m.end rest));
       holds = (
-        More before x (y ∷ ys) l.ts s.token m.ts l.holds.0 s.marks m.holds.0,
+        More before x (y ∷ ys) l.ts s.token m.ts l.holds.0 s.cuts m.holds.0,
         clean_joined clean l.ts (s.token ∷ m.ts) l.holds.1 (and_from (clean s.token) (are_clean clean m.ts) s.cleans m.holds.1),
       );
     }

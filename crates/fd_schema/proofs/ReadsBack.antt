@@ -9,12 +9,14 @@ use Rattle.std.proofs.Math.Seq.{take-append_seam, drop-append_seam, take-length}
 use Rattle.fd_key.specs.Names.{is_name_byte, is_value, is_value_byte}
 use Rattle.fd_schema.specs.declared.rule.Level.{Level}
 use Rattle.fd_schema.specs.declared.rule.Level.TheVariants.{Dataset, Index, Datum}
-use Rattle.fd_schema.specs.Tokens.{plain, Piece, begins_word, one, tokens, is_token}
+use Rattle.fd_tokens.specs.Tokens.{Piece, begins_word, one, tokens, is_token}
+use Rattle.fd_tokens.proofs.Written.{are_word, piece, mark_token, blank_token, word_is_no_mark}
+use Rattle.fd_schema.specs.Plain.{plain}
 use Rattle.fd_schema.specs.Rules.{Want, Needed, Optional, OneOf, Item, same_level, Rule}
-use Rattle.fd_schema.specs.Grammar.{Byte, Depth, wrong, ◌>>=◌, begins_value, spelled, value_or, value_of, value_in, name_of, want_of, item_of, item_in, items_of, is_bracket, bracket_place, inside, behind, front, level_of, opened, is_required, has_required, closed, Wrong, rule_of, rules_of, some_rule, schema_of, IsSchema}
+use Rattle.fd_schema.specs.Grammar.{marks, Byte, Depth, wrong, ◌>>=◌, begins_value, spelled, value_or, value_of, value_in, name_of, want_of, item_of, item_in, items_of, is_bracket, bracket_place, inside, behind, front, level_of, opened, is_required, has_required, closed, Wrong, rule_of, rules_of, some_rule, schema_of, IsSchema}
 use Rattle.fd_schema.specs.Printed.{values_text, want_text, item_text, level_items_text, rule_text, schema_text}
 use Rattle.fd_schema.proofs.Facts.{Follow, IsValueOf, IsWantOf, IsNew, IsItem, IsRule, AreRules, are_rules}
-use Rattle.fd_schema.proofs.Laid.{are_kept, plain_kept, kept_joined, are_word, IsWord, name_bytes, name_some, name_is_word, value_is_word, piece, word_token, mark_token, blank_token, word_is_no_mark, parts_read, parts_some, Laid, IsSeparator, joined_text, are_clean, PartsOf, PartOf, Lays, joined_laid, joined_kept}
+use Rattle.fd_schema.proofs.Laid.{are_kept, plain_kept, kept_joined, IsWord, name_bytes, name_some, name_is_word, value_is_word, laid_word, parts_read, parts_some, Laid, IsSeparator, joined_text, are_clean, PartsOf, PartOf, Lays, joined_laid, joined_kept}
 use Rattle.fd_schema.proofs.Turns.{rules_end}
 
 -- ---- values
@@ -29,13 +31,13 @@ in_level t = not (is_bracket t)
 abbrev itself : List ℕ → List ℕ
 itself text = text
 
-not_bracket : (at : ℕ) (word : List ℕ) → are_word word ≡ true → in_level (piece at word) ≡ true
+not_bracket : (at : ℕ) (word : List ℕ) → are_word marks word ≡ true → in_level (piece at word) ≡ true
 not_bracket at word w =
-    ap (λ b. not (b || is_token 93 (piece at word))) (word_is_no_mark at 91 word w refl) ∙ ap not (word_is_no_mark at 93 word w refl)
+    ap (λ b. not (b || is_token 93 (piece at word))) (word_is_no_mark marks at 91 word w refl) ∙ ap not (word_is_no_mark marks at 93 word w refl)
 
-word_in_item : (at : ℕ) (word : List ℕ) → are_word word ≡ true → in_item (piece at word) ≡ true
+word_in_item : (at : ℕ) (word : List ℕ) → are_word marks word ≡ true → in_item (piece at word) ≡ true
 word_in_item at word w =
-    and_from (not (is_token 44 (piece at word))) (in_level (piece at word)) (not_from_false (is_token 44 (piece at word)) (word_is_no_mark at 44 word w refl)) (not_bracket at word w)
+    and_from (not (is_token 44 (piece at word))) (in_level (piece at word)) (not_from_false (is_token 44 (piece at word)) (word_is_no_mark marks at 44 word w refl)) (not_bracket at word w)
 
 value_begins : (value : List ℕ) → is_value value ≡ true → begins_value value ≡ true
 value_begins [] h = absurd (cc)
@@ -48,18 +50,18 @@ unfolding value_of
 value_reads name value before at stop v =
     cond-true (begins_value value) (value_or (spelled name value) at []) (wrong at Byte) (value_begins value v.is) ∙ ap (λ o. value_or o at []) v.again
 
-value_laid : (name : List ℕ) (before : List (List ℕ)) (value : List ℕ) → IsValueOf name before value → (at : ℕ) (rest : List ℕ) → begins_word rest ≡ false
+value_laid : (name : List ℕ) (before : List (List ℕ)) (value : List ℕ) → IsValueOf name before value → (at : ℕ) (rest : List ℕ) → begins_word marks rest ≡ false
     → Laid (PartOf (value_in name) 47 in_item before value) at (itself value) rest
 value_laid name before value v at rest ends =
     let w : IsWord value = value_is_word value v.is in
     record {
       ts = piece at value ∷ [];
       end = at + length value;
-      is = word_token at value rest w ends;
+      is = laid_word at value rest w ends;
       holds = (
         record {
           some = omega arith;
-          whole = and_from (not (is_token 47 (piece at value))) true (not_from_false (is_token 47 (piece at value)) (word_is_no_mark at 47 value w.word refl)) refl;
+          whole = and_from (not (is_token 47 (piece at value))) true (not_from_false (is_token 47 (piece at value)) (word_is_no_mark marks at 47 value w.word refl)) refl;
           reads = λ stop. value_reads name value before at stop v;
         },
         and_from (in_item (piece at value)) true (word_in_item at value w.word) refl,
@@ -67,7 +69,7 @@ value_laid name before value v at rest ends =
     }
 
 slash : (at : ℕ) (rest : List ℕ) → IsSeparator 47 in_item at (codes "/") rest
-slash at rest = record { token = one at 47; end = at + 1; is = mark_token at 47 rest refl refl; marks = refl; cleans = refl }
+slash at rest = record { token = one at 47; end = at + 1; is = mark_token marks at 47 rest refl refl; cuts = refl; cleans = refl }
 
 values_lay : (name : List ℕ) → Lays (value_in name) 47 in_item (IsValueOf name) itself (codes "/")
 values_lay name = record { each = value_laid name; between = slash; apart = λ rest. refl }
@@ -80,7 +82,7 @@ values_are_joined v (w ∷ ws) = ap (λ (t : List ℕ). v ++ 47 ∷ t) (values_a
 -- ---- items
 
 abbrev ends_here : List ℕ → Type 0
-ends_here rest = begins_word rest ≡ false
+ends_here rest = begins_word marks rest ≡ false
 
 -- tokens behind a name, and what they are read as
 abbrev WantTokens : List ℕ → Want → List Piece → Type 0
@@ -96,14 +98,14 @@ values_want name (v ∷ vs) at rest is ends =
     record {
       ts = one at 61 ∷ l.ts;
       end = l.end;
-      is = ap (tokens at) printed ∙ mark_token at 61 (text ++ rest) refl refl ∙ ap (λ (ts : List Piece). one at 61 ∷ ts) l.is;
+      is = ap (tokens marks at) printed ∙ mark_token marks at 61 (text ++ rest) refl refl ∙ ap (λ (ts : List Piece). one at 61 ∷ ts) l.is;
       holds = (λ stop. ap (λ r. r >>= λ xs. Ok (OneOf xs)) (parts_read (value_in name) 47 [] (v ∷ vs) l.ts l.holds.0 stop), l.holds.1);
     }
 
 want_laid : (name : List ℕ) (want : Want) (at : ℕ) (rest : List ℕ) → IsWantOf name want → ends_here rest → Laid (WantTokens name want) at (want_text want) rest
 unfolding want_of
 want_laid name Needed at rest is ends = record { ts = []; end = at; is = refl; holds = (λ stop. refl, refl) }
-want_laid name Optional at rest is ends = record { ts = one at 63 ∷ []; end = at + 1; is = mark_token at 63 rest refl refl; holds = (λ stop. refl, refl) }
+want_laid name Optional at rest is ends = record { ts = one at 63 ∷ []; end = at + 1; is = mark_token marks at 63 rest refl refl; holds = (λ stop. refl, refl) }
 want_laid name (OneOf values) at rest is ends = values_want name values at rest is ends
 
 want_ends : (want : Want) (rest : List ℕ) → ends_here rest → ends_here (want_text want ++ rest)
@@ -138,7 +140,7 @@ item_laid level before i is at rest ends =
     record {
       ts = first ∷ l.ts;
       end = l.end;
-      is = ap (tokens at) (append_assoc i.name (want_text i.want) rest) ∙ word_token at i.name behind_name w (want_ends i.want rest ends) ∙ ap (λ (ts : List Piece). first ∷ ts) l.is;
+      is = ap (tokens marks at) (append_assoc i.name (want_text i.want) rest) ∙ laid_word at i.name behind_name w (want_ends i.want rest ends) ∙ ap (λ (ts : List Piece). first ∷ ts) l.is;
       holds = (
         record {
           some = omega arith;
@@ -168,8 +170,8 @@ comma : (at : ℕ) (rest : List ℕ) → IsSeparator 44 in_level at (codes ", ")
 comma at rest = record {
   token = one at 44;
   end = at + 1 + 1;
-  is = mark_token at 44 (32 ∷ rest) refl refl ∙ ap (λ (ts : List Piece). one at 44 ∷ ts) (blank_token (at + 1) 32 rest refl refl);
-  marks = refl;
+  is = mark_token marks at 44 (32 ∷ rest) refl refl ∙ ap (λ (ts : List Piece). one at 44 ∷ ts) (blank_token marks (at + 1) 32 rest refl refl);
+  cuts = refl;
   cleans = refl;
 }
 
@@ -380,25 +382,25 @@ rule_shape : (a b c rest : List ℕ)
 rule_shape a b c rest = simp append_assoc
 
 -- a blank and a bracket
-next_level : (at : ℕ) (rest : List ℕ) → tokens at (32 ∷ 91 ∷ rest) ≡ one (at + 1) 91 ∷ tokens (at + 1 + 1) rest
-next_level at rest = blank_token at 32 (91 ∷ rest) refl refl ∙ mark_token (at + 1) 91 rest refl refl
+next_level : (at : ℕ) (rest : List ℕ) → tokens marks at (32 ∷ 91 ∷ rest) ≡ one (at + 1) 91 ∷ tokens marks (at + 1 + 1) rest
+next_level at rest = blank_token marks at 32 (91 ∷ rest) refl refl ∙ mark_token marks (at + 1) 91 rest refl refl
 
 -- three brackets and a line end
-line_end : (at : ℕ) (rest : List ℕ) → tokens at (93 ∷ 93 ∷ 93 ∷ 10 ∷ rest) ≡ one at 93 ∷ one (at + 1) 93 ∷ one (at + 1 + 1) 93 ∷ tokens (at + 1 + 1 + 1 + 1) rest
+line_end : (at : ℕ) (rest : List ℕ) → tokens marks at (93 ∷ 93 ∷ 93 ∷ 10 ∷ rest) ≡ one at 93 ∷ one (at + 1) 93 ∷ one (at + 1 + 1) 93 ∷ tokens marks (at + 1 + 1 + 1 + 1) rest
 line_end at rest =
-    mark_token at 93 (93 ∷ 93 ∷ 10 ∷ rest) refl refl
-    ∙ ap (λ (ts : List Piece). one at 93 ∷ ts) (mark_token (at + 1) 93 (93 ∷ 10 ∷ rest) refl refl)
-    ∙ ap (λ (ts : List Piece). one at 93 ∷ one (at + 1) 93 ∷ ts) (mark_token (at + 1 + 1) 93 (10 ∷ rest) refl refl)
-    ∙ ap (λ (ts : List Piece). one at 93 ∷ one (at + 1) 93 ∷ one (at + 1 + 1) 93 ∷ ts) (blank_token (at + 1 + 1 + 1) 10 rest refl refl)
+    mark_token marks at 93 (93 ∷ 93 ∷ 10 ∷ rest) refl refl
+    ∙ ap (λ (ts : List Piece). one at 93 ∷ ts) (mark_token marks (at + 1) 93 (93 ∷ 10 ∷ rest) refl refl)
+    ∙ ap (λ (ts : List Piece). one at 93 ∷ one (at + 1) 93 ∷ ts) (mark_token marks (at + 1 + 1) 93 (10 ∷ rest) refl refl)
+    ∙ ap (λ (ts : List Piece). one at 93 ∷ one (at + 1) 93 ∷ one (at + 1 + 1) 93 ∷ ts) (blank_token marks (at + 1 + 1 + 1) 10 rest refl refl)
 
 -- the tokens of a rule, and what they are read as
 pub record RuleLaid (at : ℕ) (r : Rule) (rest : List ℕ) : Type 0 where
   pub opening_bracket : Piece
   pub ts : List Piece
   pub end : ℕ
-  pub is : tokens at (rule_text r ++ rest) ≡ opening_bracket ∷ ts
+  pub is : tokens marks at (rule_text r ++ rest) ≡ opening_bracket ∷ ts
   pub opens : is_token 91 opening_bracket ≡ true
-  pub reads : (stop : Piece) → rule_of stop ts ≡ Ok (r, tokens end rest)
+  pub reads : (stop : Piece) → rule_of stop ts ≡ Ok (r, tokens marks end rest)
 
 rule_chosen : (level : Level) (before : List Rule) (r : Rule) (is : IsRule before r) → chosen level r ≡ (chosen level is.dataset ++ chosen level is.index) ++ chosen level is.datum
 rule_chosen level before r is =
@@ -455,12 +457,12 @@ rule_laid before r is at rest =
     let la = p.dataset.laid (at + 1) (32 ∷ 91 ∷ index) refl in
     let lb = p.index.laid (la.end + 1 + 1) (32 ∷ 91 ∷ datum) refl in
     let lc = p.datum.laid (lb.end + 1 + 1) last refl in
-    let more : List Piece = tokens (lc.end + 1 + 1 + 1 + 1) rest in
+    let more : List Piece = tokens marks (lc.end + 1 + 1 + 1 + 1) rest in
     let closes : List Piece = one lc.end 93 ∷ one (lc.end + 1) 93 ∷ one (lc.end + 1 + 1) 93 ∷ more in
-    let third : tokens (lb.end + 1 + 1) datum ≡ lc.ts ++ closes = lc.is ∙ ap (λ (ts : List Piece). lc.ts ++ ts) (line_end lc.end rest) in
-    let second : tokens (la.end + 1 + 1) index ≡ lb.ts ++ one (lb.end + 1) 91 ∷ (lc.ts ++ closes) =
+    let third : tokens marks (lb.end + 1 + 1) datum ≡ lc.ts ++ closes = lc.is ∙ ap (λ (ts : List Piece). lc.ts ++ ts) (line_end lc.end rest) in
+    let second : tokens marks (la.end + 1 + 1) index ≡ lb.ts ++ one (lb.end + 1) 91 ∷ (lc.ts ++ closes) =
     lb.is ∙ ap (λ (ts : List Piece). lb.ts ++ ts) (next_level lb.end datum) ∙ ap (λ (ts : List Piece). lb.ts ++ one (lb.end + 1) 91 ∷ ts) third in
-    let first : tokens (at + 1) (a ++ 32 ∷ 91 ∷ index) ≡ la.ts ++ one (la.end + 1) 91 ∷ (lb.ts ++ one (lb.end + 1) 91 ∷ (lc.ts ++ closes)) =
+    let first : tokens marks (at + 1) (a ++ 32 ∷ 91 ∷ index) ≡ la.ts ++ one (la.end + 1) 91 ∷ (lb.ts ++ one (lb.end + 1) 91 ∷ (lc.ts ++ closes)) =
     la.is ∙ ap (λ (ts : List Piece). la.ts ++ ts) (next_level la.end index) ∙ ap (λ (ts : List Piece). la.ts ++ one (la.end + 1) 91 ∷ ts) second in
     let k : RuleTokens is.dataset is.index is.datum (la.ts ++ one (la.end + 1) 91 ∷ (lb.ts ++ one (lb.end + 1) 91 ∷ (lc.ts ++ closes))) more = record {
       first = la.ts;
@@ -485,7 +487,7 @@ rule_laid before r is at rest =
       opening_bracket = one at 91;
       ts = la.ts ++ one (la.end + 1) 91 ∷ (lb.ts ++ one (lb.end + 1) 91 ∷ (lc.ts ++ closes));
       end = lc.end + 1 + 1 + 1 + 1;
-      is = ap (tokens at) (rule_shape a b c rest) ∙ mark_token at 91 (a ++ 32 ∷ 91 ∷ index) refl refl ∙ ap (λ (ts : List Piece). one at 91 ∷ ts) first;
+      is = ap (tokens marks at) (rule_shape a b c rest) ∙ mark_token marks at 91 (a ++ 32 ∷ 91 ∷ index) refl refl ∙ ap (λ (ts : List Piece). one at 91 ∷ ts) first;
       opens = refl;
       reads = λ stop. rule_reads r before is stop _ more k;
     }
@@ -503,13 +505,13 @@ rule_kept before r is =
 
 -- ---- all rules
 
-rules_read : (left : ℕ) (end : Piece) (before added : List Rule) → Follow IsRule before added → length added ≤ left → (at : ℕ) → rules_of left end before (tokens at (schema_text added)) ≡ Ok (before ++ added)
+rules_read : (left : ℕ) (end : Piece) (before added : List Rule) → Follow IsRule before added → length added ≤ left → (at : ℕ) → rules_of left end before (tokens marks at (schema_text added)) ≡ Ok (before ++ added)
 unfolding schema_text tokens rules_of
 rules_read left end before [] all few at = rules_end left end before ∙ ap (λ (x : List Rule). Ok x) (sym (append-nil before))
 rules_read zero end before (r ∷ rs) all few at = absurd (omega arith)
 rules_read (suc left) end before (r ∷ rs) all few at =
     let l = rule_laid before r all.0 at (schema_text rs) in
-    let others = tokens l.end (schema_text rs) in
+    let others = tokens marks l.end (schema_text rs) in
     ap (rules_of (suc left) end before) l.is
     ∙ cond-true (is_token 91 l.opening_bracket) (rule_of end l.ts >>= λ x. rules_of left end (before ++ x.0 ∷ []) x.1) (wrong l.opening_bracket.at Byte) l.opens
     ∙ ap (λ x. x >>= λ y. rules_of left end (before ++ y.0 ∷ []) y.1) (l.reads end)
@@ -533,9 +535,9 @@ reads_back rules is short =
     let end : Piece = record { at = length text; text = [] } in
     let are : AreRules rules = are_rules is.0 rules is.1 in
     let shown : plain false text ≡ text = plain_kept text (rules_kept [] rules are.all) in
-    let read : rules_of 256 end [] (tokens 0 text) ≡ Ok rules = rules_read 256 end [] rules are.all are.few 0 in
-    cond-false (ltb 65536 (length text)) _ (rules_of 256 end [] (tokens 0 (plain false text)) >>= λ rs. some_rule (length text) rs) (le-ltb 65536 (length text) short)
-    ∙ ap (λ t. rules_of 256 end [] (tokens 0 t) >>= λ rs. some_rule (length text) rs) shown
+    let read : rules_of 256 end [] (tokens marks 0 text) ≡ Ok rules = rules_read 256 end [] rules are.all are.few 0 in
+    cond-false (ltb 65536 (length text)) _ (rules_of 256 end [] (tokens marks 0 (plain false text)) >>= λ rs. some_rule (length text) rs) (le-ltb 65536 (length text) short)
+    ∙ ap (λ t. rules_of 256 end [] (tokens marks 0 t) >>= λ rs. some_rule (length text) rs) shown
     ∙ ap (λ r. r >>= λ rs. some_rule (length text) rs) read
     ∙ some_are (length text) rules are.some
 

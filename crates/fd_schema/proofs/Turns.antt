@@ -1,20 +1,13 @@
 -- One step of each reading.
 use Rattle.std.proofs.Common.{◌≡◌, ℕ, zero, suc, ◌+◌, ◌-◌, ◌<◌, ◌≤◌, true, false, List, [], ◌∷◌, ◌++◌, length, take, drop, get_or, Result, Ok, refl, ap, subst, ◌∙◌, sym, arith}
-use Rattle.fd_schema.specs.declared.token.Token.{Token}
+use Rattle.fd_tokens.specs.declared.token.Token.{Token}
 use Rattle.fd_schema.specs.declared.fault.Refusal.{Refusal}
 use Rattle.fd_schema.specs.declared.fault.Refusal.TheVariants as refusals
 use Rattle.fd_schema.specs.Reading.{Fails}
-use Rattle.fd_schema.proofs.Cuts.{part_more, part_last}
 use Rattle.std.proofs.lemmas.List.{take_rest}
-use Rattle.fd_schema.specs.Tokens.{Piece, Part, is_token, parts, mark_place, view, views}
+use Rattle.fd_tokens.specs.Tokens.{Piece, Part, is_token, view, views}
 use Rattle.fd_schema.specs.Rules.{Rule}
 use Rattle.fd_schema.specs.Grammar.{Fault, ◌>>=◌, wrong, Byte, TooMany, each_of, rule_of, rules_of}
-
--- What a turn over parts knows: where the part from a place on ends, and what the whole is.
-pub record Turn {A : Type 0} (read : List A → Part → Result A Fault) (mark : ℕ) (stop : Piece) (ts : List Token) (before : List A) (from end : ℕ) (total : Result (List A) Fault) : Type 0 where
-  pub place : end ≡ from + mark_place mark (views (drop from ts))
-  pub forward : from ≤ end
-  pub so_far : each_of read before (parts mark stop (views (drop from ts))) ≡ total
 
 goes : {A : Type 0} (read : List A → Part → Result A Fault) (before : List A) (p : Part) (ps : List Part) (x : A) → read before p ≡ Ok x → each_of read before (p ∷ ps) ≡ each_of read (before ++ x ∷ []) ps
 unfolding each_of
@@ -29,32 +22,20 @@ ends : {A : Type 0} (read : List A → Part → Result A Fault) (before : List A
 unfolding each_of
 ends read before = refl
 
-abbrev pub part_to : List Token → ℕ → ℕ → Piece → Part
-part_to ts from end stop = record { tokens = views (take (end - from) (drop from ts)); stop = stop }
+-- ---- one part, of those that are left
 
-pub last_goes : {A : Type 0} (read : List A → Part → Result A Fault) (mark : ℕ) (stop : Piece) (ts : List Token) (before : List A) (from end : ℕ) (total : Result (List A) Fault) (x : A)
-    → Turn read mark stop ts before from end total → end ≡ length ts → read before (part_to ts from end stop) ≡ Ok x → total ≡ Ok (before ++ x ∷ [])
-last_goes read mark stop ts before from end total x t all e =
-    sym t.so_far ∙ ap (each_of read before) (part_last mark stop ts from end t.place all t.forward) ∙ goes read before (part_to ts from end stop) [] x e ∙ ends read (before ++ x ∷ [])
+pub part_goes : {A : Type 0} (read : List A → Part → Result A Fault) (before : List A) (p : Part) (ps qs : List Part) (x : A) (total : Result (List A) Fault)
+    → qs ≡ p ∷ ps → each_of read before qs ≡ total → read before p ≡ Ok x → each_of read (before ++ x ∷ []) ps ≡ total
+part_goes read before p ps qs x total is so_far h = sym (goes read before p ps x h) ∙ ap (each_of read before) (sym is) ∙ so_far
 
-pub more_goes : {A : Type 0} (read : List A → Part → Result A Fault) (mark : ℕ) (stop : Piece) (ts : List Token) (before : List A) (from end : ℕ) (total : Result (List A) Fault) (x : A) (m : Token)
-    → Turn read mark stop ts before from end total → end < length ts → m ≡ get_or ts end m → read before (part_to ts from end (view m)) ≡ Ok x
-    → each_of read (before ++ x ∷ []) (parts mark stop (views (drop (end + 1) ts))) ≡ total
-more_goes read mark stop ts before from end total x m t lt is e =
-    sym (goes read before (part_to ts from end (view m)) (parts mark stop (views (drop (end + 1) ts))) x e)
-    ∙ ap (each_of read before) (sym (part_more mark stop ts from end m t.place lt is)) ∙ t.so_far
+pub part_stops : {A : Type 0} (read : List A → Part → Result A Fault) (before : List A) (p : Part) (ps qs : List Part) (e : Refusal) (total : Result (List A) Fault)
+    → qs ≡ p ∷ ps → each_of read before qs ≡ total → Fails e (read before p) → Fails e total
+part_stops {A} read before p ps qs e total is so_far h =
+    subst (λ (r : Result (List A) Fault). Fails e r) (ap (each_of read before) (sym is) ∙ so_far) (stops read before p ps e h)
 
-pub last_stops : {A : Type 0} (read : List A → Part → Result A Fault) (mark : ℕ) (stop : Piece) (ts : List Token) (before : List A) (from end : ℕ) (total : Result (List A) Fault) (e : Refusal)
-    → Turn read mark stop ts before from end total → end ≡ length ts → Fails e (read before (part_to ts from end stop)) → Fails e total
-last_stops {A} read mark stop ts before from end total e t all h =
-    subst (λ (r : Result (List A) Fault). Fails e r) (ap (each_of read before) (sym (part_last mark stop ts from end t.place all t.forward)) ∙ t.so_far)
-    (stops read before (part_to ts from end stop) [] e h)
-
-pub more_stops : {A : Type 0} (read : List A → Part → Result A Fault) (mark : ℕ) (stop : Piece) (ts : List Token) (before : List A) (from end : ℕ) (total : Result (List A) Fault) (e : Refusal) (m : Token)
-    → Turn read mark stop ts before from end total → end < length ts → m ≡ get_or ts end m → Fails e (read before (part_to ts from end (view m))) → Fails e total
-more_stops {A} read mark stop ts before from end total e m t lt is h =
-    subst (λ (r : Result (List A) Fault). Fails e r) (ap (each_of read before) (sym (part_more mark stop ts from end m t.place lt is)) ∙ t.so_far)
-    (stops read before (part_to ts from end (view m)) (parts mark stop (views (drop (end + 1) ts))) e h)
+pub parts_end : {A : Type 0} (read : List A → Part → Result A Fault) (before : List A) (qs : List Part) (total : Result (List A) Fault)
+    → qs ≡ [] → each_of read before qs ≡ total → total ≡ Ok before
+parts_end read before qs total is so_far = sym so_far ∙ ap (each_of read before) is ∙ ends read before
 
 -- ---- rules
 

@@ -4,14 +4,19 @@
 --   rule   = "[" level "[" level "[" level "]" "]" "]"
 --   level  = item { "," item }
 --   item   = name | name "?" | name "=" value { "/" value }
-use Rattle.std.specs.Prelude.{◌≡◌, ℕ, zero, suc, ◌+◌, Bool, false, not, ◌&&◌, ◌||◌, List, [], ◌∷◌, ◌++◌, length, take, drop, nat_lt, nat_le, ◌==◌, if◌then◌else◌, Option, Some, None, Result, Ok, Err}
+use Rattle.std.specs.Prelude.{◌≡◌, ℕ, zero, suc, ◌+◌, Bool, false, not, ◌&&◌, ◌||◌, List, [], ◌∷◌, ◌++◌, codes, length, take, drop, nat_lt, nat_le, ◌==◌, if◌then◌else◌, Option, Some, None, Result, Ok, Err}
 use Rattle.std.specs.List.{list_all, list_any, prefix_len}
 use Rattle.fd_key.specs.Names.{is_name, is_name_byte, is_value_byte}
 use Rattle.fd_key.specs.Canonical.{canonical}
 use Rattle.fd_schema.specs.declared.rule.Level.{Level}
 use Rattle.fd_schema.specs.declared.rule.Level.TheVariants.{Dataset, Index, Datum}
-use Rattle.fd_schema.specs.Tokens.{Piece, Part, is_token, parts, tokens, plain}
+use Rattle.fd_tokens.specs.Tokens.{Piece, Part, is_token, parts, tokens}
+use Rattle.fd_schema.specs.Plain.{plain}
 use Rattle.fd_schema.specs.Rules.{Want, Needed, Optional, OneOf, Item, same_level, has_name, Rule}
+
+-- the marks of schemas
+abbrev pub marks : List ℕ
+marks = codes "[],/=?"
 
 -- what is wrong at a place
 pub data Wrong : Type 0 where
@@ -199,7 +204,7 @@ some_rule end (r ∷ rs) = Ok (r ∷ rs)
 unfoldable pub schema_of : List ℕ → Result (List Rule) Fault
 schema_of text =
     if nat_lt 65536 (length text) then wrong 0 TooLong
-    else (rules_of 256 (record { at = length text; text = [] }) [] (tokens 0 (plain false text)) >>= λ rs. some_rule (length text) rs)
+    else (rules_of 256 (record { at = length text; text = [] }) [] (tokens marks 0 (plain false text)) >>= λ rs. some_rule (length text) rs)
 
 -- some text reads as these rules
 abbrev pub IsSchema : List Rule → Type 0

@@ -1,4 +1,4 @@
-pub mod Tokens
+pub mod Plain
 pub mod Rules
 pub mod Grammar
 pub mod Seen

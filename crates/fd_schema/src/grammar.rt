@@ -1,6 +1,6 @@
 // Rules, from the first token to the last.
 ghost use Rattle.std.specs.Prelude.{◌≡◌, ◌<◌, ◌≤◌, ◌-◌, ℕ, List, [], ◌∷◌, length, IfOk};
-ghost use Rattle.fd_schema.specs.Tokens.{view, views};
+ghost use Rattle.fd_tokens.specs.Tokens.{view, views};
 ghost use Rattle.fd_schema.specs.Rules.{same_level};
 ghost use Rattle.fd_schema.specs.Grammar.{opened, closed, is_required, has_required, rule_of, rules_of};
 ghost use Rattle.fd_schema.specs.Seen.{seen_items, seen_rules, seen_rule, seen_want};
@@ -9,8 +9,7 @@ ghost use Rattle.fd_schema.specs.Reading.{Gives, Fails, seen_wrong};
 use crate::fault::{Refusal, Wrong};
 use crate::items::{behind, level_of};
 use crate::rule::{Item, Level, Rule, Want};
-use crate::token::Token;
-use crate::tokens::is_token;
+use fd_tokens::{Token, is_token};
 use std::alloc::Global;
 
 /// The most rules of a schema.

@@ -2,7 +2,7 @@
 ghost use Rattle.std.specs.Prelude.{◌≡◌, ◌≤◌, ◌<◌, ℕ, List, [], ◌∷◌, IsTrue, length, take, string_bytes, IfOk};
 ghost use Rattle.std.specs.List.{prefix_len};
 ghost use Rattle.fd_key.specs.Names.{is_name, is_name_byte};
-ghost use Rattle.fd_schema.specs.Tokens.{view, views, parts};
+ghost use Rattle.fd_tokens.specs.Tokens.{view, views, parts};
 ghost use Rattle.fd_schema.specs.Rules.{has_name};
 ghost use Rattle.fd_schema.specs.Grammar.{absent, name_of, want_of, item_of, items_of, level_of, is_bracket, bracket_place, behind, front};
 ghost use Rattle.fd_schema.specs.Seen.{seen_items, seen_item, seen_want};
@@ -10,11 +10,10 @@ ghost use Rattle.fd_schema.specs.Reading.{Gives, Fails};
 
 use crate::fault::{Refusal, Wrong};
 use crate::rule::{Item, Level, Want};
-use crate::token::Token;
-use crate::tokens::{is_token, part_end};
 use crate::values::{absent, ascii_text, values};
 use fd_bytes::NoMemory;
 use fd_key::{is_name, is_name_byte};
+use fd_tokens::{Token, is_token, part_from};
 use std::alloc::Global;
 
 /// The most names of a rule.
@@ -122,32 +121,27 @@ fn item_of(
 }
 
 /// The items of a rule, and those of a level with commas between them.
-fn items_of(
+fn items_of<'s, 't>(
     alloc: Global,
     level: Level,
     before: Vec<Item>,
-    stop: &Token,
-    tokens: &[Token],
+    stop: &'s Token<'t>,
+    tokens: &'s [Token<'t>],
 ) -> Result<Vec<Item>, Refusal>
     ensures { Gives (λ v. seen_items v.items) result (items_of level (seen_items before.items) (view stop.now) (views tokens.now)) }
 {
     let mut items = before;
     let mut from = 0;
     'parts: loop {
-        let end = part_end(b',', tokens, from);
-        let inside = &tokens[from..end];
-        if end == tokens.len() {
-            match item_of(alloc, level, &items, stop, inside) {
-                Ok(item) => items.push(item)?,
-                Err(refusal) => return Err(refusal),
-            }
-            return Ok(items);
-        }
-        match item_of(alloc, level, &items, &tokens[end], inside) {
+        let (inside, behind, next) = part_from(b',', stop, tokens, from);
+        match item_of(alloc, level, &items, behind, inside) {
             Ok(item) => items.push(item)?,
             Err(refusal) => return Err(refusal),
         }
-        from = end + 1;
+        match next {
+            None => return Ok(items),
+            Some(place) => from = place,
+        }
     }
 }
 

@@ -5,17 +5,14 @@ mod fault;
 mod grammar;
 mod items;
 mod place;
+mod plain;
 mod printed;
 mod rule;
 mod schema;
-mod token;
-mod tokens;
 mod values;
 
 pub use fault::{PlaceFault, SchemaFault, SchemaKind};
 pub use items::{name_end, name_text};
 pub use place::Place;
 pub use schema::Schema;
-pub use token::Token;
-pub use tokens::{is_token, part_end, tokens_of};
 pub use values::ascii_text;

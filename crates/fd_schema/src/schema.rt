@@ -1,7 +1,7 @@
 ghost use Rattle.std.specs.Prelude.{◌≡◌, ◌≤◌, ◌+◌, ◌==◌, ℕ, List, [], IfOk, Ok, length, take, count_by, slice_index, string_bytes, is_some};
 ghost use Rattle.fd_key.specs.Pairs.{key_text};
 ghost use Rattle.fd_schema.specs.Rules.{IsShort, place_from};
-ghost use Rattle.fd_schema.specs.Grammar.{schema_of};
+ghost use Rattle.fd_schema.specs.Grammar.{marks, schema_of};
 ghost use Rattle.fd_schema.specs.Seen.{seen_rules};
 ghost use Rattle.fd_schema.specs.Printed.{schema_text};
 ghost use Rattle.fd_schema.specs.Reading.{Gives, GivesSchema, GivesPlace, Names, line_of, seen_place, seen_wrong};
@@ -9,17 +9,24 @@ ghost use Rattle.fd_schema.specs.Reading.{Gives, GivesSchema, GivesPlace, Names,
 use crate::fault::{PlaceFault, Refusal, SchemaFault, SchemaKind, Wrong};
 use crate::grammar::rules_of;
 use crate::place::{Place, has_place, place_of};
+use crate::plain::plain;
 use crate::printed::text_of;
 use crate::rule::Rule;
-use crate::token::Token;
-use crate::tokens::{plain, tokens_of};
 use fd_bytes::NoMemory;
 use fd_key::Key;
+use fd_tokens::{Token, tokens_of};
 use std::alloc::Global;
 use std::marker::Model;
 
 /// The most bytes of a schema.
 const BYTES: usize = 65_536;
+
+/// The marks of schemas.
+fn marks() -> &'static [u8]
+    ensures { result.now ≡ marks }
+{
+    b"[],/=?"
+}
 
 /// Rules, each of three levels.
 #[derive(Debug, Drop)]
@@ -99,7 +106,7 @@ fn rules_in(alloc: Global, text: &[u8]) -> Result<Vec<Rule>, Refusal>
     ensures few { IfOk result (λ v. length v.items ≤ 256) }
 {
     let shown = plain(alloc, text)?;
-    let tokens = tokens_of(alloc, &shown)?;
+    let tokens = tokens_of(alloc, marks(), &shown)?;
     let end = Token {
         at: text.len(),
         text: b"",

@@ -1,15 +1,14 @@
 // The values of a restriction.
 ghost use Rattle.std.specs.Prelude.{◌≡◌, ℕ, List, [], ◌∷◌, Some, None, option_map, string_bytes, nat_lt, if◌then◌else◌};
 ghost use Rattle.std.specs.List.{list_all};
-ghost use Rattle.fd_schema.specs.Tokens.{view, views, parts};
+ghost use Rattle.fd_tokens.specs.Tokens.{view, views, parts};
 ghost use Rattle.fd_schema.specs.Grammar.{is_ascii, absent, begins_value, value_of, values_of};
 ghost use Rattle.fd_schema.specs.Seen.{texts};
 ghost use Rattle.fd_schema.specs.Reading.{Gives, Fails};
 
 use crate::fault::{Refusal, Wrong};
-use crate::token::Token;
-use crate::tokens::part_end;
 use fd_key::{ValueFault, canonical, is_value_byte};
+use fd_tokens::{Token, part_from};
 use std::alloc::Global;
 
 /// Where something is wanted, this stands: a byte, or the end of the text, which is a token without bytes.
@@ -76,30 +75,25 @@ fn value(alloc: Global, name: &str, stop: &Token, tokens: &[Token]) -> Result<St
 }
 
 /// Values with slashes between them.
-pub(crate) fn values(
+pub(crate) fn values<'s, 't>(
     alloc: Global,
     name: &str,
-    stop: &Token,
-    tokens: &[Token],
+    stop: &'s Token<'t>,
+    tokens: &'s [Token<'t>],
 ) -> Result<Vec<String>, Refusal>
     ensures { Gives (λ v. texts v.items) result (values_of name.now (view stop.now) (views tokens.now)) }
 {
     let mut values = Vec::new(alloc);
     let mut from = 0;
     'parts: loop {
-        let end = part_end(b'/', tokens, from);
-        let inside = &tokens[from..end];
-        if end == tokens.len() {
-            match value(alloc, name, stop, inside) {
-                Ok(value) => values.push(value)?,
-                Err(refusal) => return Err(refusal),
-            }
-            return Ok(values);
-        }
-        match value(alloc, name, &tokens[end], inside) {
+        let (inside, behind, next) = part_from(b'/', stop, tokens, from);
+        match value(alloc, name, behind, inside) {
             Ok(value) => values.push(value)?,
             Err(refusal) => return Err(refusal),
         }
-        from = end + 1;
+        match next {
+            None => return Ok(values),
+            Some(place) => from = place,
+        }
     }
 }

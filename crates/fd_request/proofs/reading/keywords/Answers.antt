@@ -1,7 +1,6 @@
 use Rattle.std.proofs.Common.{◌≡◌, [], ap, sym, ◌∙◌, arith, drop}
-use Rattle.fd_schema.specs.Tokens.{Part, parts, view, views}
+use Rattle.fd_tokens.specs.Tokens.{Part, parts, parts_if, view, views}
 use Rattle.fd_request.specs.Grammar.{each_of, keyword_in}
-use Rattle.fd_request.specs.Seen.{parts_if}
 use Rattle.fd_request.specs.Keywords.{seen_keywords}
 use Rattle.fd_request.proofs.Turns.{keyword_stops, keyword_goes, keywords_end, one_more_name}
 use Rattle.fd_request.proofs.reading.keywords.Goals as goal

@@ -1,5 +1,5 @@
 use Rattle.std.proofs.Common.{◌≡◌, ◌≤◌, ◌-◌, ◌+◌, true, [], length, drop}
-use Rattle.fd_schema.specs.Tokens.{view, views, parts}
+use Rattle.fd_tokens.specs.Tokens.{view, views, parts}
 use Rattle.fd_request.specs.Grammar.{each_of, keyword_in}
 use Rattle.fd_request.specs.Keywords.{seen_keywords, differ_after}
 use Rattle.fd_request.proofs.reading.keywords.Given as goal

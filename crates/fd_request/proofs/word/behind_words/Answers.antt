@@ -4,11 +4,11 @@ use Rattle.fd_request.proofs.word.behind_words.Goals as goal
 
 pub returns-then-is_some : goal.returns-then-is_some
 returns-then-is_some c =
-    sym (c.loop-word.invariant ∙ found_behind c.args.words.now c.loop-word.word-index c.word-item.result c.loop-word-test.true c.word-item.is (sym c.is_some.ensures ∙ c.if-is_some.true))
+    sym (c.loop-word.invariant ∙ found_behind c.args.words.now c.loop-word.word-index _ c.loop-word-test.true (sym c.is_some.ensures ∙ c.if-is_some.true))
 
 pub loop-word-preserved : goal.loop-word-preserved
 loop-word-preserved c =
-    c.loop-word.invariant ∙ not_behind c.args.words.now c.loop-word.word-index c.word-item.result c.loop-word-test.true c.word-item.is (sym c.is_some.ensures ∙ c.if-is_some.false)
+    c.loop-word.invariant ∙ not_behind c.args.words.now c.loop-word.word-index _ c.loop-word-test.true (sym c.is_some.ensures ∙ c.if-is_some.false)
 
 pub returns : goal.returns
 returns c = sym (c.loop-word.invariant ∙ none_behind c.args.words.now c.loop-word.word-index (omega arith))

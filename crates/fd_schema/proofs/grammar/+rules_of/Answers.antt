@@ -1,6 +1,6 @@
 use Rattle.std.proofs.Common.{◌≡◌, ◌<◌, ◌+◌, ◌-◌, ◌++◌, ◌∷◌, [], ◌∙◌, ap, sym, subst, arith, length, length-append, take, drop}
 use Rattle.std.proofs.lemmas.List.{map_push}
-use Rattle.fd_schema.specs.Tokens.{view, views}
+use Rattle.fd_tokens.specs.Tokens.{view, views}
 use Rattle.fd_schema.specs.Grammar.{◌>>=◌, rules_of}
 use Rattle.fd_schema.specs.Reading.{Fails}
 use Rattle.fd_schema.specs.Seen.{seen_rule, seen_rules}

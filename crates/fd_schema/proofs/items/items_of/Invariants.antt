@@ -1,5 +1,5 @@
 use Rattle.std.proofs.Common.{◌≡◌, ◌≤◌, ◌-◌, ◌+◌, length, drop}
-use Rattle.fd_schema.specs.Tokens.{view, views, parts}
+use Rattle.fd_tokens.specs.Tokens.{view, views, parts}
 use Rattle.fd_schema.specs.Grammar.{each_of, item_in, items_of}
 use Rattle.fd_schema.specs.Seen.{seen_items}
 use Rattle.fd_schema.proofs.items.items_of.Given as goal

@@ -1,39 +1,39 @@
-use Rattle.std.proofs.Common.{◌≡◌, ◌<◌, ◌+◌, ◌++◌, ◌∷◌, [], ◌∙◌, ap, sym, arith, List, ℕ, length, drop, string_bytes}
+use Rattle.std.proofs.Common.{◌≡◌, ◌++◌, ◌∷◌, [], ◌∙◌, ap, sym, List, ℕ, Ok, drop, string_bytes}
 use Rattle.std.proofs.lemmas.List.{map_push}
-use Rattle.std.proofs.Common.{Ok}
-use Rattle.fd_schema.specs.Tokens.{view, views, parts}
+use Rattle.fd_tokens.specs.Tokens.{Part, parts, parts_if, view, views}
 use Rattle.fd_schema.specs.Grammar.{value_in, values_of, each_of}
 use Rattle.fd_schema.specs.Seen.{texts}
-use Rattle.fd_schema.proofs.Turns.{Turn, last_goes, more_goes, last_stops, more_stops}
+use Rattle.fd_schema.proofs.Turns.{part_goes, part_stops, parts_end}
 use Rattle.fd_schema.proofs.values.values.Goals as goal
 
 pub returns-in-Err : goal.returns-in-Err
 returns-in-Err c =
-    let turn : Turn (value_in c.args.name.now) 47 (view c.args.stop.now) c.args.tokens.now (texts c.parts.values.items) c.parts.from c.part_end-end.result (values_of c.args.name.now (view c.args.stop.now) (views c.args.tokens.now)) =
-    record { place = c.part_end-end.ensures.value; forward = c.part_end-end.ensures.behind; so_far = c.parts.invariant.1 } in
-    last_stops (value_in c.args.name.now) 47 (view c.args.stop.now) c.args.tokens.now (texts c.parts.values.items) c.parts.from c.part_end-end.result (values_of c.args.name.now (view c.args.stop.now) (views c.args.tokens.now)) c.in-Err.refusal turn c.if-end-tokens.true c.in-Err.ensures
+    let p : Part = record { tokens = views c.part_from-next.result.0.now; stop = view c.part_from-next.result.1.now } in
+    let ps = parts_if 47 (view c.args.stop.now) c.args.tokens.now c.part_from-next.result.2 in
+    part_stops (value_in c.args.name.now) (texts c.parts.values.items) p ps _ c.in-Err.refusal (values_of c.args.name.now (view c.args.stop.now) (views c.args.tokens.now)) c.part_from-next.ensures.parts c.parts.invariant.1 c.in-Err.ensures
 
-pub returns-then-end-tokens : goal.returns-then-end-tokens
-returns-then-end-tokens c =
-    let turn : Turn (value_in c.args.name.now) 47 (view c.args.stop.now) c.args.tokens.now (texts c.parts.values.items) c.parts.from c.part_end-end.result (values_of c.args.name.now (view c.args.stop.now) (views c.args.tokens.now)) =
-    record { place = c.part_end-end.ensures.value; forward = c.part_end-end.ensures.behind; so_far = c.parts.invariant.1 } in
+pub returns-in-None : goal.returns-in-None
+returns-in-None c =
+    let p : Part = record { tokens = views c.part_from-next.result.0.now; stop = view c.part_from-next.result.1.now } in
+    let ps = parts_if 47 (view c.args.stop.now) c.args.tokens.now c.part_from-next.result.2 in
+    let total = values_of c.args.name.now (view c.args.stop.now) (views c.args.tokens.now) in
     let pushed : texts c.push.new.self.items ≡ texts c.parts.values.items ++ string_bytes c.in-Ok.value ∷ [] =
     ap texts c.in_ok-push-in-Ok.ensures.items ∙ map_push string_bytes c.parts.values.items c.in-Ok.value in
-    last_goes (value_in c.args.name.now) 47 (view c.args.stop.now) c.args.tokens.now (texts c.parts.values.items) c.parts.from c.part_end-end.result (values_of c.args.name.now (view c.args.stop.now) (views c.args.tokens.now)) (string_bytes c.in-Ok.value) turn c.if-end-tokens.true c.in-Ok.ensures ∙ ap (λ (xs : List (List ℕ)). Ok xs) (sym pushed)
-
-pub returns-in-Err-value : goal.returns-in-Err-value
-returns-in-Err-value c =
-    let turn : Turn (value_in c.args.name.now) 47 (view c.args.stop.now) c.args.tokens.now (texts c.parts.values.items) c.parts.from c.part_end-end.result (values_of c.args.name.now (view c.args.stop.now) (views c.args.tokens.now)) =
-    record { place = c.part_end-end.ensures.value; forward = c.part_end-end.ensures.behind; so_far = c.parts.invariant.1 } in
-    let within : c.part_end-end.result < length c.args.tokens.now = omega (arith, c.part_end-end.ensures.within, c.if-end-tokens.false) in
-    more_stops (value_in c.args.name.now) 47 (view c.args.stop.now) c.args.tokens.now (texts c.parts.values.items) c.parts.from c.part_end-end.result (values_of c.args.name.now (view c.args.stop.now) (views c.args.tokens.now)) c.in-Err-value.refusal c.index-tokens-end.result turn within c.index-tokens-end.is c.in-Err-value.ensures
+    let goes = part_goes (value_in c.args.name.now) (texts c.parts.values.items) p ps _ (string_bytes c.in-Ok.value) total c.part_from-next.ensures.parts c.parts.invariant.1 c.in-Ok.ensures in
+    let last : ps ≡ [] = ap (parts_if 47 (view c.args.stop.now) c.args.tokens.now) c.in-None.is in
+    parts_end (value_in c.args.name.now) (texts c.parts.values.items ++ string_bytes c.in-Ok.value ∷ []) ps total last goes ∙ ap (λ (xs : List (List ℕ)). Ok xs) (sym pushed)
 
 pub parts-preserved : goal.parts-preserved
 parts-preserved c =
-    let turn : Turn (value_in c.args.name.now) 47 (view c.args.stop.now) c.args.tokens.now (texts c.parts.values.items) c.parts.from c.part_end-end.result (values_of c.args.name.now (view c.args.stop.now) (views c.args.tokens.now)) =
-    record { place = c.part_end-end.ensures.value; forward = c.part_end-end.ensures.behind; so_far = c.parts.invariant.1 } in
-    let within : c.part_end-end.result < length c.args.tokens.now = omega (arith, c.part_end-end.ensures.within, c.if-end-tokens.false) in
-    let pushed : texts c.push-in-Ok-value.new.self.items ≡ texts c.parts.values.items ++ string_bytes c.in-Ok-value.value ∷ [] =
-    ap texts c.in_ok-push-in-Ok-value.ensures.items ∙ map_push string_bytes c.parts.values.items c.in-Ok-value.value in
-    let goes = more_goes (value_in c.args.name.now) 47 (view c.args.stop.now) c.args.tokens.now (texts c.parts.values.items) c.parts.from c.part_end-end.result (values_of c.args.name.now (view c.args.stop.now) (views c.args.tokens.now)) (string_bytes c.in-Ok-value.value) c.index-tokens-end.result turn within c.index-tokens-end.is c.in-Ok-value.ensures in
-    (omega arith, ap (λ (xs : List (List ℕ)). each_of (value_in c.args.name.now) xs (parts 47 (view c.args.stop.now) (views (drop (c.part_end-end.result + 1) c.args.tokens.now)))) pushed ∙ goes)
+    let p : Part = record { tokens = views c.part_from-next.result.0.now; stop = view c.part_from-next.result.1.now } in
+    let ps = parts_if 47 (view c.args.stop.now) c.args.tokens.now c.part_from-next.result.2 in
+    let total = values_of c.args.name.now (view c.args.stop.now) (views c.args.tokens.now) in
+    let pushed : texts c.push.new.self.items ≡ texts c.parts.values.items ++ string_bytes c.in-Ok.value ∷ [] =
+    ap texts c.in_ok-push-in-Ok.ensures.items ∙ map_push string_bytes c.parts.values.items c.in-Ok.value in
+    let goes = part_goes (value_in c.args.name.now) (texts c.parts.values.items) p ps _ (string_bytes c.in-Ok.value) total c.part_from-next.ensures.parts c.parts.invariant.1 c.in-Ok.ensures in
+    let more : ps ≡ parts 47 (view c.args.stop.now) (views (drop c.in-Some.place c.args.tokens.now)) = ap (parts_if 47 (view c.args.stop.now) c.args.tokens.now) c.in-Some.is in
+    let within = rw c.in-Some.is at c.part_from-next.ensures.within in (
+      within,
+      ap (λ (us : List Part). each_of (value_in c.args.name.now) (texts c.push.new.self.items) us) (sym more)
+          ∙ ap (λ (xs : List (List ℕ)). each_of (value_in c.args.name.now) xs ps) pushed ∙ goes,
+    )
