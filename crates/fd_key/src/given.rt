@@ -1,4 +1,4 @@
-ghost use Rattle.std.specs.Prelude.{◌≡◌, ◌<◌, ◌+◌, ◌-◌, ◌^◌, ◌∷◌, length, [], true, Some, Ok, IfNone, IfSome, IfErr, OnOk, option_map, slice_get};
+ghost use Rattle.std.specs.Prelude.{◌≡◌, ◌<◌, ◌+◌, ◌-◌, ◌^◌, ◌∷◌, length, [], true, Some, Ok, IfNone, IfOk, IfSome, IfErr, OnOk, option_map, slice_get};
 ghost use Rattle.std.specs.Option.{option_copied};
 ghost use Rattle.fd_key.specs.Names.{is_name, is_value};
 ghost use Rattle.fd_key.specs.Given.{IsGiven, given_of, pairs_from, with_piece, is_reserved, plain_pair, new_pair, pieces_of};
@@ -9,6 +9,7 @@ use crate::key::Key;
 use crate::meaning::{Meaning, meaning_of};
 use crate::names::{is_name, is_value, lower, text_from};
 use crate::numerals::cut;
+use fd_bytes::NoMemory;
 use std::alloc::Global;
 use std::marker::Model;
 
@@ -44,14 +45,14 @@ impl Given {
     {
         let text = lower(alloc, text)?;
         if text.is_empty() {
-            return Given::none(alloc);
+            return Ok(Given::none(alloc)?);
         }
         Given::read_pieces(alloc, text.as_bytes())
     }
 
-    /// No pairs.
-    fn none(alloc: Global) -> Result<Given, GivenFault>
-        ensures { GivesGiven result (Ok []) }
+    /// No pairs beside those that messages have of their own.
+    pub fn none(alloc: Global) -> Result<Given, NoMemory>
+        ensures { IfOk result (λ g. g ≡ []) }
     {
         Ok(Given {
             pairs: Key::new(alloc)?,

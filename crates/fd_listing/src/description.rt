@@ -201,21 +201,11 @@ fn push_map(out: &mut String, bit_map: &[u8]) -> Result<(), NoMemory>
     Ok(())
 }
 
-/// No pairs beside those that messages have of their own.
-pub fn none_given(alloc: Global) -> Result<Given, NoMemory>
-    ensures { IfOk result (λ g. g ≡ []) }
-{
-    match Given::read(alloc, "") {
-        Ok(given) => Ok(given),
-        Err(_) => Err(NoMemory),
-    }
-}
-
 /// The key, or why there is none.
 fn push_key_text(alloc: Global, out: &mut String, message: &Message<'_>) -> Result<(), NoMemory>
     ensures { OnOk result (string_bytes out.new ≡ string_bytes out.old ++ key_line_text (key_of (sections_of message.now) [])) }
 {
-    let given = none_given(alloc)?;
+    let given = Given::none(alloc)?;
     match key_of(alloc, message, &given) {
         Ok(key) => {
             let text = key.text(alloc)?;

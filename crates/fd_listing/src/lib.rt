@@ -7,6 +7,6 @@ mod lines;
 mod numbers;
 mod point_values;
 
-pub use description::{describe, none_given};
+pub use description::describe;
 pub use fault::{TextFault, ValuesFault};
 pub use point_values::values;

@@ -4,4 +4,5 @@ pub mod Marks
 pub mod StreamLaws
 pub mod Pieces
 pub mod Pending
+pub mod Joins
 pub mod Rows

@@ -161,6 +161,10 @@ unmarked_at s e = tested (eqb (length s) 0) refl (ltb (length s) 16) (not (eqb (
     tested false z false false false true e = absurd cc
     tested false z false false false false e = absurd (apart _ _ e)
 
+-- where no message begins all is skipped
+pub nothing_marked : (s : List ℕ) → first s ≡ Unmarked → gap s ≡ length s
+nothing_marked s e = omega (arith, ap length (unmarked_at (from_mark s) e))
+
 drop_front : (front back : List ℕ) (n : ℕ) → n ≡ length (front ++ back) - length back → drop n (front ++ back) ≡ back
 drop_front front back n e = drop_at front back n (omega (arith, length-append front back))
 

@@ -1,4 +1,8 @@
 ghost use Rattle.std.specs.Prelude.{◌≡◌, ◌-◌, ◌++◌, [], ◌∷◌, ℕ, List, length};
+ghost use Rattle.fd_sections.specs.declared.refusal.BadAt.{BadAt};
+ghost use Rattle.fd_sections.specs.Joining.{EndsAs, GoesTo, IsRefusedStream, IsStream, IsWaiting, RefusesAs, SplitsOn};
+ghost use Rattle.fd_sections.specs.Progress.{Progress};
+ghost use Rattle.fd_sections.specs.Splitting.{answer, fed, finished, progress, start};
 ghost use Rattle.fd_sections.specs.declared.bad.Bad.{Bad};
 ghost use Rattle.fd_sections.specs.Message.{Sections};
 ghost use Rattle.fd_sections.specs.Stream.{stream, first, gap, pending, beginning, after, Refuses, Takes, Bad_end};
@@ -14,4 +18,23 @@ pub fn every_stream()
     ensures refusal { (s more : List ℕ) (bad : Bad) → first s ≡ Refuses bad → stream (s ++ more) ≡ record { messages = []; skipped = gap s; end = Bad_end bad } }
     // Octets that can begin no message may be let go of.
     ensures skipped { (s more : List ℕ) → stream (s ++ more) ≡ after [] (length s - length (pending s)) (stream (pending s ++ more)) }
+{}
+
+/// What holds of every splitting of a stream, in whatever pieces it comes.
+#[tactic(auto, using(crate::proofs::Joins::joinings))]
+pub fn every_splitting()
+    // Where nothing came nothing is given.
+    ensures nothing { (p : Progress) → SplitsOn p p [] [] }
+    // A piece comes, and none is given.
+    ensures piece { (p : Progress) (came : List ℕ) → SplitsOn p (fed p came) came [] }
+    // What `next` answers, and how far it goes.
+    ensures next { (p : Progress) → GoesTo (λ m. m) p (progress p (first p.rest)) (answer p (first p.rest)) }
+    // One step behind another is a step.
+    ensures both { (p q r : Progress) (a b : List ℕ) (ms ns : List Sections) → SplitsOn p q a ms → SplitsOn q r b ns → SplitsOn p r (a ++ b) (ms ++ ns) }
+    // What is held ends as `finish` answers.
+    ensures end { (p : Progress) → IsWaiting p → EndsAs p (finished p (first p.rest)) }
+    // All octets that came are a stream of the messages that were given, and end as `finish` answers.
+    ensures whole { (p : Progress) (octets : List ℕ) (ms : List Sections) → SplitsOn start p octets ms → IsWaiting p → IsStream octets ms (finished p (first p.rest)) }
+    // All octets that came are a stream of the messages that were given, and the one behind them is refused.
+    ensures refused { (p : Progress) (octets : List ℕ) (ms : List Sections) (at : BadAt) → SplitsOn start p octets ms → RefusesAs p at → IsRefusedStream octets ms at }
 {}

@@ -12,7 +12,7 @@ mod splitter;
 mod whole;
 
 pub use bad::Bad;
-pub use law::every_stream;
+pub use law::{every_splitting, every_stream};
 pub use refusal::{BadAt, Truncated};
 pub use sections::Message;
 pub use splitter::Splitter;

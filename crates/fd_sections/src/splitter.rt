@@ -7,6 +7,7 @@ ghost use Rattle.fd_sections.specs.Message.{Sections};
 ghost use Rattle.fd_sections.specs.Parts.{sections_of, IsWhole};
 ghost use Rattle.fd_sections.specs.Given.{Is};
 ghost use Rattle.fd_sections.specs.Reading.{reading};
+ghost use Rattle.fd_sections.specs.Joining.{GoesTo, SplitsOn};
 ghost use Rattle.fd_sections.specs.Splitting.{answer, answers_some, progress, finished, start, fed, passed};
 ghost use Rattle.fd_sections.specs.contracts.splitter.Splitter.{the_row};
 
@@ -61,6 +62,7 @@ impl Splitter {
     pub fn feed(&mut self, piece: &[u8]) -> Result<(), NoMemory>
         requires { self.old.fed + length piece.now < 2 ^ 63 }
         ensures ok { OnOk result (self.new ≡ fed self.old piece.now) }
+        ensures joined { OnOk result (SplitsOn self.old self.new piece.now []) }
         ensures err { OnErr result (self.new ≡ self.old) }
     {
         self.held.extend_from_slice(piece)?;
@@ -152,6 +154,7 @@ impl Splitter {
         ensures* goes_on { sem 𝓛 (Rests the_row self.entry (λ n. n ≡ progress self.old (first self.old.rest))) }
         ensures whole { IfOk result (λ o. IfSome o IsWhole) }
         ensures answer { Is (option_map sections_of) result (answer self.old (first self.old.rest)) }
+        ensures joined { GoesTo sections_of self.old (progress self.old (first self.old.rest)) result }
     {
         if self.advance()? {
             return self.last();

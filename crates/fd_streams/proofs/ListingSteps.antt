@@ -1,15 +1,15 @@
 -- What is listed as the messages are gone over.
-use Rattle.std.proofs.Common.{◌≡◌, ℕ, suc, ◌+◌, ◌-◌, ◌<◌, Bool, true, false, cond, List, [], ◌∷◌, ◌++◌, length, ltb, Option, Some, None, Result, Ok, Err, refl, sym, ap, subst, ◌∙◌, append_assoc, arith}
+use Rattle.std.proofs.Common.{◌≡◌, ℕ, ◌+◌, ◌<◌, Bool, true, false, cond, List, [], ◌∷◌, ◌++◌, length, ltb, Option, Some, None, Result, Ok, Err, refl, sym, ap, subst, ◌∙◌, append_assoc, append-nil, arith, length-append}
 use Rattle.std.proofs.lemmas.Bool.{le-ltb, lt-ltb}
 use Rattle.fd_io.specs.Streams.{Takes, TakesFront}
 use Rattle.fd_io.proofs.Bytes.{Takes-none, Takes-more}
 use Rattle.fd_sections.specs.declared.refusal.BadAt.{BadAt}
 use Rattle.fd_sections.specs.Message.{Sections}
 use Rattle.fd_sections.specs.Progress.{Progress}
-use Rattle.fd_sections.specs.Splitting.{answer, progress, waiting}
-use Rattle.fd_sections.specs.Stream.{Stream, Takes as takes, first, gap, pending, stream, after, Bad_end}
-use Rattle.fd_sections.proofs.Pieces.{shorter, stream-takes, stream-refuses}
-use Rattle.fd_sections.proofs.Pending.{stream-pending, still_waits, waited}
+use Rattle.fd_sections.specs.Splitting.{answer, progress}
+use Rattle.fd_sections.specs.Stream.{first, stream, Bad_end}
+use Rattle.fd_sections.specs.Joining.{SplitsOn}
+use Rattle.fd_sections.proofs.Joins.{refuses_so, splits_more, splits_nothing, takes_so, waits_so}
 use Rattle.fd_packing.specs.declared.fault.FieldFault.{FieldFault}
 use Rattle.fd_packing.specs.Packed.{Packed}
 use Rattle.fd_packing.specs.Value.{values_of}
@@ -22,7 +22,6 @@ use Rattle.fd_outcome.specs.declared.refusal.Refusal.TheVariants as refusals
 use Rattle.fd_outcome.specs.Inputs.{refused}
 use Rattle.fd_outcome.specs.Listed.{Listed, field_lines, message_lines, ended, alone, before, listed_messages, listed_after}
 use Rattle.fd_streams.specs.Halted.{IsCut, IsRefused, HaltedAs, Halted, IsWritten, ListsOn, ListedOne}
-use Rattle.fd_streams.proofs.Steps.{answered, refused_at}
 
 abbrev Text : Type 0
 Text = Option (List ℕ)
@@ -66,21 +65,63 @@ field_too_large n decimals (Ok field) points a b (is, more) took = at (ltb most_
     at true e took = (front_of_none a b [] refl took, ap (λ (k : ℕ). Some (refusals.Points k)) is)
     at false e took = absurd cc
 
+-- ---- messages before others
+
+abbrev parts : List ℕ → Option Refusal → Listed
+parts lines refusal = record { lines = lines; refusal = refusal }
+
+-- the lines x before the lines y before others
+pub joined : (x y : List ℕ) (others : Listed) → before (Ok x) (before (Ok y) others) ≡ before (Ok (x ++ y)) others
+joined x y others = ap (λ (t : List ℕ). parts t others.refusal) (sym (append_assoc x y others.lines))
+
+-- a message whose lines come before others, of which none is refused
+lists_here : (r : Result (List ℕ) Refusal) (x : Listed) (lines : List ℕ) → before r x ≡ alone (Ok lines) → (l : List ℕ) × (r ≡ Ok l) × (l ++ x.lines ≡ lines) × (x ≡ alone (Ok x.lines))
+lists_here (Ok l) x lines e = (l, refl, ap (λ (y : Listed). y.lines) e, ap (parts x.lines) (ap (λ (y : Listed). y.refusal) e))
+lists_here (Err refusal) x lines e = absurd (not_none refusal (ap (λ (y : Listed). y.refusal) e))
+  where
+    not_none : (refusal : Refusal) → (let none : Option Refusal = None in Some refusal ≡ none) → ⊥
+    not_none refusal e = absurd cc
+
+-- what is listed behind messages with these lines
+pub listed_more : (listing : Listing) (n : ℕ) (last : Option Refusal) (ms ns : List Sections) (lines : List ℕ) → listed_messages listing n None ms ≡ alone (Ok lines) → listed_messages listing n last (ms ++ ns) ≡ before (Ok lines) (listed_messages listing (n + length ms) last ns)
+listed_more listing n last [] ns lines e =
+    let none : [] ≡ lines = ap (λ (y : Listed). y.lines) e in
+    ap (λ (i : ℕ). listed_messages listing i last ns) (omega arith) ∙ ap (λ (l : List ℕ). before (Ok l) (listed_messages listing (n + 0) last ns)) none
+listed_more listing n last (m ∷ ms) ns lines e =
+    let rest = listed_messages listing (n + 1) None ms in
+    let h = lists_here (message_lines listing n m) rest lines e in
+    ap (λ (r : Result (List ℕ) Refusal). before r (listed_messages listing (n + 1) last (ms ++ ns))) h.1
+    ∙ ap (before (Ok h.0)) (listed_more listing (n + 1) last ms ns rest.lines h.3)
+    ∙ joined h.0 rest.lines (listed_messages listing (n + 1 + length ms) last ns)
+    ∙ ap (λ (l : List ℕ). before (Ok l) (listed_messages listing (n + 1 + length ms) last ns)) h.2
+    ∙ ap (λ (i : ℕ). before (Ok lines) (listed_messages listing i last ns)) (omega arith)
+
+-- what ends behind them
+pub listed_end : (listing : Listing) (n : ℕ) (last : Option Refusal) (ms : List Sections) (lines : List ℕ) → listed_messages listing n None ms ≡ alone (Ok lines) → listed_messages listing n last ms ≡ before (Ok lines) (ended last)
+listed_end listing n last ms lines e = ap (listed_messages listing n last) (sym (append-nil ms)) ∙ listed_more listing n last ms [] lines e
+
+-- the lines of both
+pub both_listed : (listing : Listing) (p q : Progress) (came : List ℕ) (ms ns : List Sections) (x y : List ℕ) → SplitsOn p q came ms → listed_messages listing (p.given + 1) None ms ≡ alone (Ok x) → listed_messages listing (q.given + 1) None ns ≡ alone (Ok y)
+    → listed_messages listing (p.given + 1) None (ms ++ ns) ≡ alone (Ok (x ++ y))
+both_listed listing p q came ms ns x y s k l =
+    let given = s.given in
+    listed_more listing (p.given + 1) None ms ns x k ∙ ap (λ (i : ℕ). before (Ok x) (listed_messages listing i None ns)) (omega (arith, given)) ∙ ap (before (Ok x)) l
+
+-- whatever more comes, it is listed behind these lines
+pub listed_on : (listing : Listing) (past : Bool) (p q : Progress) (came : List ℕ) (ms : List Sections) (lines more : List ℕ) → SplitsOn p q came ms → listed_messages listing (p.given + 1) None ms ≡ alone (Ok lines)
+    → listed_after listing past p.given (stream (p.rest ++ (came ++ more))) ≡ before (Ok lines) (listed_after listing past q.given (stream (q.rest ++ more)))
+listed_on listing past p q came ms lines more s e =
+    let x = stream (q.rest ++ more) in
+    let given = s.given in
+    let last = refused past (p.given + length (ms ++ x.messages)) x.end in
+    let count : p.given + length (ms ++ x.messages) ≡ q.given + length x.messages = omega (arith, length-append ms x.messages, given) in
+    let next : p.given + 1 + length ms ≡ q.given + 1 = omega (arith, given) in
+    ap (listed_after listing past p.given) (s.joins more)
+    ∙ listed_more listing (p.given + 1) last ms x.messages lines e
+    ∙ ap (λ (i : ℕ). before (Ok lines) (listed_messages listing i last x.messages)) next
+    ∙ ap (λ (i : ℕ). before (Ok lines) (listed_messages listing (q.given + 1) (refused past i x.end) x.messages)) count
+
 -- ---- one message after another
-
--- a message at the front of the stream s
-goes_over : (listing : Listing) (past : Bool) (n : ℕ) (m : Sections) (k : ℕ) (s : Stream) → listed_after listing past n (after (m ∷ []) k s) ≡ before (message_lines listing (n + 1) m) (listed_after listing past (n + 1) s)
-goes_over listing past n m k s =
-    let count : n + suc (length s.messages) ≡ (n + 1) + length s.messages = omega arith in
-    ap (λ (c : ℕ). before (message_lines listing (n + 1) m) (listed_messages listing (n + 1 + 1) (refused past c s.end) s.messages)) count
-
--- octets that are skipped change nothing
-skips_over : (listing : Listing) (past : Bool) (n : ℕ) (k : ℕ) (s : Stream) → listed_after listing past n (after [] k s) ≡ before (Ok []) (listed_after listing past n s)
-skips_over listing past n k s = refl
-
--- the next message is whole
-next_is : (listing : Listing) (past : Bool) (p : Progress) (m : Sections) (r : List ℕ) (more : List ℕ) → first p.rest ≡ takes m r → listed_after listing past p.given (stream (p.rest ++ more)) ≡ before (message_lines listing (p.given + 1) m) (listed_after listing past (p.given + 1) (stream (r ++ more)))
-next_is listing past p m r more e = ap (listed_after listing past p.given) (stream-takes p.rest more m r e) ∙ goes_over listing past p.given m (gap p.rest) (stream (r ++ more))
 
 -- the lines of a message that was written
 written : (r : Result (List ℕ) Refusal) (a b : Text) → IsWritten r a b → (lines : List ℕ) × (r ≡ Ok lines) × Takes a b lines
@@ -89,39 +130,25 @@ written (Err refusal) a b took = absurd took
 
 pub listed_one : (listing : Listing) (p q : Progress) (m : Sections) (n : ℕ) (a b : Text) → answer p (first p.rest) ≡ Ok (Some m) → q ≡ progress p (first p.rest) → n ≡ p.given → IsWritten (message_lines listing (n + 1) m) a b → ListedOne listing true p q a b
 listed_one listing p q m n a b e goes count wrote =
-    let t = answered p (first p.rest) m e in
-    let q-is : q ≡ progress p (takes m t.0) = goes ∙ ap (progress p) t.1 in
+    let t = takes_so p q m e goes in
     let w = written (message_lines listing (n + 1) m) a b wrote in
     let is : message_lines listing (p.given + 1) m ≡ Ok w.0 = ap (λ (k : ℕ). message_lines listing (k + 1) m) (sym count) ∙ w.1 in
     record {
-      measure = rw q-is (shorter p.rest m t.0 t.1);
-      fed = rw q-is refl;
+      measure = t.1;
       goes_on = record {
+        messages = m ∷ [];
+        splits = t.0;
         lines = w.0;
+        lists = ap (λ (r : Result (List ℕ) Refusal). before r (ended None)) is ∙ ap (λ (l : List ℕ). alone (Ok l)) (append-nil w.0);
         took = w.2;
-        same = λ past more.
-            next_is listing past p m t.0 more t.1
-            ∙ ap (λ (r : Result (List ℕ) Refusal). before r (listed_after listing past (p.given + 1) (stream (t.0 ++ more)))) is
-            ∙ ap (λ (x : Progress). before (Ok w.0) (listed_after listing past x.given (stream (x.rest ++ more)))) (sym q-is);
       };
     }
 
 -- no message is whole
 pub listed_none : (listing : Listing) (p q : Progress) (a : Text) → answer p (first p.rest) ≡ Ok None → q ≡ progress p (first p.rest) → ListedOne listing false p q a a
 listed_none listing p q a e goes =
-    let q-is : q ≡ waiting p = goes ∙ waited p (first p.rest) e in
-    record {
-      measure = rw q-is (still_waits p (first p.rest) refl e);
-      fed = rw q-is refl;
-      goes_on = record {
-        lines = [];
-        took = Takes-none a;
-        same = λ past more.
-            ap (listed_after listing past p.given) (stream-pending p.rest more)
-            ∙ skips_over listing past p.given (length p.rest - length (pending p.rest)) (stream (pending p.rest ++ more))
-            ∙ ap (λ (x : Progress). before (Ok []) (listed_after listing past x.given (stream (x.rest ++ more)))) (sym q-is);
-      };
-    }
+    let t = waits_so p q e goes in
+    record { measure = t.1; goes_on = record { messages = []; splits = t.0; lines = []; lists = refl; took = Takes-none a } }
 
 -- ---- halts
 
@@ -142,29 +169,30 @@ halted_before (halts.Refused other) (Err refusal) a b x h = h
 halted_before halts.NoMemory (Ok lines) a b x h = longer a b lines x.lines h
 halted_before halts.NoMemory (Err refusal) a b x h = h
 
+-- the next message is whole
+next_is : (listing : Listing) (past : Bool) (p q : Progress) (m : Sections) (more : List ℕ) → SplitsOn p q [] (m ∷ []) → listed_after listing past p.given (stream (p.rest ++ more)) ≡ before (message_lines listing (p.given + 1) m) (listed_after listing past (p.given + 1) (stream (q.rest ++ more)))
+next_is listing past p q m more s =
+    let x = stream (q.rest ++ more) in
+    let count : p.given + length (m ∷ x.messages) ≡ (p.given + 1) + length x.messages = omega arith in
+    ap (listed_after listing past p.given) (s.joins more) ∙ ap (λ (c : ℕ). before (message_lines listing (p.given + 1) m) (listed_messages listing (p.given + 1 + 1) (refused past c x.end) x.messages)) count
+
 pub message_halts : {X : Type 0} (listing : Listing) (p : Progress) (m : Sections) (n : ℕ) (e : Halt X) (a b : Text) → answer p (first p.rest) ≡ Ok (Some m) → n ≡ p.given → HaltedAs e a b (alone (message_lines listing (n + 1) m)) → Halted listing e p a b
 message_halts listing p m n e a b is count h = λ past more.
-    let t = answered p (first p.rest) m is in
-    subst (HaltedAs e a b) (sym (next_is listing past p m t.0 more t.1))
-    (halted_before e (message_lines listing (p.given + 1) m) a b (listed_after listing past (p.given + 1) (stream (t.0 ++ more))) (subst (λ (k : ℕ). HaltedAs e a b (alone (message_lines listing (k + 1) m))) count h))
+    let q = progress p (first p.rest) in
+    subst (HaltedAs e a b) (sym (next_is listing past p q m more (takes_so p q m is refl).0))
+    (halted_before e (message_lines listing (p.given + 1) m) a b (listed_after listing past (p.given + 1) (stream (q.rest ++ more))) (subst (λ (k : ℕ). HaltedAs e a b (alone (message_lines listing (k + 1) m))) count h))
 
 pub refusal_halts : (listing : Listing) (past : Bool) (p : Progress) (at : BadAt) (refusal : Refusal) (a : Text) (more : List ℕ) → answer p (first p.rest) ≡ Err at
     → ((past : Bool) (given : ℕ) → at.number ≡ given + 1 → refused past given (Bad_end at.bad) ≡ Some refusal)
     → IsRefused refusal a a (listed_after listing past p.given (stream (p.rest ++ more)))
 refusal_halts listing past p at refusal a more e tells =
-    let k = refused_at p (first p.rest) at e in
-    let is : refused past (p.given + 0) (Bad_end at.bad) ≡ Some refusal = tells past (p.given + 0) (omega (arith, k.1)) in
-    let same : listed_after listing past p.given (stream (p.rest ++ more)) ≡ ended (Some refusal) = ap (listed_after listing past p.given) (stream-refuses p.rest more at.bad k.0) ∙ ap (λ (r : Option Refusal). ended r) is in
+    let b = refuses_so p at e in
+    let number = b.number in
+    let is : refused past (p.given + 0) (Bad_end at.bad) ≡ Some refusal = tells past (p.given + 0) (omega (arith, number)) in
+    let same : listed_after listing past p.given (stream (p.rest ++ more)) ≡ ended (Some refusal) = ap (listed_after listing past p.given) (b.joins more) ∙ ap (λ (r : Option Refusal). ended r) is in
     subst (IsRefused refusal a a) (sym same) (Takes-none a, refl)
 
 -- ---- lines behind others
-
-abbrev parts : List ℕ → Option Refusal → Listed
-parts lines refusal = record { lines = lines; refusal = refusal }
-
--- the lines x before the lines y before others
-pub joined : (x y : List ℕ) (others : Listed) → before (Ok x) (before (Ok y) others) ≡ before (Ok (x ++ y)) others
-joined x y others = ap (λ (t : List ℕ). parts t others.refusal) (sym (append_assoc x y others.lines))
 
 front_behind : (a b c : Text) (lines more : List ℕ) → Takes a b lines → TakesFront b c more → TakesFront a c (lines ++ more)
 front_behind a b c lines more took (front, rest, split, later) =
@@ -178,18 +206,17 @@ halted_behind halts.NoMemory a b c lines x took h = front_behind a b c lines x.l
 
 pub lists_more : (listing : Listing) (p q r : Progress) (a b c : Text) → ListsOn listing p q a b → ListsOn listing q r b c → ListsOn listing p r a c
 lists_more listing p q r a b c s t = record {
+  messages = s.messages ++ t.messages;
+  splits = splits_more p q r [] [] s.messages t.messages s.splits t.splits;
   lines = s.lines ++ t.lines;
+  lists = both_listed listing p q [] s.messages t.messages s.lines t.lines s.splits s.lists t.lists;
   took = Takes-more a b c s.lines t.lines s.took t.took;
-  same = λ past more.
-      s.same past more
-      ∙ ap (λ (x : Listed). before (Ok s.lines) x) (t.same past more)
-      ∙ joined s.lines t.lines (listed_after listing past r.given (stream (r.rest ++ more)));
 }
 
 pub lists_nothing : (listing : Listing) (p : Progress) (a : Text) → ListsOn listing p p a a
-lists_nothing listing p a = record { lines = []; took = Takes-none a; same = λ past more. refl }
+lists_nothing listing p a = record { messages = []; splits = splits_nothing p; lines = []; lists = refl; took = Takes-none a }
 
 -- a halt after lines were written
 pub halted_later : {X : Type 0} (listing : Listing) (e : Halt X) (p q : Progress) (a b c : Text) → ListsOn listing p q a b → Halted listing e q b c → Halted listing e p a c
 halted_later listing e p q a b c s h = λ past more.
-    subst (HaltedAs e a c) (sym (s.same past more)) (halted_behind e a b c s.lines (listed_after listing past q.given (stream (q.rest ++ more))) s.took (h past more))
+    subst (HaltedAs e a c) (sym (listed_on listing past p q [] s.messages s.lines more s.splits s.lists)) (halted_behind e a b c s.lines (listed_after listing past q.given (stream (q.rest ++ more))) s.took (h past more))

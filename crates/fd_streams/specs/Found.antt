@@ -1,15 +1,15 @@
 -- What a search for the last message that is wanted finds, and how far it is.
-use Rattle.std.specs.Prelude.{◌≡◌, ◌<◌, ◌++◌, length, ℕ, List, Option, Some, None, Result, Ok, Err, true, false, Bool}
+use Rattle.std.specs.Prelude.{◌≡◌, ◌<◌, ◌+◌, ◌++◌, [], length, ℕ, List, Option, Some, None, Result, Ok, Err, true, false, Bool}
 use Rattle.fd_sections.specs.Message.{Sections, message_octets}
 use Rattle.fd_sections.specs.Progress.{Progress}
-use Rattle.fd_sections.specs.Splitting.{answer}
-use Rattle.fd_sections.specs.Stream.{first, stream}
+use Rattle.fd_sections.specs.Stream.{stream}
+use Rattle.fd_sections.specs.Joining.{IsWaiting, SplitsOn}
 use Rattle.fd_key.specs.Pairs.{Pair}
 use Rattle.fd_outcome.specs.declared.refusal.Refusal.{Refusal}
 use Rattle.fd_streams.specs.declared.picking.Stop.{Stop}
 use Rattle.fd_streams.specs.declared.picking.Stop.TheVariants as stop
 use Rattle.fd_streams.specs.declared.picking.Last.{Last}
-use Rattle.fd_outcome.specs.Picking.{found_after}
+use Rattle.fd_outcome.specs.Picking.{found_after, keyless, last_wanted}
 
 -- what was found last is this message
 abbrev pub IsLast : Last → Option Sections → Type 0
@@ -41,15 +41,13 @@ IsNoMemory stop.NoMemory = Unit {0}
 abbrev pub Stopped : {X : Type 0} → List Pair → Stop X → Progress → Last → Type 0
 Stopped wanted e p last = (past : Bool) (before : Option Sections) → IsLast last before → (more : List ℕ) → StoppedAs e (found_after wanted past p.given before (stream (p.rest ++ more)))
 
--- from one state of a search to another what is found stays the same, whatever more comes
-pub record GoesOn (wanted : List Pair) (p q : Progress) (new : Last) (before : Option Sections) : Type 0 where
-  pub now : Option Sections
-  pub is_last : IsLast new now
-  pub same : (past : Bool) (more : List ℕ) → found_after wanted past p.given before (stream (p.rest ++ more)) ≡ found_after wanted past q.given now (stream (q.rest ++ more))
-
--- no message is whole
-abbrev pub IsWaiting : Progress → Type 0
-IsWaiting p = answer p (first p.rest) ≡ Ok None
+-- from one state of a search to another these messages were gone over: each has a key, and the last of them that is wanted
+-- is what was found last
+pub record GoesOn (wanted : List Pair) (p q : Progress) (old new : Last) : Type 0 where
+  pub messages : List Sections
+  pub splits : SplitsOn p q [] messages
+  pub keyed : keyless (p.given + 1) messages ≡ None
+  pub finds : (before : Option Sections) → IsLast old before → IsLast new (last_wanted wanted before messages)
 
 -- one message was taken, or none is whole
 abbrev pub Measures : Bool → Progress → Progress → Type 0
@@ -58,14 +56,12 @@ Measures false p q = IsWaiting q
 
 pub record Took (wanted : List Pair) (some : Bool) (p q : Progress) (old new : Last) : Type 0 where
   pub measure : Measures some p q
-  pub fed : q.fed ≡ p.fed
-  pub goes_on : (before : Option Sections) → IsLast old before → GoesOn wanted p q new before
+  pub goes_on : GoesOn wanted p q old new
 
 -- all messages that are whole were taken
 pub record TookAll (wanted : List Pair) (p q : Progress) (old new : Last) : Type 0 where
   pub waits : IsWaiting q
-  pub fed : q.fed ≡ p.fed
-  pub goes_on : (before : Option Sections) → IsLast old before → GoesOn wanted p q new before
+  pub goes_on : GoesOn wanted p q old new
 
 -- the octets are kept where the test passed
 abbrev pub IsConsidered : Bool → List ℕ → Last → Last → Type 0

@@ -1,15 +1,17 @@
 -- How far a listing is, and what it wrote where it halts.
-use Rattle.std.specs.Prelude.{◌≡◌, ◌≤◌, ℕ, List, ◌++◌, Bool, true, false, Option, Some, None, IfSome, Result, Ok, Err}
+use Rattle.std.specs.Prelude.{◌≡◌, ◌≤◌, ◌+◌, ℕ, List, [], ◌++◌, Bool, true, false, Option, Some, None, IfSome, Result, Ok, Err}
 use Rattle.fd_io.specs.Streams.{Takes, TakesFront}
 use Rattle.fd_sections.specs.Progress.{Progress}
 use Rattle.fd_sections.specs.Stream.{stream}
+use Rattle.fd_sections.specs.Message.{Sections}
+use Rattle.fd_sections.specs.Joining.{IsWaiting, SplitsOn}
 use Rattle.fd_outcome.specs.declared.refusal.Refusal.{Refusal}
 use Rattle.fd_outcome.specs.declared.listing.Listing.{Listing}
 use Rattle.fd_outcome.specs.declared.listing.Listing.TheVariants as listings
 use Rattle.fd_streams.specs.declared.listing.Halt.{Halt}
 use Rattle.fd_streams.specs.declared.listing.Halt.TheVariants as halts
-use Rattle.fd_streams.specs.Found.{Measures, IsWaiting}
-use Rattle.fd_outcome.specs.Listed.{Listed, before, listed_after}
+use Rattle.fd_streams.specs.Found.{Measures}
+use Rattle.fd_outcome.specs.Listed.{Listed, alone, listed_after, listed_messages}
 
 -- a listing asks for at most 30 decimals
 abbrev pub AreFew : Listing → Type 0
@@ -65,20 +67,20 @@ is_unwritten halts.NoMemory = false
 abbrev pub Halted : {X : Type 0} → Listing → Halt X → Progress → Option (List ℕ) → Option (List ℕ) → Type 0
 Halted listing halt p a b = (past : Bool) (more : List ℕ) → HaltedAs halt a b (listed_after listing past p.given (stream (p.rest ++ more)))
 
--- from one place to another lines were written; whatever more comes, they come before what is listed from there on
+-- from one place to another these messages were gone over, and their lines were written
 pub record ListsOn (listing : Listing) (p q : Progress) (a b : Option (List ℕ)) : Type 0 where
+  pub messages : List Sections
+  pub splits : SplitsOn p q [] messages
   pub lines : List ℕ
+  pub lists : listed_messages listing (p.given + 1) None messages ≡ alone (Ok lines)
   pub took : Takes a b lines
-  pub same : (past : Bool) (more : List ℕ) → listed_after listing past p.given (stream (p.rest ++ more)) ≡ before (Ok lines) (listed_after listing past q.given (stream (q.rest ++ more)))
 
 -- one message was listed, or none is whole
 pub record ListedOne (listing : Listing) (some : Bool) (p q : Progress) (a b : Option (List ℕ)) : Type 0 where
   pub measure : Measures some p q
-  pub fed : q.fed ≡ p.fed
   pub goes_on : ListsOn listing p q a b
 
 -- all messages that are whole were listed
 pub record ListedAll (listing : Listing) (p q : Progress) (a b : Option (List ℕ)) : Type 0 where
   pub waits : IsWaiting q
-  pub fed : q.fed ≡ p.fed
   pub goes_on : ListsOn listing p q a b

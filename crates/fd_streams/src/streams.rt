@@ -10,7 +10,7 @@ ghost use Rattle.fd_streams.specs.Streams.{listing_command};
 use crate::listing::{Halt, list};
 use crate::picking::{Stop, last_wanted};
 use fd_io::{Sink, Source, write_all};
-use fd_listing::none_given;
+use fd_key::Given;
 use fd_outcome::{
     Listing, Status, tell, tell_input_failed, tell_no_memory, tell_output_failed, tell_refusal,
 };
@@ -28,7 +28,7 @@ pub fn pick<X: Drop, I: Source<X>, K: Sink<X>, E: Sink<X>>(
     ensures { (has : Option Holdings) (m : ℕ) → Ran (Pick wanted.now) result (object has has m m) (object (I.left input.old) (I.left input.new) (I.faults input.old) (I.faults input.new))
         (object (K.taken output.old) (K.taken output.new) (K.faults output.old) (K.faults output.new)) (object (E.taken report.old) (E.taken report.new) (E.faults report.old) (E.faults report.new)) }
 {
-    let Ok(given) = none_given(alloc) else {
+    let Ok(given) = Given::none(alloc) else {
         return tell_no_memory(report);
     };
     match last_wanted(alloc, wanted, &given, input) {

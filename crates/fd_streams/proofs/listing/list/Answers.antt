@@ -37,7 +37,7 @@ returns-in-Ok-finish-clause-to_end g c =
 pub returns-in-Err-finish-clause-answer : goal.returns-in-Err-finish-clause-answer
 returns-in-Err-finish-clause-answer g c =
     let i = c.loop.invariant in
-    list_truncated (g.I.Source.left c.args.input.now) (g.I.Source.left c.loop.input) c.args.listing c.loop.splitter (g.K.Sink.taken c.args.output.now) (g.K.Sink.taken c.loop.output) c.in-Err-finish.cut i.gone (omega (arith, i.fed, i.limit)) (c.in-Ok-read_piece.ensures.end c.if-n-eq0.true) c.in-Err-finish.ensures
+    list_truncated (g.I.Source.left c.args.input.now) (g.I.Source.left c.loop.input) c.args.listing c.loop.splitter (g.K.Sink.taken c.args.output.now) (g.K.Sink.taken c.loop.output) c.in-Err-finish.cut i.gone (omega (arith, i.fed, i.limit)) (c.in-Ok-read_piece.ensures.end c.if-n-eq0.true) i.waiting c.in-Err-finish.ensures
 
 pub returns-then-total-eq-INPUT_LIMIT-clause-answer : goal.returns-then-total-eq-INPUT_LIMIT-clause-answer
 returns-then-total-eq-INPUT_LIMIT-clause-answer g c =

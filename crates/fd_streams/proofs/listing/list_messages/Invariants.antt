@@ -4,7 +4,6 @@ use Rattle.fd_streams.proofs.listing.list_messages.Given as goal
 
 abbrev pub invariant-messages : goal.invariant-messages
 invariant-messages g l = record {
-  fed : l.splitter.fed ≡ l.fn.splitter.fed;
   on : ListsOn l.listing l.fn.splitter l.splitter (g.K.Sink.taken l.fn.output) (g.K.Sink.taken l.output);
   calm : g.K.Sink.faults l.output ≡ g.K.Sink.faults l.fn.output;
 }

@@ -31,7 +31,7 @@ pub returns-in-Err-finish-clause-answer : goal.returns-in-Err-finish-clause-answ
 returns-in-Err-finish-clause-answer g c =
     let i = c.loop.invariant in
     let ended = c.in-Err-finish in
-    found_cut (g.I.Source.left c.args.input.now) (g.I.Source.left c.loop.input) c.args.wanted.now c.loop.splitter c.loop.last ended.cut i.searched (omega (arith, i.fed, i.limit)) (c.in-Ok.ensures.end c.if-n-eq0.true) ended.ensures
+    found_cut (g.I.Source.left c.args.input.now) (g.I.Source.left c.loop.input) c.args.wanted.now c.loop.splitter c.loop.last ended.cut i.searched (omega (arith, i.fed, i.limit)) (c.in-Ok.ensures.end c.if-n-eq0.true) i.waiting ended.ensures
 
 pub returns-then-total-eq-INPUT_LIMIT-clause-answer : goal.returns-then-total-eq-INPUT_LIMIT-clause-answer
 returns-then-total-eq-INPUT_LIMIT-clause-answer g c =

@@ -1,6 +1,6 @@
 use Rattle.std.proofs.Common.{◌≡◌, ◌≤◌}
 use Rattle.std.specs.Prelude.{vec_len}
-use Rattle.fd_streams.specs.Found.{IsWaiting}
+use Rattle.fd_sections.specs.Joining.{IsWaiting}
 use Rattle.fd_streams.specs.Run.{Reads, Searched}
 use Rattle.fd_streams.proofs.picking.last_wanted.Given as goal
 
