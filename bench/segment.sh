@@ -8,7 +8,7 @@ batches=${BATCHES:-50}
 work=$(mktemp -d)
 trap 'rm -rf "$work"' EXIT
 mkdir "$work/crates"
-for crate in fd_bytes fd_io fd_disk fd_disk_mem fd_core fd_index fd_segment; do
+for crate in fd_bytes fd_io fd_disk fd_file_mem fd_disk_mem fd_entries fd_region fd_index fd_pages fd_segment; do
   mkdir "$work/crates/$crate"
   cp -r "$top/crates/$crate/src" "$work/crates/$crate/"
   for part in specs proofs; do
@@ -16,7 +16,7 @@ for crate in fd_bytes fd_io fd_disk fd_disk_mem fd_core fd_index fd_segment; do
   done
   grep "^$crate:" "$top/crates.txt" >> "$work/crates.txt"
 done
-echo "fd_batch: fd_bytes fd_disk fd_disk_mem fd_core fd_segment" >> "$work/crates.txt"
+echo "fd_batch: fd_bytes fd_disk fd_disk_mem fd_entries fd_segment" >> "$work/crates.txt"
 driver=$work/crates/fd_batch
 mkdir -p "$driver/src" "$driver/proofs/fill"
 cat > "$driver/src/main.rt" <<'RT'

@@ -7,7 +7,7 @@ use Rattle.fd_disk.specs.declared.folders.FileKind.TheVariants.{Fields, Index}
 use Rattle.fd_disk.specs.Names.{name_of, same_kind, same_name}
 use Rattle.fd_disk.specs.Folders.{keeping}
 use Rattle.fd_disk.proofs.NameLemmas.{same_name_refl}
-use Rattle.fd_core.specs.declared.batch.Pair.{Pair}
+use Rattle.fd_entries.specs.declared.batch.Pair.{Pair}
 use Rattle.fd_segment.specs.Held.{Files, Standing, batch_of, batch_told}
 use Rattle.fd_archiver.specs.Flushing.{KeepsOthers}
 use Rattle.fd_archiver.specs.Writing.{IsKept}

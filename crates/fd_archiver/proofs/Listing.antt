@@ -1,8 +1,8 @@
 -- What a listing tells of the flush that it ends.
 use Rattle.std.proofs.Common.{◌≡◌, ◌<◌, ◌⊎◌, inl, inr, ℕ, List, [], ◌∷◌, ap, ◌∙◌, sym, subst, Bool, Option, Some, None}
 use Rattle.fd_disk.specs.declared.folders.FileName.{FileName}
-use Rattle.fd_core.specs.declared.batch.Pair.{Pair}
-use Rattle.fd_core.specs.declared.batch.Listing.{Listing}
+use Rattle.fd_entries.specs.declared.batch.Pair.{Pair}
+use Rattle.fd_entries.specs.declared.batch.Listing.{Listing}
 use Rattle.fd_segment.specs.Held.{Standing}
 use Rattle.fd_dataset.specs.Listed.{listing}
 use Rattle.fd_dataset.specs.declared.fault.ListFault.{ListFault}

@@ -4,7 +4,7 @@ use Rattle.fd_disk.specs.declared.folders.FileName.{FileName}
 use Rattle.fd_disk.specs.declared.folders.FileKind.{FileKind}
 use Rattle.fd_disk.specs.declared.folders.FileKind.TheVariants.{Fields, Index}
 use Rattle.fd_disk.specs.Names.{name_of}
-use Rattle.fd_core.specs.declared.batch.Pair.{Pair}
+use Rattle.fd_entries.specs.declared.batch.Pair.{Pair}
 use Rattle.fd_segment.specs.Filling.{Filling, Puts}
 use Rattle.fd_segment.specs.Held.{Standing}
 use Rattle.fd_archiver.specs.Whole.{Created, CreatedBy, IsDraftOf, IsNextOf, IsSegmentOf, IsWhole, Owner}

@@ -1,7 +1,7 @@
 -- Why a call was refused, and what a refused flush leaves of the pass.
 use Rattle.std.specs.Prelude.{◌≡◌, ◌⊎◌, ◌<◌, ◌≤◌, ℕ, List, [], ◌∷◌, length, Option, Some, Result, Ok, Err}
 use Rattle.fd_index.specs.declared.fault.Full.{Full}
-use Rattle.fd_core.specs.declared.batch.Listing.{Listing}
+use Rattle.fd_entries.specs.declared.batch.Listing.{Listing}
 use Rattle.fd_segment.specs.Held.{Standing}
 use Rattle.fd_turn.specs.Views.{View}
 use Rattle.fd_dataset.specs.Listed.{listing}

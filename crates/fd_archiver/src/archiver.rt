@@ -2,8 +2,8 @@ ghost use Rattle.std.specs.Prelude.{◌≡◌, ◌≢◌, ◌≤◌, ◌<◌, �
 ghost use Rattle.fd_bytes.specs.Causes.{Rose};
 ghost use Rattle.fd_disk.specs.declared.folders.FileName.{FileName};
 ghost use Rattle.fd_disk.specs.Causes.{OnFault};
-ghost use Rattle.fd_core.specs.declared.batch.Pair.{Pair};
-ghost use Rattle.fd_core.specs.Batches.{distinct};
+ghost use Rattle.fd_entries.specs.declared.batch.Pair.{Pair};
+ghost use Rattle.fd_entries.specs.Batches.{distinct};
 ghost use Rattle.fd_index.specs.Builder.{room_for};
 ghost use Rattle.fd_segment.specs.Filling.{Puts};
 ghost use Rattle.fd_schema.specs.Rules.{file_key};

@@ -1,7 +1,7 @@
 ghost use Rattle.std.specs.Prelude.{◌≡◌, ◌≢◌, ◌≤◌, ◌<◌, ◌+◌, ◌-◌, ◌^◌, ◌⊎◌, ◌↔◌, [], List, length, false, true, Ok, Err, None, Some, IfErr, OnErr};
 ghost use mathlib.Core.List.{IsPrefix};
-ghost use Rattle.fd_core.specs.declared.batch.Pair.{Pair};
-ghost use Rattle.fd_core.specs.Table.{greatest_writer};
+ghost use Rattle.fd_entries.specs.declared.batch.Pair.{Pair};
+ghost use Rattle.fd_entries.specs.Table.{greatest_writer};
 ghost use Rattle.fd_turn.specs.declared.view.Lock.TheVariants.{Free};
 ghost use Rattle.fd_turn.specs.Views.{all_parts};
 ghost use Rattle.fd_turn.specs.Passes.{view, IsOf, IsSame};

@@ -2,7 +2,7 @@
 ghost use Rattle.std.specs.Prelude.{◌≡◌, ◌≢◌, ◌≤◌, ◌<◌, ◌-◌, ◌^◌, ◌⊎◌, ◌↔◌, ◌++◌, [], List, true, false, length, Ok, Err, None, IsSome, Some, IfErr, OnOk, OnErr};
 ghost use Rattle.fd_bytes.specs.Causes.{Rose};
 ghost use Rattle.fd_disk.specs.Causes.{OnFault};
-ghost use Rattle.fd_core.specs.declared.batch.Pair.{Pair};
+ghost use Rattle.fd_entries.specs.declared.batch.Pair.{Pair};
 ghost use Rattle.fd_segment.specs.Filling.{HoldsSame, Puts};
 ghost use Rattle.fd_segment.specs.Held.{Standing};
 ghost use Rattle.fd_archiver.specs.Causes.{OnFlushDisk};

@@ -3,9 +3,9 @@ use Rattle.std.proofs.Common.{◌≡◌, ◌∙◌, ℕ, Bool, true, false, true
 use Rattle.std.specs.Prelude.{◌⊎◌, is_some, option_map, Contains, Ok, Err, OnErr, OnOk, Result}
 use Rattle.fd_bytes.specs.Causes.{Rose}
 use Rattle.fd_disk.specs.Folders.{Contents, Holdings, folder_at}
-use Rattle.fd_core.specs.declared.batch.Pair.{Pair}
-use Rattle.fd_core.specs.declared.table.Entry.{Entry}
-use Rattle.fd_core.specs.Table.{listed}
+use Rattle.fd_entries.specs.declared.batch.Pair.{Pair}
+use Rattle.fd_entries.specs.declared.table.Entry.{Entry}
+use Rattle.fd_entries.specs.Table.{listed}
 use Rattle.fd_dataset.specs.Listed.{listing}
 use Rattle.fd_io.specs.Streams.{Takes, TakesFront}
 use Rattle.fd_recovery.specs.Damages.{index_file}

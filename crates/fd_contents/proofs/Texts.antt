@@ -4,9 +4,9 @@ use Rattle.std.specs.Prelude.{is_some, option_map, Result}
 use Rattle.fd_io.specs.Streams.{Takes, TakesFront}
 use Rattle.fd_disk.specs.declared.file.File.{File}
 use Rattle.fd_disk.specs.Folders.{Holdings, WhereTold, folder_at}
-use Rattle.fd_core.specs.declared.table.Entry.{Entry}
-use Rattle.fd_core.specs.declared.table.NotATable.{NotATable}
-use Rattle.fd_core.specs.Table.{listed}
+use Rattle.fd_entries.specs.declared.table.Entry.{Entry}
+use Rattle.fd_entries.specs.declared.table.NotATable.{NotATable}
+use Rattle.fd_entries.specs.Table.{listed}
 use Rattle.fd_recovery.specs.Recovered.{held_by}
 use Rattle.fd_request.specs.Expansion.{Keyword}
 use Rattle.fd_outcome.specs.Outcome.{both, stats_of}

@@ -9,11 +9,11 @@ use Rattle.fd_core.specs.declared.machine.NamedFile.{NamedFile}
 use Rattle.fd_core.specs.declared.machine.Step.TheVariants.{Crash}
 use Rattle.fd_core.specs.declared.machine.Writer.{Writer}
 use Rattle.fd_core.specs.World.{World}
-use Rattle.fd_core.specs.Batches.{same_bytes}
+use Rattle.fd_entries.specs.Batches.{same_bytes}
 use Rattle.fd_core.specs.Machine.{after, agrees_from, are_none, firmed, first_of_left, has_image, have_images, may_leave}
 use Rattle.fd_core.proofs.PutSteps.{something}
 use Rattle.fd_core.proofs.Reached.{done, up_and}
-use Rattle.fd_core.proofs.BatchSums.{drop_here}
+use Rattle.fd_entries.proofs.BatchSums.{drop_here}
 
 -- the place is in the first of the ranges, or in one of the others
 pub in_step : (k i : ℕ) (rs : List Range) (r : Range) → i < length rs → get_or rs i r ≡ r → is_in k (drop i rs) ≡ ((nat_le r.at k && nat_lt k (r.at + r.len)) || is_in k (drop (i + 1) rs))

@@ -8,25 +8,26 @@ use Rattle.fd_disk.specs.declared.folders.FileKind.{FileKind}
 use Rattle.fd_disk.specs.declared.folders.FileKind.TheVariants.{Fields, Index}
 use Rattle.fd_disk.specs.Names.{same_name}
 use Rattle.fd_disk.specs.Images.{IsImage, firm_file}
-use Rattle.fd_core.specs.declared.table.Entry.{Entry}
-use Rattle.fd_core.specs.Table.{listed, IsTable}
-use Rattle.fd_core.specs.Standing.{IsSettled}
-use Rattle.fd_core.proofs.Slots.{listed_table}
-use Rattle.fd_core.proofs.StandingLemmas.{settled_table, doubt_table, staged_settled}
-use Rattle.fd_core.specs.declared.batch.Pair.{Pair}
+use Rattle.fd_entries.specs.declared.table.Entry.{Entry}
+use Rattle.fd_entries.specs.Table.{listed, IsTable}
+use Rattle.fd_entries.specs.Standing.{IsSettled}
+use Rattle.fd_entries.proofs.Slots.{listed_table}
+use Rattle.fd_entries.proofs.StandingLemmas.{settled_table, doubt_table, staged_settled}
+use Rattle.fd_entries.specs.declared.batch.Pair.{Pair}
 use Rattle.fd_core.specs.declared.machine.Phase.{Phase}
 use Rattle.fd_core.specs.declared.machine.Phase.TheVariants.{Filling, Synced, Written, Sealed, Holding, BodyLoose, BodyFirm, GateLoose, Listed, Posted, Closing}
 use Rattle.fd_core.specs.declared.machine.Writer.{Writer}
 use Rattle.fd_core.specs.declared.machine.NamedFile.{NamedFile}
 use Rattle.fd_core.specs.declared.machine.Step.TheVariants.{Crash, Reopen}
 use Rattle.fd_core.specs.World.{World}
-use Rattle.fd_core.specs.Batches.{Row, joined, rows, rows_read}
-use Rattle.fd_core.specs.Machine.{file_of, fields_name, index_name, entry_of, writer_of, writer_in, fresh, greatest_seq, entries_or_none, code, may_leave, has_image, have_images, firmed, first_of_left, batch_in, is_listed, kept_files, effect}
+use Rattle.fd_entries.specs.Batches.{Row, joined, rows, rows_read}
+use Rattle.fd_core.specs.Machine.{file_of, fields_name, index_name, entry_of, writer_of, writer_in, fresh, code, may_leave, has_image, have_images, firmed, first_of_left, batch_in, is_listed, kept_files, effect}
+use Rattle.fd_entries.specs.Numbers.{greatest_seq, entries_or_none}
 use Rattle.fd_core.specs.Laws.{IsPrefix, IsReopened}
-use Rattle.fd_core.proofs.Reading.{batch_back}
+use Rattle.fd_entries.proofs.Reading.{batch_back}
 use Rattle.fd_core.proofs.Updates.{name_cases}
 use Rattle.fd_core.proofs.Images.{image_is, left_there}
-use Rattle.fd_core.proofs.Keeping.{both}
+use Rattle.fd_entries.proofs.BatchSums.{both}
 use Rattle.fd_core.proofs.Steps.{in_phase, stands-push}
 use Rattle.fd_core.proofs.Holds.{name_of, StandsFor, AllStand, IsReady, WriterHolds, Doubtful, Owned, Mending, OwnedOrMending, FreeOrInDoubt, TableHolds, IsWriters, DoubtHolds, AllOlder, bound, HoldsUp, HoldsDown}
 

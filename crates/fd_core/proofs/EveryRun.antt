@@ -2,23 +2,24 @@
 use Rattle.std.proofs.Common.{◌^◌, ◌≡◌, ◌≤◌, ◌⊎◌, inl, inr, ◌==◌, if◌then◌else◌, unwrap_or, ℕ, ◌^◌, ◌<◌, ◌&&◌, not, Bool, true, false, List, [], ◌∷◌, ◌++◌, length, refl, sym, ◌∙◌, ap, subst, arith, Option, Some, None, cond}
 use Rattle.std.proofs.lemmas.Bool.Decides.{nat_tests}
 use Rattle.std.proofs.lemmas.List.{append-nil}
-use Rattle.fd_core.specs.declared.batch.Pair.{Pair}
+use Rattle.fd_entries.specs.declared.batch.Pair.{Pair}
 use Rattle.fd_core.specs.declared.machine.Seen.{Seen}
 use Rattle.fd_core.specs.World.{World}
 use Rattle.fd_core.specs.declared.machine.Step.{Step}
 use Rattle.fd_core.specs.declared.machine.Step.TheVariants.{Put, SyncData, WriteIndex, SyncIndex, Take, Body, SyncBody, Gate, SyncGate, Post, Release, Look, Fetch, CloseGate, SyncClose, Fail, Crash, Reopen}
-use Rattle.fd_core.specs.Machine.{answer, can, possible, effect, may_leave, greatest_seq, entries_or_none, after, writer_of, run, start, seen_by, put_seen}
+use Rattle.fd_core.specs.Machine.{answer, can, possible, effect, may_leave, after, writer_of, run, start, seen_by, put_seen}
+use Rattle.fd_entries.specs.Numbers.{greatest_seq, entries_or_none}
 use Rattle.fd_core.specs.Took.{answered}
 use Rattle.fd_core.specs.declared.machine.Took.TheVariants.{No}
-use Rattle.fd_core.specs.declared.table.Entry.{Entry}
-use Rattle.fd_core.specs.Table.{header, listed, IsTable}
-use Rattle.fd_core.proofs.Slots.{listed_table}
+use Rattle.fd_entries.specs.declared.table.Entry.{Entry}
+use Rattle.fd_entries.specs.Table.{header, listed, IsTable}
+use Rattle.fd_entries.proofs.Slots.{listed_table}
 use Rattle.fd_core.proofs.Holds.{TableHolds, DoubtHolds, HoldsUp, HoldsDown, HoldsIf, Holds}
 use Rattle.fd_core.proofs.Fetching.{holds_fetches}
 use Rattle.fd_core.proofs.Steps.{keeps_put, keeps_sync_data, keeps_write_index, keeps_sync_index, keeps_take, keeps_body, keeps_sync_body, keeps_gate, keeps_sync_gate, keeps_post, keeps_release, keeps_close_gate, keeps_sync_close}
 use Rattle.fd_core.proofs.Failing.{keeps_fail, failed_down, failed_history}
 use Rattle.fd_core.proofs.Crashing.{crash_left, crashed, opened_history, reopened}
-use Rattle.fd_core.proofs.Keeping.{both}
+use Rattle.fd_entries.proofs.BatchSums.{both}
 use Rattle.fd_core.proofs.Images.{and_true, left_images, images_left}
 use Rattle.fd_core.specs.Laws.{IsPrefix, may_list, FetchesNewest, OnlyGrows, SeesOnlyListed, PostsItsPairs, OnlyPostLists, IsReopened, SurvivesCrash, LeavesImages, OnlyReopens, OverEveryRun}
 

@@ -3,16 +3,17 @@ use Rattle.std.proofs.Common.{◌≡◌, ◌⊎◌, inl, inr, ◌^◌, ◌+◌, 
 use Rattle.fd_disk.specs.declared.file.File.{File}
 use Rattle.fd_disk.specs.declared.folders.FileName.{FileName}
 use Rattle.fd_disk.specs.Images.{loosened, written}
-use Rattle.fd_core.specs.declared.table.Entry.{Entry}
-use Rattle.fd_core.specs.Table.{listed, with_body, with_closed, with_gate}
+use Rattle.fd_entries.specs.declared.table.Entry.{Entry}
+use Rattle.fd_entries.specs.Table.{listed, with_body, with_closed, with_gate}
 use Rattle.fd_core.specs.declared.machine.NamedFile.{NamedFile}
 use Rattle.fd_core.specs.declared.machine.Phase.{Phase}
 use Rattle.fd_core.specs.declared.machine.Phase.TheVariants.{Filling, Synced, Written, Sealed, Holding, BodyLoose, BodyFirm, GateLoose, Closing}
 use Rattle.fd_core.specs.declared.machine.Step.TheVariants.{Fail}
 use Rattle.fd_core.specs.declared.machine.Writer.{Writer}
 use Rattle.fd_core.specs.World.{World}
-use Rattle.fd_core.specs.Batches.{rows, total}
-use Rattle.fd_core.specs.Machine.{after, back, can_fail, entries_or_none, entry_of, failed, fields_name, file_of, fresh, greatest_seq, index_name, put_file, put_writer, writer_in, writer_of}
+use Rattle.fd_entries.specs.Batches.{rows, total}
+use Rattle.fd_core.specs.Machine.{after, back, can_fail, entry_of, failed, fields_name, file_of, fresh, index_name, put_file, put_writer, writer_in, writer_of}
+use Rattle.fd_entries.specs.Numbers.{entries_or_none, greatest_seq}
 use Rattle.fd_core.specs.Took.{IsAt, IsPlace, IsReached}
 use Rattle.fd_core.proofs.Keeping.{id_is}
 use Rattle.fd_core.proofs.Steps.{in_other}

@@ -3,15 +3,15 @@ use Rattle.std.proofs.Common.{◌≡◌, ◌≢◌, inl, if◌then◌else◌, �
 use Rattle.fd_disk.specs.declared.file.File.{File}
 use Rattle.fd_disk.specs.declared.folders.FileKind.TheVariants.{Index}
 use Rattle.fd_disk.specs.Images.{firm_file, written, loosened}
-use Rattle.fd_core.specs.declared.table.Entry.{Entry}
-use Rattle.fd_core.specs.Table.{body_of, with_body, with_gate, with_closed}
-use Rattle.fd_core.specs.Standing.{IsSettled}
-use Rattle.fd_core.proofs.StandingLemmas.{written_settled, closed_table}
+use Rattle.fd_entries.specs.declared.table.Entry.{Entry}
+use Rattle.fd_entries.specs.Table.{body_of, with_body, with_gate, with_closed}
+use Rattle.fd_entries.specs.Standing.{IsSettled}
+use Rattle.fd_entries.proofs.StandingLemmas.{written_settled, closed_table}
 use Rattle.fd_core.specs.declared.machine.Phase.{Phase}
 use Rattle.fd_core.specs.declared.machine.Phase.TheVariants.{Filling, Synced, Written, Sealed, Holding, BodyLoose, BodyFirm, GateLoose, Listed, Posted, Closing}
 use Rattle.fd_core.specs.declared.machine.Writer.{Writer}
 use Rattle.fd_core.specs.World.{World}
-use Rattle.fd_core.specs.Batches.{total, joined, rows}
+use Rattle.fd_entries.specs.Batches.{total, joined, rows}
 use Rattle.fd_core.specs.Machine.{file_of, put_file, fields_name, index_name, entry_of, writer_of, put_writer, fresh, code, can_fail, failed, back}
 use Rattle.fd_core.proofs.Updates.{file_there, file_elsewhere, writer_there, writer_elsewhere}
 use Rattle.fd_core.proofs.Holds.{IsReady, ByPhase, OwnedOrMending, FreeOrInDoubt, IsWriters, DoubtHolds, HoldsUp}

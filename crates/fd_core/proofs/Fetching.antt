@@ -1,34 +1,23 @@
 -- A fetch answers the newest pair.
-use Rattle.std.proofs.Common.{◌≡◌, inl, inr, ℕ, zero, suc, ◌+◌, ◌*◌, ◌<◌, ◌≤◌, List, [], ◌∷◌, ◌++◌, length, take, drop, get_or, refl, sym, ◌∙◌, ap, arith, append_assoc, Option, Some, None}
-use Rattle.std.proofs.lemmas.List.{drop_at, drop-drop, take_more}
+use Rattle.std.proofs.Common.{◌≡◌, inl, inr, ℕ, zero, suc, ◌+◌, ◌<◌, ◌≤◌, List, [], ◌∷◌, ◌++◌, length, take, get_or, refl, sym, ◌∙◌, ap, arith, append_assoc, Option, Some, None}
+use Rattle.std.proofs.lemmas.List.{take_more}
 use Rattle.fd_disk.specs.declared.file.File.{File}
 use Rattle.fd_disk.specs.declared.folders.FileKind.TheVariants.{Fields, Index}
-use Rattle.fd_core.specs.declared.table.Entry.{Entry}
-use Rattle.fd_core.specs.Table.{header, slots_of, body_of, gate_at, entry_in, IsTable, AllFit}
-use Rattle.fd_core.specs.Standing.{IsStaged}
-use Rattle.fd_core.proofs.Slots.{entry_read}
-use Rattle.fd_core.proofs.StandingLemmas.{slots-append, doubt_table}
-use Rattle.fd_core.specs.declared.batch.Pair.{Pair}
+use Rattle.fd_entries.specs.declared.table.Entry.{Entry}
+use Rattle.fd_entries.specs.Table.{header, slots_of, body_of, IsTable}
+use Rattle.fd_entries.specs.Standing.{IsStaged}
+use Rattle.fd_entries.proofs.SlotReading.{Front, entry_at, front_of_table, no_entry}
+use Rattle.fd_entries.proofs.StandingLemmas.{slots-append, doubt_table}
+use Rattle.fd_entries.specs.declared.batch.Pair.{Pair}
 use Rattle.fd_core.specs.declared.machine.Phase.{Phase}
 use Rattle.fd_core.specs.declared.machine.Phase.TheVariants.{Filling, Synced, Written, Sealed, Holding, BodyLoose, BodyFirm, GateLoose, Listed, Posted, Closing}
 use Rattle.fd_core.specs.declared.machine.Writer.{Writer}
 use Rattle.fd_core.specs.declared.machine.NamedFile.{NamedFile}
 use Rattle.fd_core.specs.World.{World}
-use Rattle.fd_core.specs.Batches.{or_older, of_batch, newest, of_files, rows}
+use Rattle.fd_entries.specs.Batches.{or_older, of_batch, newest, of_files, rows}
 use Rattle.fd_core.specs.Machine.{file_of, entry_of, writer_of, of_slot, fetched, length_of, answer}
-use Rattle.fd_core.proofs.Reading.{newest-push, older_if, files_of_batch}
+use Rattle.fd_entries.proofs.Reading.{newest-push, older_if, files_of_batch}
 use Rattle.fd_core.proofs.Holds.{name_of, StandsFor, AllStand, Doubtful, Owned, Mending, OwnedOrMending, FreeOrInDoubt, TableHolds, HoldsUp}
-
-pub no_entry : Entry
-no_entry = record { writer = 0; seq = 0; fields = 0; index_len = 0; fields_len = 0 }
-
--- what stands in front of the gate that follows the entries
-pub record Front (es : List Entry) (bytes : List ℕ) : Type 0 where
-  pub rest : List ℕ
-  pub is : bytes ≡ (header [] ++ slots_of es) ++ rest
-
-pub front_of_table : (es : List Entry) (bytes : List ℕ) → IsTable [] es bytes → Front es bytes
-front_of_table es bytes t = record { rest = t.gate ∷ t.tail; is = t.is }
 
 front_of_more : (es : List Entry) (e : Entry) (bytes : List ℕ) → IsTable [] (es ++ e ∷ []) bytes → Front es bytes
 front_of_more es e bytes t = record {
@@ -85,27 +74,6 @@ front_of_owner es f x p (Some e) h = front_mending es f e p h
 pub front : (s : World) (es : List Entry) (owner : Option ℕ) → TableHolds s es owner → Front es s.table.reads
 front s es None h = front_of_free es s.table s.doubt h
 front s es (Some w) h = front_of_owner es s.table (writer_of s w) (writer_of s w).phase s.doubt h
-
--- the entry in a slot
-slot_at : (i j : ℕ) (es : List Entry) (rest : List ℕ) → AllFit j es → j + length es ≤ 65535 → i < length es → entry_in (drop (64 * i + 1) (slots_of es ++ rest)) ≡ get_or es i no_entry
-slot_at i j [] rest fit few lt = absurd (omega arith)
-slot_at zero j (e ∷ es) rest fit few lt = entry_read j e (slots_of es ++ rest) fit.0 (omega arith)
-slot_at (suc i) j (e ∷ es) rest fit few lt =
-    let next : 64 * suc i + 1 ≡ 64 + (64 * i + 1) = omega arith in
-    let all = 79 ∷ body_of e ++ (slots_of es ++ rest) in
-    ap (λ (n : ℕ). entry_in (drop n all)) next
-    ∙ ap entry_in (sym (drop-drop (64 * i + 1) 64 all))
-    ∙ slot_at i (j + 1) es rest fit.1 (omega arith) (omega arith)
-
-pub entry_at : (es : List Entry) (bytes : List ℕ) (i : ℕ) → Front es bytes → AllFit 0 es → length es ≤ 65535 → i < length es → entry_in (drop (gate_at i + 1) bytes) ≡ get_or es i no_entry
-entry_at es bytes i f fit few lt =
-    let split : bytes ≡ header [] ++ (slots_of es ++ f.rest) = f.is ∙ append_assoc (header []) (slots_of es) f.rest in
-    let place : gate_at i + 1 ≡ 320 + (64 * i + 1) = omega arith in
-    ap (λ (b : List ℕ). entry_in (drop (gate_at i + 1) b)) split
-    ∙ ap (λ (n : ℕ). entry_in (drop n (header [] ++ (slots_of es ++ f.rest)))) place
-    ∙ ap entry_in (sym (drop-drop (64 * i + 1) 320 (header [] ++ (slots_of es ++ f.rest))))
-    ∙ ap (λ (b : List ℕ). entry_in (drop (64 * i + 1) b)) (drop_at (header []) (slots_of es ++ f.rest) 320 refl)
-    ∙ slot_at i 0 es f.rest fit (omega arith) lt
 
 pub stands_at : (files : List NamedFile) (es : List Entry) (bs : List (List Pair)) (i : ℕ) → AllStand files es bs → i < length es → StandsFor files (get_or es i no_entry) (get_or bs i [])
 stands_at files [] bs i all lt = absurd (omega arith)

@@ -3,8 +3,8 @@ use Rattle.std.proofs.Common.{◌≡◌, ◌&&◌, ◌^◌, ◌-◌, ◌<◌, �
 use Rattle.std.proofs.lemmas.Bool.Decides.{nat_tests}
 use Rattle.fd_disk.specs.declared.file.File.{File}
 use Rattle.fd_disk.specs.Images.{synced, written}
-use Rattle.fd_core.specs.declared.table.Entry.{Entry}
-use Rattle.fd_core.specs.Table.{body_of, gate_at, with_body}
+use Rattle.fd_entries.specs.declared.table.Entry.{Entry}
+use Rattle.fd_entries.specs.Table.{body_of, gate_at, with_body}
 use Rattle.fd_core.specs.declared.machine.NamedFile.{NamedFile}
 use Rattle.fd_core.specs.declared.machine.Phase.{Phase}
 use Rattle.fd_core.specs.declared.machine.Phase.TheVariants.{Filling, Synced, Written, Sealed, Holding, BodyLoose}
@@ -12,8 +12,9 @@ use Rattle.fd_core.specs.declared.machine.Step.{Step}
 use Rattle.fd_core.specs.declared.machine.Step.TheVariants.{SyncData, WriteIndex, SyncIndex, Body}
 use Rattle.fd_core.specs.declared.machine.Writer.{Writer}
 use Rattle.fd_core.specs.World.{World}
-use Rattle.fd_core.specs.Batches.{IsBounded, rows}
-use Rattle.fd_core.specs.Machine.{after, effect, entry_of, fields_name, file_of, index_name, is_empty, is_in_phase, possible, put_file, put_writer, writer_of}
+use Rattle.fd_entries.specs.Batches.{IsBounded, rows}
+use Rattle.fd_core.specs.Machine.{after, effect, entry_of, fields_name, file_of, index_name, is_in_phase, possible, put_file, put_writer, writer_of}
+use Rattle.fd_entries.specs.Batches.{is_empty}
 use Rattle.fd_core.specs.Took.{IsPlace, IsReached}
 use Rattle.fd_core.proofs.Images.{and_true}
 use Rattle.fd_core.proofs.Steps.{in_other}

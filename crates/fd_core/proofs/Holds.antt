@@ -5,19 +5,20 @@ use Rattle.fd_disk.specs.declared.folders.FileName.{FileName}
 use Rattle.fd_disk.specs.declared.folders.FileKind.{FileKind}
 use Rattle.fd_disk.specs.declared.folders.FileKind.TheVariants.{Fields, Index}
 use Rattle.fd_disk.specs.Images.{IsImage, firm_file, synced}
-use Rattle.fd_core.specs.declared.table.Entry.{Entry}
-use Rattle.fd_core.specs.Table.{IsTable, AllFit}
-use Rattle.fd_core.specs.Standing.{IsSettled, IsStaged, IsInDoubt}
-use Rattle.fd_core.specs.declared.batch.Pair.{Pair}
+use Rattle.fd_entries.specs.declared.table.Entry.{Entry}
+use Rattle.fd_entries.specs.Table.{IsTable, AllFit}
+use Rattle.fd_entries.specs.Standing.{IsSettled, IsStaged, IsInDoubt}
+use Rattle.fd_entries.specs.declared.batch.Pair.{Pair}
 use Rattle.fd_core.specs.declared.machine.Phase.{Phase}
 use Rattle.fd_core.specs.declared.machine.Phase.TheVariants.{Filling, Synced, Written, Sealed, Holding, BodyLoose, BodyFirm, GateLoose, Listed, Posted, Closing}
 use Rattle.fd_core.specs.declared.machine.Writer.{Writer}
 use Rattle.fd_core.specs.declared.machine.NamedFile.{NamedFile}
 use Rattle.fd_core.specs.World.{World}
-use Rattle.fd_core.specs.Batches.{distinct, total, joined, rows}
-use Rattle.fd_core.specs.Machine.{file_of, fields_name, index_name, entry_of, writer_of, code, is_empty}
+use Rattle.fd_entries.specs.Batches.{distinct, total, joined, rows}
+use Rattle.fd_core.specs.Machine.{file_of, fields_name, index_name, entry_of, writer_of, code}
+use Rattle.fd_entries.specs.Batches.{is_empty}
 use Rattle.fd_core.specs.Laws.{SeesOnlyListed, IsPrefix}
-use Rattle.fd_core.specs.Batches.{KeysFit}
+use Rattle.fd_entries.specs.Batches.{KeysFit}
 
 abbrev pub name_of : Entry → FileKind → FileName
 name_of e kind = record { writer = e.writer; seq = e.seq; kind = kind }

@@ -7,21 +7,11 @@ use Rattle.fd_disk.specs.declared.folders.FileName.{FileName}
 use Rattle.fd_disk.specs.Names.{same_name}
 use Rattle.fd_disk.specs.Images.{is_in, IsImage, firm_file}
 use Rattle.fd_core.specs.declared.machine.NamedFile.{NamedFile}
-use Rattle.fd_core.specs.Batches.{same_bytes}
+use Rattle.fd_entries.specs.Batches.{same_bytes}
 use Rattle.fd_core.specs.Machine.{file_of, are_none, agrees_from, has_image, have_images, may_leave, firmed}
 use Rattle.fd_core.specs.World.{World}
 use Rattle.fd_core.specs.Laws.{AreImages, MayBeLeft}
-use Rattle.fd_core.proofs.Keeping.{both}
-
-pub bytes_same : (xs ys : List ℕ) → same_bytes xs ys ≡ true → xs ≡ ys
-bytes_same [] [] is = refl
-bytes_same [] (y ∷ ys) is = absurd (cc is)
-bytes_same (x ∷ xs) [] is = absurd (cc is)
-bytes_same (x ∷ xs) (y ∷ ys) is =
-    let t = both (x == y) (same_bytes xs ys) is in
-    let same : x ≡ y = grind (arith, nat_tests, t.0) in
-    let rest = bytes_same xs ys t.1 in
-    λ j. same j ∷ rest j
+use Rattle.fd_entries.proofs.BatchSums.{both, bytes_same}
 
 agrees_long : (k : ℕ) (f : File) (firm c : List ℕ) → agrees_from k f firm c ≡ true → length firm ≤ length c
 agrees_long k f [] c is = omega arith

@@ -1,24 +1,26 @@
 -- What the code of an opening and of a fetch reads.
 use Rattle.std.proofs.Common.{◌≡◌, ◌==◌, ◌&&◌, ◌||◌, ◌+◌, ◌-◌, ◌<◌, ◌≤◌, if◌then◌else◌, ℕ, zero, suc, Bool, true, false, List, [], ◌∷◌, ◌++◌, length, map, take, drop, get_or, Option, Some, None, is_some, unwrap_or, MatchOption, slice_get, sym, ◌∙◌, ap, subst, arith, append_assoc, length-append}
-use Rattle.std.proofs.lemmas.List.{append-nil, drop_all, drop_at, length-take-le, take_all, take_at, take_more}
+use Rattle.std.proofs.lemmas.List.{append-nil, drop_all, drop_at, length-take-le, take_all, take_at}
 use Rattle.fd_disk.specs.declared.file.File.{File}
 use Rattle.fd_disk.specs.declared.folders.FileName.{FileName}
-use Rattle.fd_core.specs.declared.table.Entry.{Entry}
-use Rattle.fd_core.specs.Table.{entry_in, gate_at, header, listed, slots_of}
-use Rattle.fd_core.proofs.Slots.{length-header, length-slots, listed_table}
-use Rattle.fd_core.specs.declared.batch.Pair.{Pair}
+use Rattle.fd_entries.specs.declared.table.Entry.{Entry}
+use Rattle.fd_entries.specs.Table.{entry_in, gate_at, header, listed, slots_of}
+use Rattle.fd_entries.proofs.Slots.{length-header, length-slots, listed_table}
+use Rattle.fd_entries.specs.declared.batch.Pair.{Pair}
 use Rattle.fd_core.specs.declared.machine.NamedFile.{NamedFile}
 use Rattle.fd_core.specs.declared.machine.Seen.{Seen}
 use Rattle.fd_core.specs.declared.machine.Step.TheVariants.{Reopen}
 use Rattle.fd_core.specs.World.{World}
-use Rattle.fd_core.specs.Machine.{after, batch_in, entries_or_none, fetched, is_listed, kept_files, of_slot, seen_by}
-use Rattle.fd_core.specs.Took.{AllHeld, IsHeld, IsReached, ListsSome}
-use Rattle.fd_core.proofs.BatchSums.{drop_here}
+use Rattle.fd_core.specs.Machine.{after, batch_in, fetched, is_listed, kept_files, of_slot, seen_by}
+use Rattle.fd_entries.specs.Numbers.{entries_or_none}
+use Rattle.fd_core.specs.Took.{AllHeld, IsHeld, IsReached}
+use Rattle.fd_entries.specs.Numbers.{ListsSome}
+use Rattle.fd_entries.proofs.BatchSums.{drop_here}
 use Rattle.fd_core.proofs.EveryRun.{holds}
-use Rattle.fd_core.proofs.Fetching.{entry_at, front, front_of_table, no_entry, same_count, stands_at}
+use Rattle.fd_entries.proofs.SlotReading.{entry_at, no_entry}
+use Rattle.fd_core.proofs.Fetching.{front, same_count, stands_at}
 use Rattle.fd_core.proofs.Holds.{AllStand, Holds, HoldsDown, HoldsIf, HoldsUp, StandsFor}
 use Rattle.fd_core.proofs.Reached.{done}
-use Rattle.fd_core.proofs.SlotNumbers.{long}
 
 pub seen_step : (xs : List Seen) (i : ℕ) (x : Seen) (r : ℕ) → slice_get xs i ≡ Some x → seen_by (drop i xs) r ≡ (if x.reader == r then Some x.length else seen_by (drop (i + 1) xs) r)
 seen_step xs i x r at = ap (λ (l : List Seen). seen_by l r) (drop_here xs i x at)
@@ -128,16 +130,3 @@ passed_slot (Some b) f o older whole none is all = absurd (cc none)
 -- what the reader has seen is listed
 pub seen_small : (s : World) (h : HoldsUp s) (r n : ℕ) → seen_by s.readers r ≡ Some n → n ≤ length s.history
 seen_small s h r n is = subst (λ (o : Option ℕ). unwrap_or o 0 ≤ length s.history) is (h.sees r)
-
--- all slots with an open gate are read
-pub listed_all : (bytes : List ℕ) (t : ListsSome bytes) (i : ℕ) → i ≡ length t.entries → take i t.entries ≡ entries_or_none (listed [] bytes)
-listed_all bytes t i end = take_all i t.entries (omega (arith, end)) ∙ sym (ap entries_or_none (listed_table [] t.entries bytes t.table))
-
-pub entry_whole : (bytes : List ℕ) (t : ListsSome bytes) (i : ℕ) → i < length t.entries → gate_at i + 64 ≤ length bytes
-entry_whole bytes t i lt = omega (arith, lt, long bytes t)
-
-pub entry_read : (bytes : List ℕ) (t : ListsSome bytes) (i : ℕ) (es more : List Entry) (e : Entry) → i < length t.entries → more ≡ es ++ e ∷ [] → e ≡ entry_in (drop (gate_at i + 1) bytes) → es ≡ take i t.entries → more ≡ take (i + 1) t.entries
-entry_read bytes t i es more e lt pushed read so_far =
-    pushed ∙ ap (λ (l : List Entry). l ++ e ∷ []) so_far
-    ∙ ap (λ (x : Entry). take i t.entries ++ x ∷ []) (read ∙ entry_at t.entries bytes i (front_of_table t.entries bytes t.table) t.table.fit t.table.few lt)
-    ∙ sym (take_more t.entries i no_entry lt)

@@ -4,16 +4,17 @@ use Rattle.std.proofs.lemmas.Bool.{cases_eq}
 use Rattle.std.proofs.lemmas.Bool.Decides.{nat_tests}
 use Rattle.fd_disk.specs.declared.folders.FileName.{FileName}
 use Rattle.fd_disk.specs.Images.{written}
-use Rattle.fd_core.specs.declared.batch.Pair.{Pair}
+use Rattle.fd_entries.specs.declared.batch.Pair.{Pair}
 use Rattle.fd_core.specs.declared.machine.NamedFile.{NamedFile}
 use Rattle.fd_core.specs.declared.machine.Phase.TheVariants.{Filling}
 use Rattle.fd_core.specs.declared.machine.Step.TheVariants.{Put}
 use Rattle.fd_core.specs.declared.machine.Writer.{Writer}
 use Rattle.fd_core.specs.World.{World}
-use Rattle.fd_core.specs.Batches.{distinct, rows, total}
-use Rattle.fd_core.specs.Machine.{after, can_put, is_in_phase, fields_name, file_of, filled, fresh, put_file, put_writer, with_pair, writer_in, writer_of}
+use Rattle.fd_entries.specs.Batches.{distinct, rows, total}
+use Rattle.fd_core.specs.Machine.{after, can_put, is_in_phase, fields_name, file_of, filled, fresh, put_file, put_writer, writer_in, writer_of}
+use Rattle.fd_entries.specs.Batches.{with_pair}
 use Rattle.fd_core.specs.Took.{IsPlace}
-use Rattle.fd_core.proofs.BatchSums.{total_push}
+use Rattle.fd_entries.proofs.BatchSums.{total_push}
 use Rattle.fd_core.proofs.Keeping.{id_is}
 use Rattle.fd_core.proofs.Reached.{done, place_is, place_put, up_and}
 

@@ -13,9 +13,9 @@ use Rattle.fd_core.proofs.Steps.{in_phase, in_other}
 use Rattle.fd_core.specs.Machine.{writer_of, put_writer, fresh, is_in_phase, possible, run, after, effect, start, put_seen}
 use Rattle.fd_core.specs.declared.machine.Seen.{Seen}
 use Rattle.fd_core.specs.declared.machine.Step.TheVariants.{Look, Take, Post, Release, SyncBody, SyncGate, SyncClose, Gate, CloseGate}
-use Rattle.fd_core.specs.Table.{with_gate, with_closed}
+use Rattle.fd_entries.specs.Table.{with_gate, with_closed}
 use Rattle.fd_core.proofs.Images.{and_true}
-use Rattle.fd_core.specs.declared.batch.Pair.{Pair}
+use Rattle.fd_entries.specs.declared.batch.Pair.{Pair}
 use Rattle.fd_core.specs.Took.{IsReached, IsPlace}
 use Rattle.fd_core.proofs.Holds.{HoldsUp, HoldsIf, Holds}
 use Rattle.fd_core.proofs.Fetching.{same_count}

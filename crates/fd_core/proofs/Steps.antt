@@ -8,23 +8,26 @@ use Rattle.fd_disk.specs.declared.file.File.{File}
 use Rattle.fd_disk.specs.declared.folders.FileKind.TheVariants.{Fields, Index}
 use Rattle.fd_disk.specs.Names.{same_name}
 use Rattle.fd_disk.specs.Images.{firm_file, synced, written, overwritten}
-use Rattle.fd_core.specs.declared.table.Entry.{Entry}
-use Rattle.fd_core.specs.Table.{IsTable, Fits, body_of, gate_at, with_body, with_gate, with_closed}
-use Rattle.fd_core.specs.Standing.{IsSettled, IsStaged}
-use Rattle.fd_core.proofs.Slots.{listed_table}
-use Rattle.fd_core.proofs.StandingLemmas.{written_settled, body_staged, gate_opened, synced_settled, doubt_table, closed_table, staged_doubt, staged_settled, staged_reads, loosened_doubt, mended}
-use Rattle.fd_core.specs.declared.batch.Pair.{Pair}
+use Rattle.fd_entries.specs.declared.table.Entry.{Entry}
+use Rattle.fd_entries.specs.Table.{IsTable, Fits, body_of, gate_at, with_body, with_gate, with_closed}
+use Rattle.fd_entries.specs.Standing.{IsSettled, IsStaged}
+use Rattle.fd_entries.proofs.Slots.{listed_table}
+use Rattle.fd_entries.proofs.StandingLemmas.{written_settled, body_staged, gate_opened, synced_settled, doubt_table, closed_table, staged_doubt, staged_settled, staged_reads, loosened_doubt, mended}
+use Rattle.fd_entries.specs.declared.batch.Pair.{Pair}
 use Rattle.fd_core.specs.declared.machine.Phase.{Phase}
 use Rattle.fd_core.specs.declared.machine.Phase.TheVariants.{Filling, Synced, Written, Sealed, Holding, BodyLoose, BodyFirm, GateLoose, Listed, Posted, Closing}
 use Rattle.fd_core.specs.declared.machine.Writer.{Writer}
 use Rattle.fd_core.specs.declared.machine.NamedFile.{NamedFile}
 use Rattle.fd_core.specs.World.{World}
-use Rattle.fd_core.specs.Batches.{distinct, total, joined, rows, rows_from}
-use Rattle.fd_core.specs.Machine.{file_of, put_file, fields_name, index_name, entry_of, writer_of, writer_in, put_writer, fresh, greatest_seq, entries_or_none, code, is_empty, can, effect, with_pair}
-use Rattle.fd_core.proofs.Keeping.{files_step, owner_step, SameOthers, there2, elsewhere2, known_writer, waits_code, phase_is, both, id_is, bound_idle}
+use Rattle.fd_entries.specs.Batches.{distinct, total, joined, rows, rows_from}
+use Rattle.fd_core.specs.Machine.{file_of, put_file, fields_name, index_name, entry_of, writer_of, writer_in, put_writer, fresh, code, can, effect}
+use Rattle.fd_entries.specs.Numbers.{greatest_seq, entries_or_none}
+use Rattle.fd_entries.specs.Batches.{is_empty, with_pair}
+use Rattle.fd_core.proofs.Keeping.{files_step, owner_step, SameOthers, there2, elsewhere2, known_writer, waits_code, phase_is, id_is, bound_idle}
+use Rattle.fd_entries.proofs.BatchSums.{both}
 use Rattle.fd_core.proofs.Fetching.{same_count}
 use Rattle.fd_core.proofs.Updates.{file_there, file_elsewhere}
-use Rattle.fd_core.specs.Batches.{KeysFit}
+use Rattle.fd_entries.specs.Batches.{KeysFit}
 use Rattle.fd_disk.proofs.ImageLemmas.{written_within, written_reads}
 use Rattle.fd_core.specs.declared.machine.Step.TheVariants.{Put, SyncData, WriteIndex, SyncIndex, Take, Body, SyncBody, Gate, SyncGate, Post, Release, CloseGate, SyncClose}
 use Rattle.fd_core.proofs.Holds.{StandsFor, AllStand, PairsFit, IsReady, ByPhase, WriterHolds, Doubtful, Owned, Mending, OwnedOrMending, FreeOrInDoubt, TableHolds, MayWait, IsWriters, DoubtHolds, AllOlder, bound, HoldsUp}

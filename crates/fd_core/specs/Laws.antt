@@ -1,14 +1,14 @@
 -- What holds over every run.
 use Rattle.std.specs.Prelude.{◌≡◌, ◌≢◌, ◌⊎◌, ◌↔◌, ◌≤◌, ℕ, Bool, true, false, List, [], ◌∷◌, ◌++◌, length, take, Some, None}
-use Rattle.fd_core.specs.declared.batch.Pair.{Pair}
+use Rattle.fd_entries.specs.declared.batch.Pair.{Pair}
 use Rattle.fd_disk.specs.Images.{IsImage}
-use Rattle.fd_core.specs.declared.table.Entry.{Entry}
+use Rattle.fd_entries.specs.declared.table.Entry.{Entry}
 use Rattle.fd_core.specs.declared.machine.NamedFile.{NamedFile}
 use Rattle.fd_core.specs.declared.machine.Phase.TheVariants.{Listed, GateLoose}
 use Rattle.fd_core.specs.World.{World}
 use Rattle.fd_core.specs.declared.machine.Step.{Step}
 use Rattle.fd_core.specs.declared.machine.Step.TheVariants.{Put, SyncData, WriteIndex, SyncIndex, Take, Body, SyncBody, Gate, SyncGate, Post, Release, Look, Fetch, CloseGate, SyncClose, Fail, Crash, Reopen}
-use Rattle.fd_core.specs.Batches.{newest}
+use Rattle.fd_entries.specs.Batches.{newest}
 use Rattle.fd_core.specs.Took.{answered, took_of}
 use Rattle.fd_core.specs.Machine.{possible, after, length_of, writer_of, run, start}
 

@@ -1,14 +1,13 @@
 -- The machine: what each step may do, over whole runs.
-use Rattle.std.specs.Prelude.{◌+◌, ◌-◌, ◌^◌, ◌==◌, ◌&&◌, ◌||◌, not, ℕ, zero, suc, max, Bool, true, false, nat_lt, nat_le, is_none, List, [], ◌∷◌, ◌++◌, if◌then◌else◌, map, length, drop, Option, Some, None, unwrap_or, is_some, Result, Ok, Err}
+use Rattle.std.specs.Prelude.{◌+◌, ◌-◌, ◌^◌, ◌==◌, ◌&&◌, ◌||◌, not, ℕ, zero, suc, Bool, true, false, nat_lt, nat_le, is_none, List, [], ◌∷◌, ◌++◌, if◌then◌else◌, map, length, drop, Option, Some, None, unwrap_or, is_some}
 use Rattle.fd_disk.specs.declared.file.File.{File}
 use Rattle.fd_disk.specs.declared.file.Range.{Range}
 use Rattle.fd_disk.specs.declared.folders.FileName.{FileName}
 use Rattle.fd_disk.specs.declared.folders.FileKind.TheVariants.{Fields, Index}
 use Rattle.fd_disk.specs.Images.{is_in, firm_file, written, synced, loosened}
 use Rattle.fd_disk.specs.Names.{same_name}
-use Rattle.fd_core.specs.declared.table.Entry.{Entry}
-use Rattle.fd_core.specs.declared.table.NotATable.{NotATable}
-use Rattle.fd_core.specs.declared.batch.Pair.{Pair}
+use Rattle.fd_entries.specs.declared.table.Entry.{Entry}
+use Rattle.fd_entries.specs.declared.batch.Pair.{Pair}
 use Rattle.fd_core.specs.declared.machine.Phase.{Phase}
 use Rattle.fd_core.specs.declared.machine.Phase.TheVariants.{Filling, Synced, Written, Sealed, Holding, BodyLoose, BodyFirm, GateLoose, Listed, Posted, Closing}
 use Rattle.fd_core.specs.declared.machine.Writer.{Writer}
@@ -17,8 +16,9 @@ use Rattle.fd_core.specs.declared.machine.Seen.{Seen}
 use Rattle.fd_core.specs.World.{World}
 use Rattle.fd_core.specs.declared.machine.Step.{Step}
 use Rattle.fd_core.specs.declared.machine.Step.TheVariants.{Put, SyncData, WriteIndex, SyncIndex, Take, Body, SyncBody, Gate, SyncGate, Post, Release, Look, Fetch, CloseGate, SyncClose, Fail, Crash, Reopen}
-use Rattle.fd_core.specs.Table.{header, gate_at, entry_in, listed, with_body, with_gate, with_closed}
-use Rattle.fd_core.specs.Batches.{of_files, pairs_in, distinct, total, rows, same_bytes}
+use Rattle.fd_entries.specs.Table.{header, gate_at, entry_in, listed, with_body, with_gate, with_closed}
+use Rattle.fd_entries.specs.Batches.{of_files, pairs_in, distinct, total, rows, same_bytes, is_empty, with_pair}
+use Rattle.fd_entries.specs.Numbers.{entries_or_none, greatest_seq}
 
 -- files under their names; one that isn't there is empty
 abbrev pub file_of : List NamedFile → FileName → File
@@ -34,15 +34,6 @@ fields_name w = record { writer = w.id; seq = w.seq; kind = Fields }
 
 abbrev pub index_name : Writer → FileName
 index_name w = record { writer = w.id; seq = w.seq; kind = Index }
-
--- the greatest sequence number that is listed for a writer
-abbrev pub greatest_seq : ℕ → List Entry → ℕ
-greatest_seq w [] = 0
-greatest_seq w (e ∷ es) = if e.writer == w then max e.seq (greatest_seq w es) else greatest_seq w es
-
-abbrev pub entries_or_none : Result (List Entry) NotATable → List Entry
-entries_or_none (Ok es) = es
-entries_or_none (Err f) = []
 
 -- a writer of which nothing is known
 abbrev pub fresh : File → ℕ → Writer
@@ -82,13 +73,6 @@ code Closing = 10
 
 abbrev pub is_in_phase : Writer → Phase → Bool
 is_in_phase w p = code w.phase == code p
-
-abbrev pub is_empty : List Pair → Bool
-is_empty [] = true
-is_empty (p ∷ ps) = false
-
-abbrev pub with_pair : List Pair → List ℕ → List ℕ → List Pair
-with_pair pairs key bytes = pairs ++ record { key = key; bytes = bytes } ∷ []
 
 -- what the table says of a writer's batch
 abbrev pub entry_of : Writer → Entry

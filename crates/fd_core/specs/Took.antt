@@ -1,7 +1,6 @@
 -- What a step answers.
 use Rattle.std.specs.Prelude.{◌≡◌, ◌<◌, ℕ, length, slice_get, slice_set, List, [], ◌∷◌, false, if◌then◌else◌, Option, Some, None}
-use Rattle.fd_core.specs.declared.table.Entry.{Entry}
-use Rattle.fd_core.specs.Table.{IsTable}
+use Rattle.fd_entries.specs.declared.table.Entry.{Entry}
 use Rattle.fd_core.specs.World.{World}
 use Rattle.fd_core.specs.declared.machine.Writer.{Writer}
 use Rattle.fd_core.specs.declared.machine.Step.{Step}
@@ -13,7 +12,7 @@ use Rattle.fd_core.specs.declared.machine.Phase.{Phase}
 use Rattle.fd_disk.specs.Names.{name_of}
 use Rattle.fd_disk.specs.declared.folders.FileKind.TheVariants.{Fields, Index}
 use Rattle.fd_core.specs.declared.machine.NamedFile.{NamedFile}
-use Rattle.fd_core.specs.Batches.{HoldBatch}
+use Rattle.fd_entries.specs.Batches.{HoldBatch}
 use Rattle.fd_core.specs.Machine.{file_of, possible, answer, run, start, writer_in, writer_of, put_writer}
 
 abbrev pub answered : Option (List ℕ) → Took
@@ -59,11 +58,6 @@ pub record IsAt (s : World) (w i : ℕ) (p : Phase) : Type 0 where
   pub up : s.down ≡ false
   pub place : IsPlace s.writers w i
   pub phase : (writer_of s w).phase ≡ p
-
--- the bytes are a table of some entries
-pub record ListsSome (bytes : List ℕ) : Type 0 where
-  pub entries : List Entry
-  pub table : IsTable [] entries bytes
 
 -- the files of an entry hold a batch
 abbrev pub IsHeld : List NamedFile → Entry → Type 0

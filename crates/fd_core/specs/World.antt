@@ -1,8 +1,8 @@
 -- What contracts see of the machine's state.
 use Rattle.std.specs.Prelude.{ℕ, Bool, List, Option}
 use Rattle.fd_disk.specs.declared.file.File.{File}
-use Rattle.fd_core.specs.declared.table.Entry.{Entry}
-use Rattle.fd_core.specs.declared.batch.Pair.{Pair}
+use Rattle.fd_entries.specs.declared.table.Entry.{Entry}
+use Rattle.fd_entries.specs.declared.batch.Pair.{Pair}
 use Rattle.fd_core.specs.declared.machine.NamedFile.{NamedFile}
 use Rattle.fd_core.specs.declared.machine.Writer.{Writer}
 use Rattle.fd_core.specs.declared.machine.Seen.{Seen}

@@ -1,5 +1,5 @@
 ghost use Rattle.std.specs.Prelude.{◌≡◌, ◌<◌, ◌^◌, ◌⊎◌, Some, None, false, IfOk, IsSome, IsNone, OnOk, OnErr};
-ghost use Rattle.fd_core.specs.Batches.{total};
+ghost use Rattle.fd_entries.specs.Batches.{total};
 ghost use Rattle.fd_core.specs.Machine.{after, fields_name, writer_in, writer_of};
 ghost use Rattle.fd_core.specs.Took.{IsAt, took_of};
 ghost use Rattle.fd_core.specs.declared.machine.Phase.TheVariants.{Filling, Synced, Written, Holding, BodyLoose, BodyFirm, GateLoose, Closing};
@@ -8,12 +8,11 @@ ghost use Rattle.fd_core.specs.declared.machine.Writer.{Writer};
 
 use crate::files::write_file;
 use crate::fill_steps::{fields_name, index_name};
-use crate::numbers::greatest;
-use crate::rows::{entry_of, rows_of, total_of};
-use crate::table::{CLOSED, OPEN, gate_at};
+use crate::machine::entry_of;
 use crate::{Phase, State, Took};
 use fd_bytes::NoMemory;
 use fd_disk::{FileKind, FileName};
+use fd_entries::{CLOSED, OPEN, gate_at, greatest, rows_of, total_of};
 use std::alloc::Global;
 
 /// The disk call that the writer would make next fails.

@@ -3,11 +3,11 @@ ghost use Rattle.fd_core.specs.Machine.{fetched, of_slot, seen_by};
 ghost use Rattle.fd_core.specs.Took.{took_of};
 ghost use Rattle.fd_core.specs.declared.machine.Step.TheVariants.{Fetch};
 
-use crate::open_steps::{entry_at, file_name};
-use crate::segments::newest_in;
+use crate::open_steps::file_name;
 use crate::{Answer, Seen, State, Took};
 use fd_bytes::{Bytes, Items, NoMemory};
 use fd_disk::FileKind;
+use fd_entries::{entry_at, newest_in};
 use std::alloc::Global;
 
 /// A reader asks for the newest bytes of a key among the batches that it has seen.

@@ -3,9 +3,10 @@ ghost use Rattle.fd_core.specs.Machine.{file_of, is_listed, kept_files, put_file
 ghost use Rattle.fd_disk.specs.Images.{firm_file, loosened, overwritten, synced, written};
 ghost use Rattle.fd_disk.specs.Names.{same_name};
 
-use crate::{Entry, NamedFile};
+use crate::NamedFile;
 use fd_bytes::{Bytes, Items, NoMemory};
 use fd_disk::{File, FileName, Range, Ranges};
+use fd_entries::Entry;
 use std::alloc::{AllocError, Global};
 use std::marker::Model;
 

@@ -3,10 +3,10 @@ ghost use Rattle.fd_core.specs.Machine.{after, fields_name, index_name};
 ghost use Rattle.fd_core.specs.Took.{took_of};
 ghost use Rattle.fd_core.specs.declared.machine.Step.TheVariants.{SyncData, WriteIndex, SyncIndex};
 
-use crate::rows::rows_of;
 use crate::{Phase, State, Took, Writer};
 use fd_bytes::NoMemory;
 use fd_disk::{FileKind, FileName};
+use fd_entries::rows_of;
 use std::alloc::Global;
 
 /// The name of the field file of a writer's batch.

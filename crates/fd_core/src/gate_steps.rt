@@ -4,10 +4,10 @@ ghost use Rattle.fd_core.specs.Took.{took_of};
 ghost use Rattle.fd_core.specs.declared.machine.Step.TheVariants.{Body, Gate, CloseGate};
 
 use crate::files::write_file;
-use crate::rows::entry_of;
-use crate::table::{CLOSED, OPEN, gate_at};
+use crate::machine::entry_of;
 use crate::{Phase, State, Took};
 use fd_bytes::NoMemory;
+use fd_entries::{CLOSED, OPEN, gate_at};
 use std::alloc::Global;
 
 /// The entry's body and the closed gate behind it are written, where nothing is in doubt.

@@ -1,11 +1,10 @@
-ghost use Rattle.fd_core.specs.Batches.{IsBounded};
-ghost use Rattle.fd_core.specs.Machine.{can_put, code, is_in_phase};
+ghost use Rattle.fd_entries.specs.Batches.{IsBounded};
+ghost use Rattle.fd_core.specs.Machine.{can_put, code, entry_of, is_in_phase};
 ghost use Rattle.std.specs.Prelude.{◌≡◌};
 
-use crate::Batch;
-use crate::rows::{distinct_with, rows_len, total_of};
 use fd_bytes::{Bytes, Items};
 use fd_disk::{File, FileName};
+use fd_entries::{Batch, Entry, distinct_of, distinct_with, rows_len, total_of};
 
 /// How far a writer has come with its batch.
 #[derive(Clone, Copy, Debug, PartialEq, Eq)]
@@ -100,6 +99,20 @@ impl Writer {
             return false;
         }
         18 + (key.len() as u64) < (1 << 63) - rows_len(&self.pairs)
+    }
+}
+
+/// What the table says of a writer's batch.
+pub(crate) fn entry_of(writer: &Writer) -> Entry
+    requires { IsBounded writer.now.pairs }
+    ensures { result ≡ entry_of writer.now }
+{
+    Entry {
+        writer: writer.id,
+        seq: writer.seq,
+        fields: distinct_of(&writer.pairs) as u32,
+        index_len: rows_len(&writer.pairs),
+        fields_len: total_of(&writer.pairs),
     }
 }
 

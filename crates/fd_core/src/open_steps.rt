@@ -1,14 +1,12 @@
 ghost use Rattle.std.specs.Prelude.{◌≡◌, ◌≤◌, ◌+◌, length, drop, map, [], IfOk, OnOk, OnErr};
-ghost use Rattle.fd_core.specs.Table.{entry_in, gate_at, listed};
-ghost use Rattle.fd_core.specs.Machine.{after, batch_in, entries_or_none};
-ghost use Rattle.fd_core.specs.Took.{AllHeld, IsHeld, ListsSome, took_of};
+ghost use Rattle.fd_core.specs.Machine.{after, batch_in};
+ghost use Rattle.fd_core.specs.Took.{AllHeld, IsHeld, took_of};
 ghost use Rattle.fd_core.specs.declared.machine.Step.TheVariants.{Reopen};
 
-use crate::segments::{behind, read_pairs};
-use crate::table::{OPEN, gate_at};
-use crate::{Batch, Entry, Files, State, Took};
+use crate::{Files, State, Took};
 use fd_bytes::{Items, NoMemory};
 use fd_disk::{FileKind, FileName};
+use fd_entries::{Batch, Entry, entries_of, read_pairs};
 use std::alloc::Global;
 
 /// The store is opened after a crash: the history is what the table lists, and files that no entry has go.
@@ -26,30 +24,6 @@ pub(crate) fn reopen(alloc: Global, state: &mut State) -> Result<Took, NoMemory>
     state.history = history;
     state.down = false;
     Ok(Took::Yes)
-}
-
-/// The entries that a table lists.
-pub(crate) fn entries_of(alloc: Global, table: &[u8]) -> Result<Items<Entry>, NoMemory>
-    requires { ListsSome table.now }
-    ensures { IfOk result (λ es. es ≡ entries_or_none (listed [] table.now)) }
-{
-    let mut entries = Items::new(alloc);
-    for i in 0..65536usize {
-        if table[gate_at(i)] != OPEN {
-            return Ok(entries);
-        }
-        entries.push(entry_at(table, i))?;
-    }
-    Ok(entries)
-}
-
-/// The entry in a slot of the table.
-pub(crate) fn entry_at(table: &[u8], slot: usize) -> Entry
-    requires number { slot ≤ 65535 }
-    requires whole { gate_at slot + 64 ≤ length table.now }
-    ensures { result ≡ entry_in (drop (gate_at slot + 1) table.now) }
-{
-    Entry::from_body(behind(table, gate_at(slot) + 1))
 }
 
 /// The batches that the files of these entries hold.

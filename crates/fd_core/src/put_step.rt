@@ -6,8 +6,9 @@ ghost use Rattle.fd_core.specs.declared.machine.Writer.{Writer};
 
 use crate::fail_steps::{first_seq, next_place};
 use crate::fill_steps::fields_name;
-use crate::{Batch, Files, NamedFile, Pair, Phase, State, Took, Writer, Writers};
+use crate::{Files, NamedFile, Phase, State, Took, Writer, Writers};
 use fd_bytes::{Bytes, NoMemory};
+use fd_entries::{Batch, Pair};
 use std::alloc::Global;
 
 /// A pair is put: its bytes are written at the end of the field file.

@@ -1,13 +1,14 @@
 ghost use Rattle.std.specs.Prelude.{◌≡◌, ◌+◌, ◌<◌, ◌++◌, [], ◌∷◌, length, OnOk, OnErr, IfOk};
-ghost use Rattle.fd_core.specs.Table.{header};
+ghost use Rattle.fd_entries.specs.Table.{header};
 ghost use Rattle.fd_core.specs.World.{World};
 ghost use Rattle.fd_core.specs.Machine.{start, put_seen, after};
 ghost use Rattle.fd_core.specs.Took.{took_of};
 ghost use Rattle.fd_core.specs.declared.machine.Step.TheVariants.{Look};
 
-use crate::{Batch, Entry, Files, Seen, Took, Writers};
+use crate::{Files, Seen, Took, Writers};
 use fd_bytes::{Bytes, Items, NoMemory};
 use fd_disk::{File, Ranges};
+use fd_entries::{Batch, Entry};
 use std::alloc::Global;
 use std::marker::Model;
 

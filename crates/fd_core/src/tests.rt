@@ -1,4 +1,4 @@
-use crate::{Answer, State, Step, Took, every_run, every_table, step};
+use crate::{Answer, State, Step, Took, every_run, step};
 use fd_bytes::{Bytes, Items, NoMemory};
 use std::alloc::Global;
 use std::test::Fail;
@@ -101,55 +101,57 @@ fn answers(alloc: Global, script: &[u8]) -> Result<Vec<u8>, NoMemory> {
     Ok(answers)
 }
 
+/// Runs by their steps' letters, and what each step answers.
+const RUNS: [(&str, &str); 30] = [
+    // one writer lists its batch, and a reader fetches it; a gate is not opened before its body is firm
+    ("pdxitbsghorlq", "yyyyyyyyyyyy1"),
+    ("pdxitbg", "yyyyyyn"),
+    // steps out of their order; a reader that has not looked
+    ("dqxitbsghorcm!", "nnnnnnnnnnnnnn"),
+    // a reader sees no more than when it looked
+    ("lpdxitbsghorqlq", "yyyyyyyyyyyymy1"),
+    // each call fails once, and is made again
+    ("pfdfxifdxitbsghorlq", "yyyynnyyyyyyyyyyyy1"),
+    ("pdxitftbsghorlq", "yyyyyyyyyyyyyy1"),
+    ("pdxitbftbsghorlq", "yyyyyyyyyyyyyyy1"),
+    // a gate that failed is in doubt: the next owner closes it before it lists its own batch
+    (
+        "pdxitbsgfPDXITBCMBSGHORlqtbsghorlq",
+        "yyyyyyyyyyyyyynyyyyyyyyy2yyyyyyyy1",
+    ),
+    // the same, where the write of the gate failed, and the closing of the gate fails too
+    ("pdxitbsftftcftcmbsghorlq", "yyyyyyyyyyyyyyyyyyyyyyy1"),
+    // a crash after each step, with the gate as it reads
+    ("pk!lq", "yyyym"),
+    ("pdk!lq", "yyyyym"),
+    ("pdxk!lq", "yyyyyym"),
+    ("pdxik!lq", "yyyyyyym"),
+    ("pdxitk!lq", "yyyyyyyym"),
+    ("pdxitbk!lq", "yyyyyyyyym"),
+    ("pdxitbsk!lq", "yyyyyyyyyym"),
+    ("pdxitbsgk!lq", "yyyyyyyyyyy1"),
+    ("pdxitbsghk!lq", "yyyyyyyyyyyy1"),
+    ("pdxitbsghok!lq", "yyyyyyyyyyyyy1"),
+    ("pdxitbsghork!lq", "yyyyyyyyyyyyyy1"),
+    // with the gate lost, and torn: only a gate that is loose can be
+    ("pdxitbs0!lq", "yyyyyyyyyym"),
+    ("pdxitbs9!lq", "yyyyyyynnym"),
+    ("pdxitbsg0!lq", "yyyyyyyyyyym"),
+    ("pdxitbsg9!lq", "yyyyyyyyyyym"),
+    ("pdxitbsgh0!lq", "yyyyyyyyynnym"),
+    ("pdxitbsgh9!lq", "yyyyyyyyynnym"),
+    // an entry in doubt, after a crash with its gate kept, lost and torn; then the writer's next batch
+    ("pdxitbsgfk!lq", "yyyyyyyyyyyy1"),
+    ("pdxitbsgf0!lq", "yyyyyyyyyyyym"),
+    ("pdxitbsgf9!lqpdxitbsghorlq", "yyyyyyyyyyyymyyyyyyyyyyyy1"),
+    // while it is down nothing but an opening is possible
+    ("pkpdlqk!q", "yynnnnnyn"),
+];
+
 #[test]
 fn runs(rt: HostRuntime) -> Result<(), Fail> {
     every_run();
-    every_table();
-    for (script, want) in [
-        // one writer lists its batch, and a reader fetches it; a gate is not opened before its body is firm
-        ("pdxitbsghorlq", "yyyyyyyyyyyy1"),
-        ("pdxitbg", "yyyyyyn"),
-        // steps out of their order; a reader that has not looked
-        ("dqxitbsghorcm!", "nnnnnnnnnnnnnn"),
-        // a reader sees no more than when it looked
-        ("lpdxitbsghorqlq", "yyyyyyyyyyyymy1"),
-        // each call fails once, and is made again
-        ("pfdfxifdxitbsghorlq", "yyyynnyyyyyyyyyyyy1"),
-        ("pdxitftbsghorlq", "yyyyyyyyyyyyyy1"),
-        ("pdxitbftbsghorlq", "yyyyyyyyyyyyyyy1"),
-        // a gate that failed is in doubt: the next owner closes it before it lists its own batch
-        (
-            "pdxitbsgfPDXITBCMBSGHORlqtbsghorlq",
-            "yyyyyyyyyyyyyynyyyyyyyyy2yyyyyyyy1",
-        ),
-        // the same, where the write of the gate failed, and the closing of the gate fails too
-        ("pdxitbsftftcftcmbsghorlq", "yyyyyyyyyyyyyyyyyyyyyyy1"),
-        // a crash after each step, with the gate as it reads
-        ("pk!lq", "yyyym"),
-        ("pdk!lq", "yyyyym"),
-        ("pdxk!lq", "yyyyyym"),
-        ("pdxik!lq", "yyyyyyym"),
-        ("pdxitk!lq", "yyyyyyyym"),
-        ("pdxitbk!lq", "yyyyyyyyym"),
-        ("pdxitbsk!lq", "yyyyyyyyyym"),
-        ("pdxitbsgk!lq", "yyyyyyyyyyy1"),
-        ("pdxitbsghk!lq", "yyyyyyyyyyyy1"),
-        ("pdxitbsghok!lq", "yyyyyyyyyyyyy1"),
-        ("pdxitbsghork!lq", "yyyyyyyyyyyyyy1"),
-        // with the gate lost, and torn: only a gate that is loose can be
-        ("pdxitbs0!lq", "yyyyyyyyyym"),
-        ("pdxitbs9!lq", "yyyyyyynnym"),
-        ("pdxitbsg0!lq", "yyyyyyyyyyym"),
-        ("pdxitbsg9!lq", "yyyyyyyyyyym"),
-        ("pdxitbsgh0!lq", "yyyyyyyyynnym"),
-        ("pdxitbsgh9!lq", "yyyyyyyyynnym"),
-        // an entry in doubt, after a crash with its gate kept, lost and torn; then the writer's next batch
-        ("pdxitbsgfk!lq", "yyyyyyyyyyyy1"),
-        ("pdxitbsgf0!lq", "yyyyyyyyyyyym"),
-        ("pdxitbsgf9!lqpdxitbsghorlq", "yyyyyyyyyyyymyyyyyyyyyyyy1"),
-        // while it is down nothing but an opening is possible
-        ("pkpdlqk!q", "yynnnnnyn"),
-    ] {
+    for (script, want) in RUNS {
         let got = answers(rt.alloc(), script.as_bytes())?;
         assert_eq!(rt; got.as_slice(), want.as_bytes(), "after {script}");
     }

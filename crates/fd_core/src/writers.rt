@@ -1,12 +1,13 @@
 ghost use Rattle.fd_core.specs.Machine.{filled, gone_to, put_writer, writer_in};
 ghost use Rattle.fd_core.specs.Took.{IsPlace};
-ghost use Rattle.fd_core.specs.declared.batch.Pair.{Pair};
+ghost use Rattle.fd_entries.specs.declared.batch.Pair.{Pair};
 ghost use Rattle.fd_core.specs.declared.machine.Writer.{Writer};
 ghost use Rattle.fd_core.specs.declared.machine.Phase.TheVariants.{Filling};
 ghost use Rattle.std.specs.Prelude.{◌≡◌, ◌<◌, ◌+◌, ◌^◌, ◌++◌, ◌∷◌, List, [], OnOk, OnErr, Some, IfSome, IfNone, length, slice_get, slice_set};
 
-use crate::{Pair, Phase, Writer};
+use crate::{Phase, Writer};
 use fd_bytes::NoMemory;
+use fd_entries::Pair;
 use std::alloc::Global;
 use std::marker::Model;
 

@@ -3,8 +3,8 @@ use Rattle.std.proofs.Common.{◌≡◌, List, [], ◌∷◌, length, sym, refl,
 use mathlib.Core.List.{IsPrefix, map-append}
 use Rattle.std.proofs.lemmas.List.{length-map}
 use Rattle.std.specs.declared.sync.Arc.{Arc}
-use Rattle.fd_core.specs.declared.table.Entry.{Entry}
-use Rattle.fd_core.specs.declared.batch.Listing.{Listing}
+use Rattle.fd_entries.specs.declared.table.Entry.{Entry}
+use Rattle.fd_entries.specs.declared.batch.Listing.{Listing}
 use Rattle.fd_turn.specs.declared.view.Lock.{Lock}
 use Rattle.fd_turn.specs.declared.view.Lock.TheVariants.{Owner}
 use Rattle.fd_turn.specs.Views.{Settles}

@@ -1,7 +1,7 @@
 -- What a refused listing tells, and what it leaves.
 use Rattle.std.specs.Prelude.{◌≡◌, ◌⊎◌, ◌<◌, ◌≤◌, ◌++◌, ℕ, List, [], ◌∷◌, length, Option, None, Some, Result, Ok, Err}
 use mathlib.Core.List.{IsPrefix}
-use Rattle.fd_core.specs.declared.batch.Listing.{Listing}
+use Rattle.fd_entries.specs.declared.batch.Listing.{Listing}
 use Rattle.fd_dataset.specs.declared.fault.Receipt.{Receipt}
 use Rattle.fd_dataset.specs.declared.fault.ListFault.{ListFault}
 use Rattle.fd_dataset.specs.declared.fault.ListFault.TheVariants as faults

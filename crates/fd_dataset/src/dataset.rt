@@ -1,9 +1,9 @@
 ghost use Rattle.std.specs.Prelude.{◌≡◌, ◌<◌, ◌≤◌, ◌+◌, ◌*◌, ◌⊎◌, ◌++◌, ℕ, List, [], ◌∷◌, length, map, Option, Some, None, Err, is_some, IfOk, IfErr, OnOk, OnErr, Contains};
 ghost use mathlib.Core.List.{IsPrefix};
 ghost use Rattle.std.specs.Arc.{arc_value};
-ghost use Rattle.fd_core.specs.declared.batch.Listing.{Listing};
-ghost use Rattle.fd_core.specs.declared.table.Entry.{Entry};
-ghost use Rattle.fd_core.specs.Table.{AllFit, greatest_writer};
+ghost use Rattle.fd_entries.specs.declared.batch.Listing.{Listing};
+ghost use Rattle.fd_entries.specs.declared.table.Entry.{Entry};
+ghost use Rattle.fd_entries.specs.Table.{AllFit, greatest_writer};
 ghost use Rattle.fd_turn.specs.declared.view.Lock.TheVariants.{Free};
 ghost use Rattle.fd_turn.specs.Views.{all_parts, donor, first_view, recipient, merger};
 ghost use Rattle.fd_turn.specs.Passes.{view, IsOf, IsSame};
@@ -306,7 +306,7 @@ fn longer<F: Send, Z: Sealed<F>>(
     Ok(all)
 }
 
-// The same segments.
+// The same segments, with room for one more.
 fn copied<F: Send, Z: Sealed<F>>(
     alloc: Global,
     segments: &Vec<Arc<Segment<F, Z>>>,
@@ -316,6 +316,7 @@ fn copied<F: Send, Z: Sealed<F>>(
     ensures of { IfOk result (λ v. (name : List ℕ) → AreOf name segments.now.items → AreOf name v.items) }
 {
     let mut all = Vec::new(alloc);
+    all.reserve(segments.len().saturating_add(1))?;
     for i in 0..segments.len() {
         all.push(Arc::try_clone(&segments[i])?)?;
     }

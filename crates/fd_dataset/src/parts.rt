@@ -12,7 +12,8 @@ use fd_turn::{Guarded, Handed};
 use std::alloc::Global;
 use std::sync::Arc;
 
-/// The listed segments in the order of their entries, and the text of the dataset, whose they are.
+/// The listed segments in the order of their entries, and the text of the dataset, whose they are. This type and the two that
+/// follow are public only since the type of a pass names them.
 #[derive(Drop)]
 pub struct Shown<F: Send, Z: Sealed<F>> {
     pub(crate) list: Vec<Arc<Segment<F, Z>>>,

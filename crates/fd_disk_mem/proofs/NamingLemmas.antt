@@ -11,7 +11,7 @@ use Rattle.fd_disk.specs.declared.folders.FileKind.{FileKind}
 use Rattle.fd_disk.specs.declared.folders.FileKind.TheVariants.{Fields, Index}
 use Rattle.fd_disk.specs.declared.folders.FileName.{FileName}
 use Rattle.fd_disk_mem.specs.Naming.{end_text}
-use Rattle.fd_disk_mem.specs.Plans.{ending, file_text}
+use Rattle.fd_file_mem.specs.Plans.{ending, file_text}
 
 -- no byte is this one
 abbrev pub Lacks : ℕ → List ℕ → Type 0

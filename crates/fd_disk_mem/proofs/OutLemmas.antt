@@ -4,7 +4,6 @@ use Rattle.std.proofs.lemmas.Bool.Decides.{Decides-eqb}
 use Rattle.std.specs.Str.{bytes_eq}
 use Rattle.std.proofs.lemmas.Slice.Eq.{bytes_eq-Decides}
 use Rattle.fd_disk.specs.declared.file.File.{File}
-use Rattle.fd_disk.specs.declared.folders.FileName.{FileName}
 use Rattle.fd_disk.specs.Folders.{Contents, Holdings, HasBack, Left, IsStoreImage, SameBut, folder_at, no_contents}
 use Rattle.fd_disk.specs.Outstanding.{Shelved, Parts, IsDatasetImage, IsFileLeft, IsOutLeft, IsPlaceLeft, IsStoreLeft, all_back, none_out, nothing_left, one_out}
 use Rattle.fd_disk.proofs.NameLemmas.{is_or_not}

@@ -8,43 +8,12 @@ use Rattle.fd_disk_mem.specs.contracts.slots.Slots as Slots
 use Rattle.fd_disk_mem.specs.contracts.slots.Slot as Slot
 use Rattle.fd_disk_mem.specs.contracts.slots.Stored as Stored
 use Rattle.fd_disk_mem.specs.contracts.drawers.Drawers as Drawers
-use Rattle.fd_disk_mem.specs.contracts.disk.MemDisk as MemDisk
-use Rattle.fd_disk_mem.specs.contracts.recorded.Recorded as Recorded
-use Rattle.fd_disk_mem.specs.contracts.recorded.Mark as Mark
-use Rattle.fd_disk_mem.specs.contracts.fuse.Fuse as Fuse
-use Rattle.fd_disk_mem.specs.contracts.plan.Plan as Plan
-use Rattle.fd_disk_mem.specs.contracts.plan.Plans as Plans
-use Rattle.fd_disk_mem.specs.contracts.plan.Planned as Planned
-use Rattle.fd_disk_mem.specs.contracts.plan.Fail as Fail
+use Rattle.fd_file_mem.proofs.Sending.{disk_send, plan_send, plans_send}
 use Rattle.fd_disk_mem.proofs.slots.Slots.TheLaws.TheKnot.{send-Slots}
 use Rattle.fd_disk_mem.proofs.drawers.Drawers.TheLaws.TheKnot.{send-Drawers}
 
 drawers_send : IsSend (Drawers.the_field).row
 drawers_send = send-Drawers (search (sendable, crosses, maps.crosses) depth 20) (λ h s. search (sendable, crosses, maps.crosses) depth 20)
-
-fuse_send : IsSend (Fuse.the_field).row
-fuse_send = search (sendable, crosses, maps.crosses) depth 20
-
-fail_send : IsSend (Fail.the_field).row
-fail_send = search (sendable, crosses, maps.crosses) depth 20
-
-plan_send : IsSend (Plan.the_field).row
-plan_send = let fuse = fuse_send in let fail = fail_send in search (sendable, crosses, maps.crosses) depth 20
-
-planned_send : IsSend (Planned.the_field).row
-planned_send = search (sendable, crosses, maps.crosses) depth 20
-
-plans_send : IsSend (Plans.the_field).row
-plans_send = let fuse = fuse_send in let planned = planned_send in search (sendable, crosses, maps.crosses) depth 20
-
-mark_send : IsSend (Mark.the_field).row
-mark_send = search (sendable, crosses, maps.crosses) depth 20
-
-recorded_send : IsSend (Recorded.the_field).row
-recorded_send = let mark = mark_send in search (sendable, crosses, maps.crosses) depth 20
-
-disk_send : IsSend (MemDisk.the_field).row
-disk_send = let recorded = recorded_send in let plan = plan_send in search (sendable, crosses, maps.crosses) depth 20
 
 stored_send : IsSend (Stored.the_field).row
 stored_send = let disk = disk_send in let drawers = drawers_send in search (sendable, crosses, maps.crosses) depth 20

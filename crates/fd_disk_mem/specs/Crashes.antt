@@ -4,7 +4,7 @@ use Rattle.fd_disk.specs.declared.file.File.{File}
 use Rattle.fd_disk.specs.Images.{firm_file}
 use Rattle.fd_disk.specs.Folders.{Contents, Holdings, Left}
 use Rattle.fd_disk.specs.declared.folders.FileName.{FileName}
-use Rattle.fd_disk_mem.specs.Left.{IsLeft}
+use Rattle.fd_file_mem.specs.Left.{IsLeft}
 
 -- a table is firm afterwards with what is left of it, and there is none where there was none
 abbrev pub IsTableCrashed : ℕ → Option File → Option File → Type 0

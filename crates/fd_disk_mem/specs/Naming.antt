@@ -1,7 +1,7 @@
 -- What is read from a file's name.
 use Rattle.std.specs.Prelude.{◌≡◌, ◌++◌, ◌∷◌, ℕ, List, Option, MatchOption, decimal}
 use Rattle.fd_disk.specs.declared.folders.FileName.{FileName}
-use Rattle.fd_disk_mem.specs.Plans.{ending}
+use Rattle.fd_file_mem.specs.Plans.{ending}
 
 -- this and nothing else
 abbrev pub IsRead : {T : Type 0} → Option T → T → Type 0

@@ -2,10 +2,10 @@
 use Rattle.std.specs.Prelude.{◌≡◌, ◌==◌, if◌then◌else◌, ℕ, List, [], ◌∷◌, Option, Some, None, option_map, string_bytes}
 use Rattle.fd_disk.specs.declared.file.File.{File}
 use Rattle.fd_disk.specs.Outstanding.{Parts, Shelved}
-use Rattle.fd_disk_mem.specs.Calls.{file_of}
+use Rattle.fd_file_mem.specs.Calls.{file_of}
 use Rattle.fd_disk_mem.specs.Drawers.{bytes_among, is_named}
 use Rattle.fd_disk_mem.specs.Slots.{contents_of}
-use Rattle.fd_disk_mem.specs.declared.disk.MemDisk.{MemDisk}
+use Rattle.fd_file_mem.specs.declared.disk.MemDisk.{MemDisk}
 use Rattle.fd_disk_mem.specs.declared.folder.MemFolder.{MemFolder}
 use Rattle.fd_disk_mem.specs.declared.shelf.MemShelf.{MemShelf}
 

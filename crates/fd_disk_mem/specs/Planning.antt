@@ -2,9 +2,9 @@
 use Rattle.std.specs.Prelude.{◌≡◌, if◌then◌else◌, Bool, false, ℕ, List, [], None, codes, option_map}
 use Rattle.std.specs.Str.{bytes_eq}
 use Rattle.fd_disk.specs.Folders.{Holdings}
-use Rattle.fd_disk_mem.specs.declared.plan.Fail.{Fail}
+use Rattle.fd_file_mem.specs.declared.plan.Fail.{Fail}
 use Rattle.fd_disk_mem.specs.declared.store.MemStore.{MemStore}
-use Rattle.fd_disk_mem.specs.Plans.{IsAnew, fails_of}
+use Rattle.fd_file_mem.specs.Plans.{IsAnew, fails_of}
 use Rattle.fd_disk_mem.specs.Slots.{folder_in}
 
 -- what the store has

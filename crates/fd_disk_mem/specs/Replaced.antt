@@ -1,10 +1,10 @@
 -- A store in which one file was replaced.
-use Rattle.std.specs.Prelude.{◌≡◌, ◌≢◌, ◌⊎◌, ◌<◌, ◌^◌, ◌||◌, Bool, false, is_some, ℕ, List, Option, Some, None, codes, option_map}
+use Rattle.std.specs.Prelude.{◌≡◌, ◌≢◌, ◌⊎◌, ◌<◌, ◌^◌, ◌||◌, false, is_some, ℕ, List, Option, codes, option_map}
 use Rattle.fd_disk.specs.declared.folders.FileName.{FileName}
 use Rattle.fd_disk.specs.Folders.{Holdings, SameBut, folder_at}
 use Rattle.fd_disk.specs.Images.{firm_file}
 use Rattle.fd_disk.specs.Names.{same_name}
-use Rattle.fd_disk_mem.specs.Plans.{file_text, table_text}
+use Rattle.fd_file_mem.specs.Plans.{file_text, table_text}
 
 -- The schema is this text or none, and the folders are as before.
 pub record HasSchema (text : Option (List ℕ)) (before after : Holdings) : Type 0 where

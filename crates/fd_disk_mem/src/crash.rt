@@ -3,15 +3,16 @@ ghost use Rattle.std.specs.Prelude.{◌≡◌, ◌<◌, [], List, ℕ, Option, t
 ghost use Rattle.fd_disk.specs.Folders.{Left, folder_at};
 ghost use Rattle.fd_disk.specs.Outstanding.{IsDatasetImage, IsStoreLeft, all_back, one_out};
 ghost use Rattle.fd_disk.specs.declared.file.File.{File};
-ghost use Rattle.fd_disk_mem.specs.Calls.{file_of};
+ghost use Rattle.fd_file_mem.specs.Calls.{file_of};
 ghost use Rattle.fd_disk_mem.specs.Crashes.{IsTableCrashed, folders_left};
 ghost use Rattle.fd_disk_mem.specs.Out.{AreApart, AreOf, parts_of, parts_with};
 ghost use Rattle.fd_disk_mem.specs.Planning.{PlansNothing, holdings};
 ghost use Rattle.fd_disk_mem.specs.Slots.{contents_of};
 
-use crate::{MemDisk, MemFolder, MemShelf, MemStore};
+use crate::{MemFolder, MemShelf, MemStore};
 use fd_bytes::NoMemory;
 use fd_disk::{Folder, Store};
+use fd_file_mem::MemDisk;
 use std::alloc::Global;
 
 impl MemStore {

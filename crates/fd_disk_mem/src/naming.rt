@@ -2,11 +2,11 @@
 ghost use Rattle.std.specs.Prelude.{◌≡◌, ◌≢◌, ◌<◌, ◌^◌, List, ℕ, IfOk, MatchOption, decimal};
 ghost use Rattle.fd_disk.specs.declared.folders.FileKind.{FileKind};
 ghost use Rattle.fd_disk.specs.declared.folders.FileName.{FileName};
-ghost use Rattle.fd_disk_mem.specs.Plans.{ending, file_text, table_text};
+ghost use Rattle.fd_file_mem.specs.Plans.{ending, file_text, table_text};
 ghost use Rattle.fd_disk_mem.specs.Naming.{IsRead, end_text};
 
-use crate::plan::text_of;
 use fd_disk::{FileKind, FileName};
+use fd_file_mem::text_of;
 use std::alloc::{AllocError, Global};
 
 /// The dataset of a table's name, or none where the name is no table's.

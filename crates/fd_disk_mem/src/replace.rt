@@ -2,18 +2,18 @@
 ghost use Rattle.std.specs.Prelude.{◌≡◌, ◌≤◌, List, ℕ, length, option_map, IfOk, OnOk, OnErr};
 ghost use Rattle.fd_disk.specs.Images.{firm_file};
 ghost use Rattle.fd_disk.specs.declared.folders.FileName.{FileName};
-ghost use Rattle.fd_disk_mem.specs.Calls.{file_of};
+ghost use Rattle.fd_file_mem.specs.Calls.{file_of};
 ghost use Rattle.fd_disk_mem.specs.Planning.{fails_for, holdings};
-ghost use Rattle.fd_disk_mem.specs.Plans.{table_text};
+ghost use Rattle.fd_file_mem.specs.Plans.{table_text};
 ghost use Rattle.fd_disk_mem.specs.Replaced.{HasFile, HasSchema, HasTable, IsReplaced};
 
+use crate::MemStore;
 use crate::drawers::{Drawers, drawer_of, lay};
 use crate::names::has_folder;
 use crate::naming::{file_name, table_name};
-use crate::recorded::Room;
-use crate::{MemDisk, MemFault, MemStore};
 use fd_bytes::NoMemory;
 use fd_disk::{FileName, Store};
+use fd_file_mem::{MemDisk, MemFault, Room};
 use std::alloc::{AllocError, Global};
 
 impl MemStore {

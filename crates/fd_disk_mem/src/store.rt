@@ -4,19 +4,16 @@ ghost use Rattle.fd_disk.specs.Causes.{HasDownCause, OnNoMemory};
 ghost use Rattle.fd_disk.specs.Folders.{IsStoreImage, SameBut, WhereTold, folder_at, no_contents, planted};
 ghost use Rattle.fd_disk.specs.Outstanding.{IsLeftByPlant};
 ghost use Rattle.fd_disk_mem.specs.Crashes.{IsCrashed, folders_left};
-ghost use Rattle.fd_disk_mem.specs.Plans.{FailsByPlan, IsAnew, after_call, fails_if, fails_of, is_due, is_fault, table_text};
+ghost use Rattle.fd_file_mem.specs.Plans.{FailsByPlan, IsAnew, after_call, fails_if, fails_of, is_due, is_fault, table_text};
 ghost use Rattle.fd_disk_mem.specs.Planning.{PlansNothing, fails_for, holdings, none_told};
 ghost use Rattle.fd_disk_mem.specs.Slots.{contents_of, folder_in};
 
-use crate::disk::counted;
-use crate::fuse::Fuse;
+use crate::MemFolder;
 use crate::names::sorted_names;
-use crate::plan::{Op, Plan, Plans};
-use crate::recorded::Room;
 use crate::slots::{Slot, Slots, Stored, crash_all, opened, take_slot};
-use crate::{MemFault, MemFolder};
 use fd_bytes::NoMemory;
 use fd_disk::{Down, Store};
+use fd_file_mem::{Fuse, MemFault, Op, Plan, Plans, Room, counted};
 use std::alloc::{AllocError, Global};
 use std::mem;
 

@@ -3,8 +3,8 @@ use Rattle.std.proofs.Common.{◌≡◌, ◌≤◌, ◌<◌, ◌+◌, ◌-◌, �
 use Rattle.std.specs.Prelude.{IfSome, IsSome}
 use Rattle.std.proofs.lemmas.List.{length-map}
 use Rattle.std.proofs.lemmas.Option.{slice_get_within, same_Some}
-use Rattle.fd_core.specs.declared.batch.Pair.{Pair}
-use Rattle.fd_core.specs.Batches.{newest, of_batch, or_older}
+use Rattle.fd_entries.specs.declared.batch.Pair.{Pair}
+use Rattle.fd_entries.specs.Batches.{newest, of_batch, or_older}
 use Rattle.fd_segment.specs.Copying.{IsOfBatch, bytes_at}
 use Rattle.fd_segment.specs.Held.{Files, Standing, batch_of, batch_told}
 use Rattle.fd_dataset.specs.Listed.{listing}

@@ -1,8 +1,8 @@
 -- What a worker has found so far.
 use Rattle.std.specs.Prelude.{◌≡◌, ◌≤◌, ◌<◌, ◌+◌, ℕ, List, map, length, All, drop, Option, Some, None, IfErr, OnOk, slice_index_or}
 use Rattle.std.specs.List.{flat_map}
-use Rattle.fd_core.specs.declared.batch.Pair.{Pair}
-use Rattle.fd_core.specs.Batches.{newest}
+use Rattle.fd_entries.specs.declared.batch.Pair.{Pair}
+use Rattle.fd_entries.specs.Batches.{newest}
 use Rattle.fd_segment.specs.Causes.{OnDamaged}
 use Rattle.fd_segment.specs.Copying.{IsOfBatch}
 use Rattle.fd_segment.specs.Held.{Files, Standing}

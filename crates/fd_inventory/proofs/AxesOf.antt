@@ -4,7 +4,7 @@ use Rattle.std.specs.Prelude.{String, IsSome, nat_lt, ◌==◌, ◌<◌}
 use Rattle.std.specs.List.{after_first, before_first, position_or_len}
 use Rattle.std.specs.declared.alloc.Global.{Global}
 use mathlib.Core.List.{map-append}
-use Rattle.fd_core.specs.declared.batch.Pair.{Pair}
+use Rattle.fd_entries.specs.declared.batch.Pair.{Pair}
 use Rattle.fd_key.specs.Pairs as keys
 use Rattle.fd_key.specs.Pairs.{key_text, text_of}
 use Rattle.fd_key.specs.Given.{pieces_of}

@@ -5,9 +5,9 @@ use Rattle.std.specs.Cmp.Lexicographic.{slice_cmp}
 use Rattle.std.specs.BTreeMap.{insert_entry}
 use Rattle.std.proofs.lemmas.List.{length-map}
 use Rattle.std.specs.Global.{Vec}
-use Rattle.fd_core.specs.declared.batch.Listing.{Listing}
-use Rattle.fd_core.specs.declared.batch.Pair.{Pair}
-use Rattle.fd_core.specs.declared.table.Entry.{Entry}
+use Rattle.fd_entries.specs.declared.batch.Listing.{Listing}
+use Rattle.fd_entries.specs.declared.batch.Pair.{Pair}
+use Rattle.fd_entries.specs.declared.table.Entry.{Entry}
 use Rattle.fd_index.specs.Records.{Record}
 use Rattle.fd_outcome.specs.Rows.{keys_in, order, put, put_by, put_keys, stats_text, sum_bytes, sum_fields}
 use Rattle.fd_inventory.specs.Counted.{AreKeys, Kept, kept_keys, stats_line}

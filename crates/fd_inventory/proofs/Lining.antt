@@ -3,7 +3,7 @@ use Rattle.std.proofs.Common.{◌≡◌, ◌∙◌, ℕ, List, [], ◌∷◌, �
 use Rattle.fd_io.specs.Streams.{Takes, TakesFront}
 use Rattle.fd_listing.specs.Sinks.{TakesAllBut}
 use Rattle.fd_listing.proofs.Taking.{all_taken, one_more}
-use Rattle.fd_core.specs.declared.batch.Pair.{Pair}
+use Rattle.fd_entries.specs.declared.batch.Pair.{Pair}
 use Rattle.fd_request.specs.Expansion.{Keyword}
 use Rattle.fd_inventory.specs.Shown.{AreRows, Kept, Shown, kept, shown}
 use Rattle.fd_inventory.specs.Written.{shown_line, shown_lines}

@@ -1,7 +1,7 @@
 -- The indexes of the segments of a snapshot, and what ends their reading.
 use Rattle.std.specs.Prelude.{◌≡◌, ℕ, List, map, Option, Some, Contains}
-use Rattle.fd_core.specs.declared.batch.Listing.{Listing}
-use Rattle.fd_core.specs.declared.batch.Pair.{Pair}
+use Rattle.fd_entries.specs.declared.batch.Listing.{Listing}
+use Rattle.fd_entries.specs.declared.batch.Pair.{Pair}
 use Rattle.fd_index.specs.Records.{Record}
 use Rattle.fd_segment.specs.declared.fault.Damage.{Damage}
 use Rattle.fd_segment.specs.declared.fault.LensFault.{LensFault}

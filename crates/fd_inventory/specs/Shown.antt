@@ -9,8 +9,8 @@ use Rattle.std.specs.Ordering.{nat_cmp, ordering_then}
 use Rattle.std.specs.Cmp.Lexicographic.{slice_cmp}
 use Rattle.std.specs.List.Sorted.{IsStrictlySortedBy}
 use Rattle.std.specs.Map.{keys_of}
-use Rattle.fd_core.specs.declared.batch.Pair.{Pair}
-use Rattle.fd_core.specs.Batches.{newest}
+use Rattle.fd_entries.specs.declared.batch.Pair.{Pair}
+use Rattle.fd_entries.specs.Batches.{newest}
 use Rattle.fd_index.specs.Records.{Record}
 use Rattle.fd_request.specs.Expansion.{Keyword}
 use Rattle.fd_inventory.specs.declared.rows.Newest.{Newest}

@@ -1,7 +1,7 @@
 // The line of `stats`.
 ghost use Rattle.std.specs.Prelude.{◌≡◌, ◌≤◌, ◌+◌, ◌*◌, ◌++◌, List, IfErr, IfOk, OnErr, OnOk, length, map, string_bytes, ℕ};
 ghost use Rattle.std.specs.Fmt.{decimal};
-ghost use Rattle.fd_core.specs.declared.batch.Pair.{Pair};
+ghost use Rattle.fd_entries.specs.declared.batch.Pair.{Pair};
 ghost use Rattle.fd_dataset.specs.Listed.{listing};
 ghost use Rattle.fd_io.specs.Streams.{Takes, TakesFront};
 ghost use Rattle.fd_segment.specs.Causes.{OnDamaged};

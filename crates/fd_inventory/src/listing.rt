@@ -1,6 +1,6 @@
 // The lines of `list`.
 ghost use Rattle.std.specs.Prelude.{◌≡◌, ◌≤◌, ◌++◌, List, IfErr, OnErr, OnOk, length, map, string_bytes};
-ghost use Rattle.fd_core.specs.declared.batch.Pair.{Pair};
+ghost use Rattle.fd_entries.specs.declared.batch.Pair.{Pair};
 ghost use Rattle.fd_dataset.specs.Listed.{listing};
 ghost use Rattle.fd_io.specs.Streams.{Takes, TakesFront};
 ghost use Rattle.fd_listing.specs.Sinks.{HasSinkCause, TakesAllBut};

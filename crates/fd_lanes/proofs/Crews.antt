@@ -6,9 +6,9 @@ use Rattle.std.proofs.lemmas.List.{length-map}
 use Rattle.std.proofs.lemmas.List.Elements.{All-head, All-tail, All-push}
 use mathlib.Core.List.{IsPrefix, append-nil, map-append}
 use Rattle.fd_disk.specs.declared.folders.FileName.{FileName}
-use Rattle.fd_core.specs.declared.batch.Pair.{Pair}
-use Rattle.fd_core.specs.declared.batch.Listing.{Listing}
-use Rattle.fd_core.specs.Table.{greatest_writer}
+use Rattle.fd_entries.specs.declared.batch.Pair.{Pair}
+use Rattle.fd_entries.specs.declared.batch.Listing.{Listing}
+use Rattle.fd_entries.specs.Table.{greatest_writer}
 use Rattle.fd_schema.specs.Rules.{Rule, Texts}
 use Rattle.fd_script.specs.declared.script.Lane.{Lane}
 use Rattle.fd_turn.specs.declared.board.Pass.{Pass}

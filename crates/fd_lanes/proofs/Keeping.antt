@@ -5,8 +5,8 @@ use mathlib.Core.List.{IsPrefix}
 use Rattle.fd_disk.specs.declared.folders.FileName.{FileName}
 use Rattle.fd_disk.specs.declared.folders.FileKind.TheVariants.{Fields, Index}
 use Rattle.fd_disk.specs.Names.{name_of}
-use Rattle.fd_core.specs.declared.batch.Pair.{Pair}
-use Rattle.fd_core.specs.declared.batch.Listing.{Listing}
+use Rattle.fd_entries.specs.declared.batch.Pair.{Pair}
+use Rattle.fd_entries.specs.declared.batch.Listing.{Listing}
 use Rattle.fd_segment.specs.Filling.{Filling, Origin}
 use Rattle.fd_segment.specs.Held.{Standing}
 use Rattle.fd_dataset.specs.Listed.{listing}

@@ -1,7 +1,7 @@
 -- Walks of a lane, one step after another.
 use Rattle.std.proofs.Common.{◌≡◌, ◌<◌, ◌≤◌, ◌+◌, ◌-◌, ℕ, zero, suc, List, [], ◌∷◌, ◌++◌, map, length, sym, refl, ap, ◌∙◌, subst, arith, length-append, append_assoc, Option, Some, None, ◌⊎◌, inl, inr}
 use mathlib.Core.List.{append-nil}
-use Rattle.fd_core.specs.declared.batch.Pair.{Pair}
+use Rattle.fd_entries.specs.declared.batch.Pair.{Pair}
 use Rattle.fd_numbers.specs.Numbers.{IsIn, Differ}
 use Rattle.fd_lanes.specs.Acts.{Act, Put, Flush, Get}
 use Rattle.fd_lanes.specs.declared.end.End.{End}

@@ -1,8 +1,8 @@
 -- What a run of lanes says, over one table before and one list of batches that were listed.
 use Rattle.std.specs.Prelude.{◌≡◌, ◌<◌, ◌≤◌, ◌+◌, ◌-◌, ◌++◌, ◌⊎◌, ℕ, List, [], ◌∷◌, map, take, length, slice_get, Option, Some, None, true}
-use Rattle.fd_core.specs.declared.batch.Pair.{Pair}
-use Rattle.fd_core.specs.declared.batch.Listing.{Listing}
-use Rattle.fd_core.specs.Batches.{newest}
+use Rattle.fd_entries.specs.declared.batch.Pair.{Pair}
+use Rattle.fd_entries.specs.declared.batch.Listing.{Listing}
+use Rattle.fd_entries.specs.Batches.{newest}
 use Rattle.fd_retriever.specs.Answers.{Tells}
 use Rattle.fd_schema.specs.Rules.{Rule, Texts}
 use Rattle.fd_script.specs.declared.script.Lane.{Lane}

@@ -1,7 +1,7 @@
 //! The answers of a get.
 ghost use Rattle.std.specs.Prelude.{◌≡◌, ◌<◌, ℕ, List, map, length, slice_get, Some, IfOk, IfErr};
-ghost use Rattle.fd_core.specs.declared.batch.Pair.{Pair};
-ghost use Rattle.fd_core.specs.Batches.{newest};
+ghost use Rattle.fd_entries.specs.declared.batch.Pair.{Pair};
+ghost use Rattle.fd_entries.specs.Batches.{newest};
 ghost use Rattle.fd_key.specs.Pairs as keys;
 ghost use Rattle.fd_schema.specs.Rules.{file_key, place_from};
 ghost use Rattle.fd_schema.specs.Reading.{seen_place};

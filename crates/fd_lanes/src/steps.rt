@@ -1,6 +1,6 @@
 //! The steps of a lane.
 ghost use Rattle.std.specs.Prelude.{◌≡◌, ◌≤◌, ◌<◌, ◌+◌, ◌-◌, ◌^◌, [], List, ℕ, map, length, slice_get, Ok, Some};
-ghost use Rattle.fd_core.specs.Table.{greatest_writer};
+ghost use Rattle.fd_entries.specs.Table.{greatest_writer};
 ghost use Rattle.fd_key.specs.Pairs as keys;
 ghost use Rattle.fd_schema.specs.Rules.{file_key, place_from};
 ghost use Rattle.fd_schema.specs.Reading.{seen_place};
@@ -12,7 +12,7 @@ ghost use Rattle.fd_retriever.specs.Kept as opened;
 ghost use Rattle.fd_lanes.specs.Acts as acts;
 ghost use Rattle.fd_lanes.specs.Acts.{AllFitting, Fitting, act_of, acts_of, asked_keys};
 ghost use Rattle.fd_lanes.specs.Walks.{Stand};
-ghost use Rattle.fd_core.specs.declared.batch.Listing.{Listing};
+ghost use Rattle.fd_entries.specs.declared.batch.Listing.{Listing};
 ghost use Rattle.fd_lanes.specs.Fits.{Fits, GotAs, IsRoomy, IsWaitingDoubt, Keeps, KeepsOn, Moves, StaysOf};
 ghost use Rattle.fd_lanes.specs.Jobs.{HasRoom, MayBegin, RanJob};
 

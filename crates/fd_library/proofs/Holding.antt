@@ -11,10 +11,10 @@ use Rattle.fd_disk.specs.declared.file.File.{File}
 use Rattle.fd_disk.specs.declared.folders.FileName.{FileName}
 use Rattle.fd_disk.specs.Folders.{Contents, Holdings, SameBut, WhereTold, folder_at, no_contents, with_table, without_table}
 use Rattle.fd_disk.proofs.NameLemmas.{is_or_not}
-use Rattle.fd_core.specs.declared.batch.Listing.{Listing}
-use Rattle.fd_core.specs.declared.batch.Pair.{Pair}
-use Rattle.fd_core.specs.declared.table.Entry.{Entry}
-use Rattle.fd_core.specs.Table.{listed}
+use Rattle.fd_entries.specs.declared.batch.Listing.{Listing}
+use Rattle.fd_entries.specs.declared.batch.Pair.{Pair}
+use Rattle.fd_entries.specs.declared.table.Entry.{Entry}
+use Rattle.fd_entries.specs.Table.{listed}
 use Rattle.fd_segment.specs.Held.{Standing, batch_of}
 use Rattle.fd_turn.specs.Passes.{BoardId}
 use Rattle.fd_turn.specs.Views.{first_view}

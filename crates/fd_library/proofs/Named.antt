@@ -8,8 +8,8 @@ use Rattle.std.proofs.Math.Seq.{take-suc}
 use Rattle.fd_disk.proofs.NameLemmas.{is_or_not}
 use Rattle.fd_turn.specs.Passes.{BoardId}
 use Rattle.std.proofs.lemmas.List.Elements.{All-more, All-weaker}
-use Rattle.fd_core.specs.declared.table.Entry.{Entry}
-use Rattle.fd_core.specs.Table.{AllFit, greatest_writer}
+use Rattle.fd_entries.specs.declared.table.Entry.{Entry}
+use Rattle.fd_entries.specs.Table.{AllFit, greatest_writer}
 use Rattle.fd_library.specs.Open.{OpenDataset, OutAre, Seated, among, names_of, AreDistinct, AreSeated}
 
 pub among_push : (n : List ℕ) (ms : List (List ℕ)) (m : List ℕ) → among n ms ≡ false → bytes_eq n m ≡ false → among n (ms ++ m ∷ []) ≡ false

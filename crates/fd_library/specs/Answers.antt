@@ -5,7 +5,7 @@ use Rattle.fd_disk.specs.Folders.{Contents, Holdings, folder_at}
 use Rattle.fd_recovery.specs.declared.fault.OpenFault.{OpenFault}
 use Rattle.fd_recovery.specs.declared.fault.OpenFault.TheVariants as whole
 use Rattle.fd_disk.specs.declared.file.File.{File}
-use Rattle.fd_core.specs.declared.batch.Listing.{Listing}
+use Rattle.fd_entries.specs.declared.batch.Listing.{Listing}
 use Rattle.fd_recovery.specs.Recovered.{TableFailed, all_of}
 use Rattle.fd_turn.specs.Passes.{BoardId}
 use Rattle.fd_turn.specs.Views.{first_view}

@@ -1,9 +1,9 @@
 ghost use Rattle.std.specs.Prelude.{◌≡◌, ◌⊎◌, ◌≤◌, ◌*◌, ◌||◌, [], List, ℕ, Option, Some, None, Ok, Err, All, Bool, true, false, is_some, length, map, IfOk, IfErr, IfSome, OnOk, OnErr, MatchOption, option_map, string_bytes};
 ghost use Rattle.fd_bytes.specs.Causes.{Rose};
 ghost use Rattle.fd_disk.specs.Folders.{SameBut, WhereTold, folder_at, without_table};
-ghost use Rattle.fd_core.specs.declared.table.Entry.{Entry};
-ghost use Rattle.fd_core.specs.declared.batch.Listing.{Listing};
-ghost use Rattle.fd_core.specs.Table.{AllFit, listed};
+ghost use Rattle.fd_entries.specs.declared.table.Entry.{Entry};
+ghost use Rattle.fd_entries.specs.declared.batch.Listing.{Listing};
+ghost use Rattle.fd_entries.specs.Table.{AllFit, listed};
 ghost use Rattle.fd_segment.specs.Held.{batch_of};
 ghost use Rattle.fd_segment.specs.Shared.{AreOf, entries, standings};
 ghost use Rattle.fd_turn.specs.Passes.{view, IsOf};
@@ -17,9 +17,9 @@ ghost use Rattle.fd_library.specs.Open.{AreBounded, IsWhole, seat_of};
 ghost use Rattle.fd_library.specs.Stores.{KeepsFolder, KeepsTable, LooksInto};
 
 use crate::held::{FolderDataset, FolderPass, Held};
-use fd_core::Entry;
 use fd_dataset::Dataset;
 use fd_disk::{Disk, Down, Folder, Store};
+use fd_entries::Entry;
 use fd_recovery::{OpenFault, Recovered, recover};
 use fd_toc::Toc;
 use std::alloc::Global;

@@ -7,7 +7,7 @@ use Rattle.fd_sections.specs.Stream.{Stream, stream}
 use Rattle.fd_key.specs.declared.fault.KeyFault.{KeyFault}
 use Rattle.fd_key.specs.Pairs as keys
 use Rattle.fd_key.specs.Keys.{key_of}
-use Rattle.fd_core.specs.declared.batch.Pair.{Pair}
+use Rattle.fd_entries.specs.declared.batch.Pair.{Pair}
 use Rattle.fd_schema.specs.Rules.{Rule, Texts, file_key, place_from}
 use Rattle.fd_listing.specs.Lines.{line}
 use Rattle.fd_outcome.specs.declared.refusal.Refusal.{Refusal}

@@ -4,8 +4,8 @@ use Rattle.std.specs.List.{list_any}
 use Rattle.std.specs.Str.{bytes_eq}
 use Rattle.std.specs.Fmt.{decimal}
 use Rattle.fd_disk.specs.Folders.{Holdings}
-use Rattle.fd_core.specs.Batches.{newest}
-use Rattle.fd_core.specs.declared.batch.Pair as batches
+use Rattle.fd_entries.specs.Batches.{newest}
+use Rattle.fd_entries.specs.declared.batch.Pair as batches
 use Rattle.fd_key.specs.Pairs.{Pair, key_text}
 use Rattle.fd_schema.specs.Rules.{Rule, Texts, file_key, place_from}
 use Rattle.fd_schema.specs.Grammar as schemas

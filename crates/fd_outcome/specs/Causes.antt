@@ -4,7 +4,7 @@ use Rattle.std.specs.Fmt.{decimal}
 use Rattle.fd_disk.specs.declared.folders.FileKind.{FileKind}
 use Rattle.fd_disk.specs.declared.folders.FileKind.TheVariants.{Fields, Index}
 use Rattle.fd_disk.specs.declared.folders.FileName.{FileName}
-use Rattle.fd_core.specs.declared.table.NotATable.{NotATable}
+use Rattle.fd_entries.specs.declared.table.NotATable.{NotATable}
 use Rattle.fd_segment.specs.declared.fault.Damage.{Damage}
 use Rattle.fd_segment.specs.declared.fault.Damage.TheVariants as damages
 use Rattle.fd_key.specs.Pairs.{Pair, key_text}

@@ -4,8 +4,8 @@ use Rattle.std.specs.List.{concat, list_all, range_with_len}
 use Rattle.fd_sections.specs.Message.{Sections, message_octets}
 use Rattle.fd_key.specs.Pairs as keys
 use Rattle.fd_disk.specs.Folders.{Holdings, folder_at}
-use Rattle.fd_core.specs.declared.batch.Pair.{Pair}
-use Rattle.fd_core.specs.declared.table.Entry.{Entry}
+use Rattle.fd_entries.specs.declared.batch.Pair.{Pair}
+use Rattle.fd_entries.specs.declared.table.Entry.{Entry}
 use Rattle.fd_schema.specs.Grammar as schemas
 use Rattle.fd_schema.specs.Grammar.{schema_of}
 use Rattle.fd_schema.specs.Rules.{Rule}

@@ -13,9 +13,9 @@ use Rattle.fd_key.specs.Numerals.{cut, ◌>>=◌}
 use Rattle.fd_key.specs.Given.{pieces_of}
 use Rattle.fd_key.specs.Pairs as keys
 use Rattle.fd_key.specs.Pairs.{text_of, key_text}
-use Rattle.fd_core.specs.declared.batch.Pair.{Pair}
-use Rattle.fd_core.specs.declared.table.Entry.{Entry}
-use Rattle.fd_core.specs.Batches.{or_older, newest, has_key}
+use Rattle.fd_entries.specs.declared.batch.Pair.{Pair}
+use Rattle.fd_entries.specs.declared.table.Entry.{Entry}
+use Rattle.fd_entries.specs.Batches.{or_older, newest, has_key}
 use Rattle.fd_schema.specs.Grammar.{is_ascii}
 use Rattle.fd_request.specs.Expansion.{Keyword}
 use Rattle.fd_listing.specs.Lines.{blank, line}

@@ -3,7 +3,7 @@ use Rattle.std.specs.Prelude.{ℕ, ◌+◌, List, [], ◌∷◌, ◌++◌, lengt
 use Rattle.std.specs.Str.{bytes_eq}
 use Rattle.std.specs.Fmt.{decimal}
 use Rattle.fd_key.specs.Pairs as keys
-use Rattle.fd_core.specs.Batches.{of_batch}
+use Rattle.fd_entries.specs.Batches.{of_batch}
 use Rattle.fd_schema.specs.Rules.{Rule}
 use Rattle.fd_schema.specs.Printed.{schema_text}
 use Rattle.fd_listing.specs.Lines.{line}

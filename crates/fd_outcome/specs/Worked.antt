@@ -8,14 +8,14 @@ use Rattle.fd_disk.specs.declared.folders.FileName.{FileName}
 use Rattle.fd_disk.specs.Folders.{Contents, Holdings}
 use Rattle.fd_disk.specs.Images.{firm_file}
 use Rattle.fd_disk.specs.Names.{same_name, name_of}
-use Rattle.fd_core.specs.declared.batch.Pair.{Pair}
-use Rattle.fd_core.specs.declared.table.Entry.{Entry}
-use Rattle.fd_core.specs.Table.{table_of}
+use Rattle.fd_entries.specs.declared.batch.Pair.{Pair}
+use Rattle.fd_entries.specs.declared.table.Entry.{Entry}
+use Rattle.fd_entries.specs.Table.{table_of}
 use Rattle.fd_schema.specs.Rules.{Rule}
 use Rattle.fd_request.specs.Expansion.{Keyword, expand}
 use Rattle.fd_listing.specs.Lines.{line}
 use Rattle.fd_segment.specs.declared.fault.Damage.TheVariants as damages
-use Rattle.fd_core.specs.Batches.{newest}
+use Rattle.fd_entries.specs.Batches.{newest}
 use Rattle.fd_words.specs.declared.command.Command.TheVariants.{Create, Retrieve, List as List_, Axes, Stats, Trial}
 use Rattle.fd_outcome.specs.declared.status.Status.TheVariants.{Done, Missed, Refused, Damaged}
 use Rattle.fd_outcome.specs.Causes.{Cause, BadTable, BadFile, damaged_line}

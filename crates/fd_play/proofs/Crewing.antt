@@ -3,8 +3,8 @@ use Rattle.std.proofs.Common.{◌≡◌, ◌<◌, ◌≤◌, ◌+◌, ◌^◌, �
 use Rattle.std.proofs.lemmas.List.{length-map}
 use Rattle.std.proofs.lemmas.List.Elements.{All-nil, All-cons, All-head, All-tail}
 use Rattle.fd_disk.specs.Folders.{Contents}
-use Rattle.fd_core.specs.Table.{greatest_writer}
-use Rattle.fd_core.specs.declared.batch.Listing.{Listing}
+use Rattle.fd_entries.specs.Table.{greatest_writer}
+use Rattle.fd_entries.specs.declared.batch.Listing.{Listing}
 use Rattle.fd_numbers.specs.Numbers.{IsIn}
 use Rattle.fd_archiver.specs.Writing.{Writing}
 use Rattle.fd_lanes.specs.Jobs.{MayBegin, owners_of, writers_of}

@@ -4,7 +4,7 @@ use Rattle.std.proofs.lemmas.List.Elements.{All-nil, All-cons, All-head, All-tai
 use mathlib.Core.List.{map-append}
 use Rattle.fd_disk.specs.declared.folders.FileName.{FileName}
 use Rattle.fd_disk.specs.Folders.{Contents, WhereTold}
-use Rattle.fd_core.specs.Table.{greatest_writer}
+use Rattle.fd_entries.specs.Table.{greatest_writer}
 use Rattle.fd_numbers.specs.Numbers.{Differ, IsIn}
 use Rattle.fd_segment.specs.declared.draft.Room.{Room}
 use Rattle.fd_turn.specs.Passes.{BoardId}

@@ -9,10 +9,10 @@ ghost use Rattle.fd_dataset.specs.Listed.{listing};
 ghost use Rattle.fd_retriever.specs.Kept.{Fits};
 
 use fd_archiver::{Archiver, Flush};
-use fd_core::Entry;
 use fd_dataset::{Dataset, DatasetPass, Snapshot};
 use fd_disk::{Disk, Folder, Sealed, Shelf, Store};
 use fd_disk_mem::{MemDisk, MemFault, MemFolder, MemShelf, MemStore, Op};
+use fd_entries::Entry;
 use fd_io::{MemSink, Sink};
 use fd_retriever::*;
 use fd_schema::Place;

@@ -9,9 +9,9 @@ use Rattle.std.specs.declared.sync.Arc.{Arc}
 use Rattle.fd_disk.specs.declared.folders.FileName.{FileName}
 use Rattle.fd_disk.specs.declared.file.File.{File}
 use Rattle.fd_disk.specs.Folders.{Contents, without_table}
-use Rattle.fd_core.specs.declared.table.Entry.{Entry}
+use Rattle.fd_entries.specs.declared.table.Entry.{Entry}
 use Rattle.fd_segment.specs.declared.fault.Damage.{Damage}
-use Rattle.fd_core.specs.Table.{listed}
+use Rattle.fd_entries.specs.Table.{listed}
 use Rattle.fd_segment.specs.Held.{Standing, batch_of}
 use Rattle.fd_recovery.specs.declared.fault.FileFault.{FileFault}
 use Rattle.fd_recovery.specs.declared.fault.FileFault.TheVariants.{Disk, Damaged, NoMemory}

@@ -1,5 +1,5 @@
 -- The causes of the refusals.
-use Rattle.fd_core.specs.declared.table.NotATable as bad
+use Rattle.fd_entries.specs.declared.table.NotATable as bad
 use Rattle.fd_segment.specs.declared.fault.Damage.{Damage}
 use Rattle.fd_recovery.specs.declared.fault.FileFault.{FileFault}
 use Rattle.fd_recovery.specs.declared.fault.FileFault.TheVariants as file

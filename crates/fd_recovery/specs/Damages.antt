@@ -3,7 +3,7 @@ use Rattle.std.specs.Prelude.{◌≡◌, ◌++◌, ℕ, nat_lt, if◌then◌else
 use Rattle.fd_disk.specs.declared.folders.FileKind.TheVariants as kinds
 use Rattle.fd_disk.specs.declared.folders.FileName.{FileName}
 use Rattle.fd_disk.specs.Names.{name_of}
-use Rattle.fd_core.specs.declared.table.Entry.{Entry}
+use Rattle.fd_entries.specs.declared.table.Entry.{Entry}
 use Rattle.fd_segment.specs.declared.fault.Damage.{Damage}
 use Rattle.fd_segment.specs.declared.fault.Damage.TheVariants.{Absent, Length}
 

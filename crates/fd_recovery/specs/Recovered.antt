@@ -5,10 +5,10 @@ use Rattle.fd_disk.specs.declared.file.File.{File}
 use Rattle.fd_disk.specs.declared.folders.FileName.{FileName}
 use Rattle.fd_disk.specs.Folders.{Contents}
 use Rattle.fd_disk.specs.Images.{synced}
-use Rattle.fd_core.specs.declared.batch.Pair.{Pair}
-use Rattle.fd_core.specs.declared.table.Entry.{Entry}
-use Rattle.fd_core.specs.declared.table.NotATable.{NotATable}
-use Rattle.fd_core.specs.Table.{listed}
+use Rattle.fd_entries.specs.declared.batch.Pair.{Pair}
+use Rattle.fd_entries.specs.declared.table.Entry.{Entry}
+use Rattle.fd_entries.specs.declared.table.NotATable.{NotATable}
+use Rattle.fd_entries.specs.Table.{listed}
 use Rattle.fd_segment.specs.Held.{Files, Standing, batch_of}
 use Rattle.fd_recovery.specs.Damages.{field_file, index_file}
 

@@ -7,8 +7,8 @@ ghost use Rattle.fd_segment.specs.Shared.{standings};
 
 use crate::fault::FileFault;
 use crate::files::listed_file;
-use fd_core::Entry;
 use fd_disk::{FileKind, FileName, Folder};
+use fd_entries::Entry;
 use fd_segment::Segment;
 use std::alloc::Global;
 use std::sync::Arc;

@@ -2,8 +2,8 @@
 use Rattle.std.proofs.Common.{◌≡◌, ℕ, Bool, true, false, ◌&&◌, nat_le, if◌then◌else◌, List, [], ◌++◌, length, take, drop, Option, Some, None, Result, Err, refl, sym, ap, ◌∙◌, subst, take-take, take-append-drop, append-nil}
 use Rattle.std.specs.Prelude.{IfSome}
 use Rattle.fd_io.specs.Streams.{Takes}
-use Rattle.fd_core.specs.declared.batch.Pair.{Pair}
-use Rattle.fd_core.specs.Batches.{of_batch}
+use Rattle.fd_entries.specs.declared.batch.Pair.{Pair}
+use Rattle.fd_entries.specs.Batches.{of_batch}
 use Rattle.fd_index.specs.Records.{Record}
 use Rattle.fd_segment.specs.declared.fault.Damage.{Damage}
 use Rattle.fd_segment.specs.declared.fault.Damage.TheVariants.{Absent, Length, Index, Beyond}

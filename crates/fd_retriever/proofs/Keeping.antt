@@ -4,7 +4,7 @@ use Rattle.std.specs.Prelude.{option_map}
 use Rattle.std.proofs.lemmas.Option.{slice_get-map, same_Some}
 use Rattle.std.proofs.lemmas.Simd.{map-map}
 use Rattle.lru.proofs.Splits.{Contains-nil}
-use Rattle.fd_core.specs.declared.batch.Listing.{Listing}
+use Rattle.fd_entries.specs.declared.batch.Listing.{Listing}
 use Rattle.fd_segment.specs.Held.{Files, Standing, batch_of}
 use Rattle.fd_dataset.specs.Listed.{listing, listing_in}
 use Rattle.fd_retriever.specs.declared.fault.FetchFault.{FetchFault}

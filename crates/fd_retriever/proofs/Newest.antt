@@ -3,9 +3,9 @@ use Rattle.std.proofs.Common.{◌≡◌, ◌≤◌, ◌-◌, ℕ, zero, suc, Lis
 use Rattle.std.specs.Prelude.{option_map}
 use Rattle.std.proofs.lemmas.List.{length-map}
 use Rattle.std.proofs.lemmas.Option.{slice_get-map}
-use Rattle.fd_core.specs.declared.batch.Pair.{Pair}
-use Rattle.fd_core.specs.declared.batch.Listing.{Listing}
-use Rattle.fd_core.specs.Batches.{newest, of_batch, or_older}
+use Rattle.fd_entries.specs.declared.batch.Pair.{Pair}
+use Rattle.fd_entries.specs.declared.batch.Listing.{Listing}
+use Rattle.fd_entries.specs.Batches.{newest, of_batch, or_older}
 use Rattle.fd_segment.specs.Held.{Standing, batch_of}
 use Rattle.fd_dataset.specs.Listed.{listing}
 use Rattle.fd_retriever.specs.declared.fault.Got.TheVariants.{Found, Miss}

@@ -1,8 +1,8 @@
 -- What a fetch answers, and why it refuses.
 use Rattle.std.specs.Prelude.{◌≡◌, ◌⊎◌, ◌<◌, ◌≤◌, ◌+◌, ℕ, List, length, map, Option, Some, None, Result, Ok, Err}
 use Rattle.fd_io.specs.Streams.{Takes, TakesFront}
-use Rattle.fd_core.specs.declared.batch.Pair.{Pair}
-use Rattle.fd_core.specs.declared.batch.Listing.{Listing}
+use Rattle.fd_entries.specs.declared.batch.Pair.{Pair}
+use Rattle.fd_entries.specs.declared.batch.Listing.{Listing}
 use Rattle.fd_pages.specs.Parts.{IsSeen}
 use Rattle.fd_segment.specs.declared.fault.Damage.{Damage}
 use Rattle.fd_segment.specs.Causes.{IsBadIndex, IsFindDamage, IsPlace}

@@ -1,7 +1,7 @@
 -- What opened segments are kept, and of which listings they are.
 use Rattle.std.specs.Prelude.{◌≡◌, ◌≤◌, ◌-◌, ℕ, List, [], map, Some, slice_get, Contains}
 use mathlib.Core.List.{IsPrefix}
-use Rattle.fd_core.specs.declared.batch.Listing.{Listing}
+use Rattle.fd_entries.specs.declared.batch.Listing.{Listing}
 use Rattle.fd_segment.specs.Held.{Files, Standing}
 use Rattle.fd_dataset.specs.Listed.{listing, listing_in}
 

@@ -1,7 +1,7 @@
 ghost use Rattle.std.specs.Prelude.{◌≡◌, ◌≤◌, List, map, IfOk, IfErr};
 ghost use Rattle.fd_bytes.specs.Causes.{Rose};
-ghost use Rattle.fd_core.specs.declared.batch.Pair.{Pair};
-ghost use Rattle.fd_core.specs.Batches.{newest};
+ghost use Rattle.fd_entries.specs.declared.batch.Pair.{Pair};
+ghost use Rattle.fd_entries.specs.Batches.{newest};
 ghost use Rattle.fd_schema.specs.Rules.{file_key};
 ghost use Rattle.fd_schema.specs.Reading.{seen_place};
 ghost use Rattle.fd_dataset.specs.Listed.{listing};

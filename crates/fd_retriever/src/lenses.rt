@@ -1,5 +1,5 @@
 ghost use Rattle.std.specs.Prelude.{◌≡◌, ◌≤◌, ◌⊎◌, List, [], length, Contains, IfOk, IfSome};
-ghost use Rattle.fd_core.specs.declared.batch.Listing.{Listing};
+ghost use Rattle.fd_entries.specs.declared.batch.Listing.{Listing};
 ghost use Rattle.fd_segment.specs.Held.{Standing};
 ghost use Rattle.fd_retriever.specs.Kept.{AreThose, Fits, Kept};
 

@@ -1,8 +1,8 @@
 -- How many records stand for the pairs that were put.
 use Rattle.std.proofs.Common.{◌≡◌, ◌⊎◌, inl, inr, ℕ, ◌+◌, ◌≤◌, Bool, true, false, ◌||◌, if◌then◌else◌, List, [], ◌∷◌, length, bytes_eq, Option, Some, None, is_some, refl, sym, ap, ◌∙◌, subst, arith}
 use Rattle.std.proofs.lemmas.List.{length-map}
-use Rattle.fd_core.specs.declared.batch.Pair.{Pair}
-use Rattle.fd_core.specs.Batches.{distinct, has_key, or_older, same_bytes}
+use Rattle.fd_entries.specs.declared.batch.Pair.{Pair}
+use Rattle.fd_entries.specs.Batches.{distinct, has_key, or_older, same_bytes}
 use Rattle.fd_index.specs.Records.{Record, StandsFor, keys, place_of}
 use Rattle.fd_segment.specs.Filling.{places_from}
 use Rattle.fd_segment.proofs.Differing.{Differ, IsIn, no_longer}

@@ -8,7 +8,7 @@ use Rattle.std.proofs.lemmas.Bool.Decides.{nat_tests}
 use Rattle.std.proofs.lemmas.Cmp.{nat_list_cmp_total, tied_itself}
 use Rattle.std.proofs.lemmas.List.{reverse-append}
 use Rattle.std.proofs.lemmas.Slice.Eq.{bytes_eq-Decides}
-use Rattle.fd_core.specs.Batches.{or_older, same_bytes}
+use Rattle.fd_entries.specs.Batches.{or_older, same_bytes}
 use Rattle.fd_index.specs.Records.{Record, Rising, keys, newest, place_of}
 use Rattle.fd_segment.proofs.Differing.{Differ, IsIn}
 

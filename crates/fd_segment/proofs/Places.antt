@@ -2,8 +2,8 @@
 use Rattle.std.proofs.Common.{◌≡◌, ◌⊎◌, inl, inr, ◌≤◌, ◌+◌, ℕ, Bool, true, false, ◌&&◌, nat_le, if◌then◌else◌, List, [], ◌∷◌, ◌++◌, length, take, drop, bytes_eq, Option, Some, None, is_some, refl, sym, ap, ◌∙◌, subst, arith, append_assoc, length-append}
 use Rattle.std.proofs.lemmas.Bool.Decides.{nat_tests}
 use Rattle.std.proofs.lemmas.List.{take_at, drop_at, append-nil}
-use Rattle.fd_core.specs.declared.batch.Pair.{Pair}
-use Rattle.fd_core.specs.Batches.{joined, of_batch, or_older, same_bytes, total}
+use Rattle.fd_entries.specs.declared.batch.Pair.{Pair}
+use Rattle.fd_entries.specs.Batches.{joined, of_batch, or_older, same_bytes, total}
 use Rattle.fd_index.specs.Records.{Record, StandsFor, keys, place_of}
 use Rattle.fd_segment.specs.Held.{Alike, end_by, pairs_of}
 use Rattle.fd_segment.specs.Filling.{places_from}

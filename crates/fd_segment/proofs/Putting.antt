@@ -7,8 +7,8 @@ use Rattle.fd_disk.specs.declared.file.File.{File}
 use Rattle.fd_disk.specs.Folders.{WhereTold}
 use Rattle.fd_disk.specs.Images.{IsAfterFailedWrite, overwritten, written}
 use Rattle.fd_disk.proofs.ImageLemmas.{take_written, written_within}
-use Rattle.fd_core.specs.declared.batch.Pair.{Pair}
-use Rattle.fd_core.specs.Batches.{KeysFit, joined, total}
+use Rattle.fd_entries.specs.declared.batch.Pair.{Pair}
+use Rattle.fd_entries.specs.Batches.{KeysFit, joined, total}
 use Rattle.fd_index.specs.Builder.{HoldsPut}
 use Rattle.fd_index.specs.Held.{Held}
 use Rattle.fd_index.specs.Records.{Record, StandsFor}

@@ -6,9 +6,9 @@ use Rattle.std.proofs.lemmas.List.{take_at}
 use Rattle.fd_disk.specs.declared.file.File.{File}
 use Rattle.fd_disk.specs.Images.{overwritten, synced, written}
 use Rattle.fd_disk.proofs.ImageLemmas.{written_within}
-use Rattle.fd_core.specs.declared.batch.Pair.{Pair}
-use Rattle.fd_core.specs.declared.table.Entry.{Entry}
-use Rattle.fd_core.specs.Batches.{joined, total}
+use Rattle.fd_entries.specs.declared.batch.Pair.{Pair}
+use Rattle.fd_entries.specs.declared.table.Entry.{Entry}
+use Rattle.fd_entries.specs.Batches.{joined, total}
 use Rattle.fd_index.specs.Pages.{IsIndex, index_of}
 use Rattle.fd_index.specs.Reading.{index_at}
 use Rattle.fd_index.specs.Records.{Record, StandsFor}

@@ -2,8 +2,8 @@
 use Rattle.std.specs.Prelude.{◌≡◌, ◌+◌, ◌<◌, ℕ, List, take, Option, Some, IfSome, Result, Ok, Err}
 use Rattle.fd_disk.specs.declared.folders.FileKind.TheVariants as kinds
 use Rattle.fd_disk.specs.Names.{name_of}
-use Rattle.fd_core.specs.declared.batch.Pair.{Pair}
-use Rattle.fd_core.specs.declared.table.Entry.{Entry}
+use Rattle.fd_entries.specs.declared.batch.Pair.{Pair}
+use Rattle.fd_entries.specs.declared.table.Entry.{Entry}
 use Rattle.fd_index.specs.declared.fault.Full.{Full}
 use Rattle.fd_index.specs.Records.{Record, place_of}
 use Rattle.fd_segment.specs.declared.fault.PutFault.{PutFault}

@@ -1,7 +1,7 @@
 -- What is found and what is copied.
 use Rattle.std.specs.Prelude.{◌≡◌, ◌≤◌, ℕ, List, length, take, drop, Option, Some, option_map, IfSome}
-use Rattle.fd_core.specs.declared.batch.Pair.{Pair}
-use Rattle.fd_core.specs.Batches.{of_batch}
+use Rattle.fd_entries.specs.declared.batch.Pair.{Pair}
+use Rattle.fd_entries.specs.Batches.{of_batch}
 use Rattle.fd_io.specs.Streams.{Takes}
 use Rattle.fd_index.specs.Records.{Record}
 use Rattle.fd_segment.specs.Held.{Files, batch_of, pairs_of}

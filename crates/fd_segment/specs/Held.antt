@@ -1,9 +1,9 @@
 -- What the two files of an entry stand for.
 use Rattle.std.specs.Prelude.{◌≡◌, ◌+◌, ◌&&◌, ℕ, Bool, true, nat_le, if◌then◌else◌, List, [], ◌∷◌, length, map, take, drop, Option, Some, None, IfSome, Result, Ok, Err}
 use Rattle.fd_disk.specs.declared.folders.FileName.{FileName}
-use Rattle.fd_core.specs.declared.batch.Pair.{Pair}
-use Rattle.fd_core.specs.declared.table.Entry.{Entry}
-use Rattle.fd_core.specs.Batches.{of_batch}
+use Rattle.fd_entries.specs.declared.batch.Pair.{Pair}
+use Rattle.fd_entries.specs.declared.table.Entry.{Entry}
+use Rattle.fd_entries.specs.Batches.{of_batch}
 use Rattle.fd_index.specs.Records.{Record}
 use Rattle.fd_index.specs.Reading.{index_at}
 

@@ -2,7 +2,7 @@
 use Rattle.std.specs.Prelude.{◌≡◌, ℕ, List, map, All}
 use Rattle.std.specs.declared.sync.Arc.{Arc}
 use Rattle.std.specs.Arc.{arc_value}
-use Rattle.fd_core.specs.declared.table.Entry.{Entry}
+use Rattle.fd_entries.specs.declared.table.Entry.{Entry}
 use Rattle.fd_segment.specs.Held.{Standing}
 
 -- the segments are of the dataset with this text

@@ -10,8 +10,8 @@ ghost use Rattle.fd_segment.specs.Held.{IsIndexOf};
 
 use crate::copying::copy_pieces;
 use crate::fault::{CopyFault, Damage, LensFault};
-use fd_core::Entry;
 use fd_disk::{FileKind, FileName, Reader};
+use fd_entries::Entry;
 use fd_index::{Index, IndexFault};
 use fd_io::Sink;
 use fd_pages::{Paged, PagedFault};

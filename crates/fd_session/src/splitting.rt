@@ -2,7 +2,8 @@
 ghost use Rattle.std.specs.Prelude.{◌≡◌, ◌<◌, ◌^◌, List, ℕ, Some, IfOk, IfErr, OnOk, length};
 ghost use Rattle.fd_sections.specs.Stream.{stream};
 ghost use Rattle.fd_session.specs.Inputs.{refusal_of};
-ghost use Rattle.fd_session.specs.Splits.{HasGiven, IsWaiting, Measures};
+ghost use Rattle.fd_sections.specs.Joining.{IsWaiting};
+ghost use Rattle.fd_session.specs.Splits.{HasGiven, Measures};
 ghost use Rattle.fd_session.specs.Split.{IsRefusal, IsSplit, Splits};
 
 use fd_bytes::{Bytes, Items, NoMemory};

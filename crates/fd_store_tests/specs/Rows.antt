@@ -1,7 +1,7 @@
 -- Listings of which no batch is told, for the small lists of the tests.
 use Rattle.std.specs.Prelude.{List, map, Option, None, Some}
-use Rattle.fd_core.specs.declared.table.Entry.{Entry}
-use Rattle.fd_core.specs.declared.batch.Listing.{Listing}
+use Rattle.fd_entries.specs.declared.table.Entry.{Entry}
+use Rattle.fd_entries.specs.declared.batch.Listing.{Listing}
 
 abbrev pub untold : Entry → Listing
 untold e = record { entry = e; batch = None }

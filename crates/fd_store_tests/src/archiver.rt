@@ -7,10 +7,10 @@ ghost use Rattle.fd_turn.specs.declared.view.Lock.TheVariants.{Free};
 ghost use Rattle.fd_turn.specs.Passes.{view, IsOf};
 
 use fd_archiver::*;
-use fd_core::Entry;
 use fd_dataset::{Dataset, DatasetPass, Receipt};
 use fd_disk::{Disk, FileKind, FileName, Folder, Sealed, Shelf, Store};
 use fd_disk_mem::{MemDisk, MemFault, MemFolder, MemShelf, MemStore, Op};
+use fd_entries::Entry;
 use fd_schema::Place;
 use fd_segment::Room;
 use fd_toc::Toc;
@@ -373,10 +373,4 @@ fn two_batches_of_one_writer(rt: HostRuntime) -> Result<(), Fail> {
     };
     assert_eq!(rt; two_entries(&rt, rt.alloc())?, (want, next));
     Ok(())
-}
-
-fn moved<T: Send>(_: &T) {}
-
-fn archiver_is_moved<F: Send, H: Shelf<F>>(archiver: &Archiver<F, H>) {
-    moved(archiver);
 }

@@ -2,10 +2,10 @@
 ghost use Rattle.std.specs.Prelude.{◌≡◌, [], length, false, None, IfOk, codes};
 ghost use Rattle.fd_disk.specs.declared.folders.FileName.{FileName};
 
-use fd_core::Entry;
 use fd_dataset::*;
 use fd_disk::{Disk, Folder, Shelf, Store};
 use fd_disk_mem::{MemDisk, MemFault, MemFolder, MemStore};
+use fd_entries::Entry;
 use fd_segment::{Draft, Room, Segment};
 use fd_toc::Toc;
 use std::alloc::Global;

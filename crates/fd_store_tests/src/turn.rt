@@ -6,7 +6,7 @@ ghost use Rattle.fd_turn.specs.Views.{first_view};
 ghost use Rattle.fd_turn.specs.Passes.{identity, view, IsOf};
 
 use fd_bytes::NoMemory;
-use fd_core::Entry;
+use fd_entries::Entry;
 use fd_turn::{Board, Guarded, Handed, Pass};
 use std::alloc::Global;
 use std::process::Abort;

@@ -3,6 +3,7 @@ ghost use Rattle.std.specs.Prelude.{◌≡◌, ◌≤◌, false, true, IfOk, OnO
 
 use fd_disk::{Disk, Folder, Store};
 use fd_disk_mem::{MemDisk, MemFault, MemFolder, MemStore, Op};
+use fd_entries::every_table;
 use fd_toc::*;
 use std::alloc::Global;
 use std::test::Fail;
@@ -236,6 +237,7 @@ const fn number(number: u32) -> Seen {
 
 #[test]
 fn bytes_of_a_table(rt: HostRuntime) -> Result<(), Fail> {
+    every_table();
     let alloc = rt.alloc();
     let mut want = b"FDTOC001\0\x03a=1".to_vec(alloc)?;
     want.resize(321, 0)?;

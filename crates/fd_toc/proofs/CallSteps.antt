@@ -4,10 +4,10 @@ use Rattle.fd_disk.specs.declared.file.File.{File}
 use Rattle.fd_disk.specs.Folders.{WhereTold}
 use Rattle.fd_disk.specs.Images.{IsImage, overwritten, synced, written}
 use Rattle.fd_disk.specs.Moments.{MayLeave}
-use Rattle.fd_core.specs.declared.table.Entry.{Entry}
-use Rattle.fd_core.specs.Table.{Fits, body_of, gate_at}
-use Rattle.fd_core.specs.Standing.{IsInDoubt, IsSettled}
-use Rattle.fd_core.proofs.StandingLemmas.{body_staged, disturbed_front, doubt_image, gate_opened, loosened_doubt, loosened_settled, mended, settled_image, staged_doubt, synced_settled, written_settled}
+use Rattle.fd_entries.specs.declared.table.Entry.{Entry}
+use Rattle.fd_entries.specs.Table.{Fits, body_of, gate_at}
+use Rattle.fd_entries.specs.Standing.{IsInDoubt, IsSettled}
+use Rattle.fd_entries.proofs.StandingLemmas.{body_staged, disturbed_front, doubt_image, gate_opened, loosened_doubt, loosened_settled, mended, settled_image, staged_doubt, synced_settled, written_settled}
 use Rattle.fd_toc.specs.Lists.{Lists, ListsOrAlso}
 use Rattle.fd_toc.specs.Sound.{IsSound}
 use Rattle.fd_toc.specs.Writes.{IsUnsynced, LeftMeanwhile}

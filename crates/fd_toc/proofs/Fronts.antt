@@ -3,11 +3,11 @@ use Rattle.std.proofs.Common.{◌≡◌, inl, inr, ℕ, zero, suc, ◌+◌, ◌-
 use Rattle.std.proofs.lemmas.List.{drop-take, take-take}
 use Rattle.std.specs.Prelude.{◌==◌, if◌then◌else◌}
 use Rattle.std.specs.Int.{w32, w64, to_be_bytes, from_be_bytes}
-use Rattle.fd_core.proofs.Slots.{length-header}
-use Rattle.fd_core.specs.declared.table.Entry.{Entry}
+use Rattle.fd_entries.proofs.Slots.{length-header}
+use Rattle.fd_entries.specs.declared.table.Entry.{Entry}
 use Rattle.fd_disk.specs.declared.file.File.{File}
-use Rattle.fd_core.specs.Table.{IsTable, table_of, slots_of, mismatch, any_octets, fixed, header, exceeds, entry_fault, entry_in, or_else, unless_fault, with_entry, run_from, listed, gate_at, greatest_writer}
-use Rattle.fd_core.specs.declared.table.NotATable.{NotATable}
+use Rattle.fd_entries.specs.Table.{IsTable, table_of, slots_of, mismatch, any_octets, fixed, header, exceeds, entry_fault, entry_in, or_else, unless_fault, with_entry, run_from, listed, gate_at, greatest_writer}
+use Rattle.fd_entries.specs.declared.table.NotATable.{NotATable}
 use Rattle.fd_toc.specs.Lists.{IsFront}
 
 -- a pattern is compared with no more octets than it has

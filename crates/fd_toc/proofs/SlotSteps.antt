@@ -1,10 +1,10 @@
 -- A table is read slot by slot.
 use Rattle.std.proofs.Common.{◌≡◌, inl, inr, ℕ, zero, suc, ◌+◌, ◌<◌, ◌==◌, if◌then◌else◌, Bool, List, [], ◌∷◌, ◌++◌, drop, refl, sym, ◌∙◌, ap, subst, arith, append_assoc, Option, Some, None, Result, Ok, Err}
 use Rattle.std.proofs.lemmas.List.{append-nil, length_push}
-use Rattle.fd_core.proofs.Inverse.{is_or_not}
-use Rattle.fd_core.specs.declared.table.Entry.{Entry}
-use Rattle.fd_core.specs.declared.table.NotATable.{NotATable}
-use Rattle.fd_core.specs.Table.{header, fixed, mismatch, listed, gate_at, entry_fault, entry_in, with_entry, unless_fault, run_from}
+use Rattle.fd_entries.proofs.Inverse.{is_or_not}
+use Rattle.fd_entries.specs.declared.table.Entry.{Entry}
+use Rattle.fd_entries.specs.declared.table.NotATable.{NotATable}
+use Rattle.fd_entries.specs.Table.{header, fixed, mismatch, listed, gate_at, entry_fault, entry_in, with_entry, unless_fault, run_from}
 use Rattle.fd_toc.specs.declared.parse.Slot.{Slot}
 use Rattle.fd_toc.specs.declared.parse.Slot.TheVariants.{Bad, End, Next}
 use Rattle.fd_toc.specs.declared.parse.ReadFault.{ReadFault}

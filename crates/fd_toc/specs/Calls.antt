@@ -2,8 +2,8 @@
 use Rattle.std.specs.Prelude.{◌≡◌, ◌⊎◌, ◌+◌, ℕ, [], ◌∷◌, ◌++◌, Option, Some, None, IsSome}
 use Rattle.fd_disk.specs.declared.file.File.{File}
 use Rattle.fd_disk.specs.Images.{synced}
-use Rattle.fd_core.specs.declared.table.Entry.{Entry}
-use Rattle.fd_core.specs.Table.{body_of, gate_at, with_body, with_closed, with_gate}
+use Rattle.fd_entries.specs.declared.table.Entry.{Entry}
+use Rattle.fd_entries.specs.Table.{body_of, gate_at, with_body, with_closed, with_gate}
 use Rattle.fd_toc.specs.Writes.{IsUnsynced}
 
 -- gate n is closed

@@ -1,6 +1,6 @@
 -- The causes of an append and of a load that fail.
 use Rattle.std.specs.Prelude.{◌≡◌, ◌<◌, ℕ, Result, Ok, Err}
-use Rattle.fd_core.specs.declared.table.NotATable as bad
+use Rattle.fd_entries.specs.declared.table.NotATable as bad
 use Rattle.fd_toc.specs.declared.faults.AppendFault.{AppendFault}
 use Rattle.fd_toc.specs.declared.faults.AppendFault.TheVariants as append
 use Rattle.fd_toc.specs.declared.faults.LoadFault.{LoadFault}

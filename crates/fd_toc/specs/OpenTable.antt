@@ -1,6 +1,6 @@
 -- What contracts see of a table of contents that is held open.
 use Rattle.std.specs.Prelude.{ℕ, List, Option}
-use Rattle.fd_core.specs.declared.table.Entry.{Entry}
+use Rattle.fd_entries.specs.declared.table.Entry.{Entry}
 
 pub record OpenTable (T : Type 0) : Type 0 where
   pub table : T

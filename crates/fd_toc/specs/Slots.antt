@@ -1,8 +1,8 @@
 -- A table is read slot by slot.
 use Rattle.std.specs.Prelude.{◌≡◌, ◌==◌, ◌+◌, length, if◌then◌else◌, ℕ, List, [], ◌∷◌, ◌++◌, Option, Some, None, Result, Ok, Err}
-use Rattle.fd_core.specs.declared.table.Entry.{Entry}
-use Rattle.fd_core.specs.declared.table.NotATable.{NotATable}
-use Rattle.fd_core.specs.Table.{gate_at, entry_fault, entry_in, with_entry, run_from}
+use Rattle.fd_entries.specs.declared.table.Entry.{Entry}
+use Rattle.fd_entries.specs.declared.table.NotATable.{NotATable}
+use Rattle.fd_entries.specs.Table.{gate_at, entry_fault, entry_in, with_entry, run_from}
 use Rattle.fd_toc.specs.declared.parse.Slot.{Slot}
 use Rattle.fd_toc.specs.declared.parse.Slot.TheVariants.{Bad, End, Next}
 use Rattle.fd_toc.specs.declared.parse.ReadFault.{ReadFault}

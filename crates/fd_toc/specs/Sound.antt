@@ -1,9 +1,9 @@
 -- What holds of a table that is held open.
 use Rattle.std.specs.Prelude.{◌<◌, ◌≤◌, List, length, Option, Some, None, MatchOption, IfSome, IsSome, ℕ}
 use Rattle.fd_disk.specs.declared.file.File.{File}
-use Rattle.fd_core.specs.declared.table.Entry.{Entry}
-use Rattle.fd_core.specs.Standing.{IsSettled, IsStaged, IsInDoubt}
-use Rattle.fd_core.specs.Table.{AllFit, Fits}
+use Rattle.fd_entries.specs.declared.table.Entry.{Entry}
+use Rattle.fd_entries.specs.Standing.{IsSettled, IsStaged, IsInDoubt}
+use Rattle.fd_entries.specs.Table.{AllFit, Fits}
 
 -- settled, with the body of a staged entry in its place; or in doubt
 abbrev pub IsSound : List ℕ → List Entry → Option Entry → Option Entry → File → Type 0

@@ -1,6 +1,6 @@
 ghost use Rattle.std.specs.Prelude.{◌≡◌, ◌≤◌, ◌++◌, [], ◌∷◌, length, IfOk, Ok, codes};
 ghost use Rattle.std.specs.Int.{w16, to_be_bytes};
-ghost use Rattle.fd_core.specs.Table.{header, listed};
+ghost use Rattle.fd_entries.specs.Table.{header, listed};
 
 use crate::Toc;
 use fd_bytes::NoMemory;

@@ -10,5 +10,5 @@ mod parse;
 mod toc;
 
 pub use faults::{AppendFault, LoadFault};
-pub use fd_core::Entry;
+pub use fd_entries::Entry;
 pub use toc::Toc;

@@ -3,15 +3,15 @@ ghost use Rattle.fd_bytes.specs.Causes.{Rose};
 ghost use Rattle.fd_disk.specs.Causes.{OnFault};
 ghost use Rattle.fd_disk.specs.Images.{synced};
 ghost use Rattle.fd_disk.specs.Moments.{LeavesOnly, MayLeave};
-ghost use Rattle.fd_core.specs.Table.{AllFit, IsTable, listed};
+ghost use Rattle.fd_entries.specs.Table.{AllFit, IsTable, listed};
 ghost use Rattle.fd_toc.specs.Lists.{IsFront, Lists};
 ghost use Rattle.fd_toc.specs.Causes.{OnNotATable, OnLoadDisk, UnlessLoadDisk};
 
 use crate::parse::{ReadFault, parsed};
 use crate::{LoadFault, Toc};
 use fd_bytes::Bytes;
-use fd_core::Entry;
 use fd_disk::{Disk, Down};
+use fd_entries::Entry;
 use std::alloc::Global;
 
 /// The octets up to the gate behind the last slot: a header of 320, 65,535 slots of 64, and a gate.

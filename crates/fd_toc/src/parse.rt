@@ -1,9 +1,9 @@
 ghost use Rattle.std.specs.Prelude.{◌≡◌, ◌≤◌, ◌<◌, ◌+◌, ◌*◌, ◌^◌, [], ◌∷◌, ◌++◌, Option, Some, None, Ok, Err, length, IfOk, MatchResult, replicate};
-ghost use Rattle.fd_core.specs.Table.{mismatch, fixed, any_octets, exceeds, entry_fault, run_from, listed, IsTable};
+ghost use Rattle.fd_entries.specs.Table.{mismatch, fixed, any_octets, exceeds, entry_fault, run_from, listed, IsTable};
 ghost use Rattle.fd_toc.specs.Slots.{slot_at, last_fault, OnNot, IfNext};
 
 use crate::found::header_bytes;
-use fd_core::{Entry, NotATable};
+use fd_entries::{Entry, NotATable};
 use std::alloc::Global;
 
 /// A slot of a table.

@@ -2,7 +2,7 @@ ghost use Rattle.std.specs.Prelude.{◌≡◌, ◌⊎◌, ◌≤◌, ◌<◌, �
 ghost use Rattle.fd_bytes.specs.Causes.{HasCause, Rose};
 ghost use Rattle.fd_disk.specs.Folders.{WhereTold};
 ghost use Rattle.fd_disk.specs.Moments.{LeavesOnly, MayLeave};
-ghost use Rattle.fd_core.specs.Table.{AllFit, gate_at, greatest_writer};
+ghost use Rattle.fd_entries.specs.Table.{AllFit, gate_at, greatest_writer};
 ghost use Rattle.fd_toc.specs.Causes.{IsFullAt, OnAppendDisk, OnFull};
 ghost use Rattle.fd_toc.specs.Lists.{Lists, ListsOrAlso, ListsOrOneMore};
 ghost use Rattle.fd_toc.specs.Sound.{IsOpen};
@@ -11,8 +11,8 @@ ghost use Rattle.fd_toc.specs.Calls.{AppendFails, BodyFails, ClosingFails, Openi
 use crate::AppendFault;
 use crate::firm::write_firm;
 use fd_bytes::{Bytes, NoMemory};
-use fd_core::Entry;
 use fd_disk::Disk;
+use fd_entries::Entry;
 use std::marker::{Model, PhantomData};
 
 // The byte of an open gate, and that of a closed gate as it is written.

@@ -3,7 +3,7 @@ use Rattle.std.proofs.Common.{◌≡◌, ℕ, ◌+◌, ◌%◌, ◌^◌, ◌<◌
 use mathlib.Core.Option as maybe
 use mathlib.Core.List.{IsPrefix}
 use Rattle.atomic_table.specs.Table.{State, Me, step, keeps, Allows, rest}
-use Rattle.fd_core.specs.declared.batch.Listing.{Listing}
+use Rattle.fd_entries.specs.declared.batch.Listing.{Listing}
 use Rattle.fd_turn.specs.declared.view.SeatView.{SeatView}
 use Rattle.fd_turn.specs.declared.view.Subject.{Subject}
 use Rattle.fd_turn.specs.declared.view.Turn.TheVariants.{Holder}

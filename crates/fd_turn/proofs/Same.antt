@@ -2,9 +2,9 @@
 use Rattle.std.proofs.Common.{◌≡◌, ℕ, refl, ap, Option, arith}
 use base.Stored.{Gv, gnil, gnum, gcons, Coded, num}
 use Rattle.std.specs.Coded.{coded_option}
-use Rattle.fd_core.specs.contracts.batch.Listing.{the_row}
+use Rattle.fd_entries.specs.contracts.batch.Listing.{the_row}
 use native.Mathlib.Decide.{ℕ_discrete}
-use Rattle.fd_core.specs.declared.batch.Listing.{Listing}
+use Rattle.fd_entries.specs.declared.batch.Listing.{Listing}
 
 abbrev kind : Gv → ℕ
 kind gnil = 0

@@ -1,6 +1,6 @@
 -- What is left of the doubts when an owner gives the state back. Listings are plain data, so two of them are the same or not.
 use Rattle.std.proofs.Common.{◌≡◌, ◌≢◌, ◌⊎◌, List, [], ◌∷◌, sym, refl, ap, ◌∙◌, inl, inr, Option, Some, None}
-use Rattle.fd_core.specs.declared.batch.Listing.{Listing}
+use Rattle.fd_entries.specs.declared.batch.Listing.{Listing}
 use Rattle.fd_turn.specs.declared.view.Lock.{Lock}
 use Rattle.fd_turn.specs.declared.view.Lock.TheVariants.{Free, Owner}
 use Rattle.fd_turn.specs.Views.{Settles}

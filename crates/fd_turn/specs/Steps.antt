@@ -2,7 +2,7 @@
 use Rattle.std.specs.Prelude.{◌≡◌, ◌≢◌, ℕ, ◌+◌, ◌≤◌, List, [], ◌∷◌, length, Option, Some, Contains, true, false}
 use mathlib.Core.List.{IsPrefix}
 use Rattle.atomic_table.specs.Table.{Me, Step, rest}
-use Rattle.fd_core.specs.declared.batch.Listing.{Listing}
+use Rattle.fd_entries.specs.declared.batch.Listing.{Listing}
 use Rattle.fd_turn.specs.declared.view.SeatView.{SeatView}
 use Rattle.fd_turn.specs.declared.view.Subject.{Subject}
 use Rattle.fd_turn.specs.declared.view.Turn.TheVariants.{Away, Holder}

@@ -1,6 +1,6 @@
 -- What contracts see of a pass, as plain data, and what the calls of a board make of it.
 use Rattle.std.specs.Prelude.{◌≡◌, ◌≢◌, ℕ, Bool, ◌+◌, ◌-◌, ◌^◌, List, [], ◌∷◌, ◌++◌, length, Option, Some, None, cond, nat_lt}
-use Rattle.fd_core.specs.declared.batch.Listing.{Listing}
+use Rattle.fd_entries.specs.declared.batch.Listing.{Listing}
 use Rattle.fd_turn.specs.declared.view.Lock.{Lock}
 use Rattle.fd_turn.specs.declared.view.Lock.TheVariants.{Free, Owner}
 

@@ -1,6 +1,6 @@
 //! What a board asks of its value and of its state.
 ghost use Rattle.std.specs.Prelude.{◌≡◌, ℕ, Bool, List, Option, IfOk};
-ghost use Rattle.fd_core.specs.declared.batch.Listing.{Listing};
+ghost use Rattle.fd_entries.specs.declared.batch.Listing.{Listing};
 
 use fd_bytes::NoMemory;
 use std::alloc::Global;

@@ -1,5 +1,5 @@
 //! What the seats of a board's table know. All of it is data for contracts and proofs: no value of these types is made.
-use fd_core::Listing;
+use fd_entries::Listing;
 use std::collections::LinkedList;
 
 /// Whether a seat has the turn for the value.

@@ -1,7 +1,7 @@
 //! The lock of the state.
 ghost use Rattle.std.specs.Prelude.{◌≡◌, ◌+◌, ◌<◌, List, ◌∷◌, length, Option, Some, Contains};
 ghost use mathlib.Core.List.{IsPrefix};
-ghost use Rattle.fd_core.specs.declared.batch.Listing.{Listing};
+ghost use Rattle.fd_entries.specs.declared.batch.Listing.{Listing};
 ghost use Rattle.fd_turn.specs.declared.view.Lock.TheVariants.{Free, Owner};
 ghost use Rattle.fd_turn.specs.Views.{all_parts, IsOwner, Settles};
 ghost use Rattle.fd_turn.specs.Seats.{owner_seat};

@@ -1,7 +1,7 @@
 //! The turn for the value: looking and posting.
 ghost use Rattle.std.specs.Prelude.{◌≡◌, ◌+◌, ◌^◌, ◌<◌, List, [], ◌∷◌, ◌++◌, length, Option, IfOk, OnErr, false};
 ghost use mathlib.Core.List.{IsPrefix};
-ghost use Rattle.fd_core.specs.declared.batch.Listing.{Listing};
+ghost use Rattle.fd_entries.specs.declared.batch.Listing.{Listing};
 ghost use Rattle.fd_turn.specs.declared.view.Lock.TheVariants.{Free, Owner};
 ghost use Rattle.fd_turn.specs.declared.view.Turn.TheVariants.{Away, Holder};
 ghost use Rattle.fd_turn.specs.Views.{all_parts, IsOwner};

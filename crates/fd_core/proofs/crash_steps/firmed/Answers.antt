@@ -4,7 +4,7 @@ use Rattle.fd_disk.specs.Images.{firm_file}
 use Rattle.fd_core.specs.declared.machine.NamedFile.{NamedFile}
 use Rattle.fd_core.specs.Machine.{firmed, has_image, have_images}
 use Rattle.fd_core.proofs.CrashSteps.{firmed_step, images_step, left_for}
-use Rattle.fd_core.proofs.Keeping.{both}
+use Rattle.fd_entries.proofs.BatchSums.{both}
 use Rattle.fd_core.proofs.crash_steps.firmed.Goals as goal
 
 pub at-requires : goal.at-requires

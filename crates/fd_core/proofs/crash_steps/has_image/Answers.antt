@@ -1,7 +1,7 @@
 use Rattle.std.proofs.Common.{◌≡◌, length, sym, ◌∙◌, ap}
 use Rattle.std.proofs.lemmas.Bool.{eqb-true}
-use Rattle.fd_core.specs.Batches.{same_bytes}
-use Rattle.fd_core.proofs.BatchSums.{same_as_eq}
+use Rattle.fd_entries.specs.Batches.{same_bytes}
+use Rattle.fd_entries.proofs.BatchSums.{same_as_eq}
 use Rattle.fd_core.proofs.CrashSteps.{settled_test}
 use Rattle.fd_core.proofs.crash_steps.has_image.Goals as goal
 

@@ -8,7 +8,7 @@ use Rattle.fd_core.proofs.FailSteps.{fail_body_done}
 use Rattle.fd_core.specs.Took.{IsAt}
 use Rattle.fd_core.specs.declared.machine.Phase.TheVariants.{Holding}
 use Rattle.fd_core.proofs.FillSteps.{body_written, count_few, place_bounded}
-use Rattle.fd_core.specs.Table.{gate_at}
+use Rattle.fd_entries.specs.Table.{gate_at}
 use Rattle.fd_core.proofs.fail_steps.fail_body.Goals as goal
 
 pub entry_of-requires : goal.entry_of-requires

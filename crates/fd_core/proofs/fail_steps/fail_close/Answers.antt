@@ -9,7 +9,7 @@ use Rattle.fd_core.specs.Took.{IsAt}
 use Rattle.fd_core.specs.declared.machine.Phase.TheVariants.{Holding}
 use Rattle.fd_core.proofs.FillSteps.{count_few}
 use Rattle.fd_disk.specs.Images.{written}
-use Rattle.fd_core.specs.Table.{gate_at}
+use Rattle.fd_entries.specs.Table.{gate_at}
 use Rattle.fd_core.proofs.fail_steps.fail_close.Goals as goal
 
 pub gate_at-gate-requires : goal.gate_at-gate-requires

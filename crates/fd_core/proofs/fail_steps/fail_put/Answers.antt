@@ -6,7 +6,7 @@ use Rattle.fd_core.specs.declared.machine.Step.TheVariants.{Fail}
 use Rattle.fd_core.proofs.Reached.{reached_step}
 use Rattle.fd_core.proofs.FailSteps.{fail_put_done}
 use Rattle.fd_core.specs.Machine.{fields_name, writer_of}
-use Rattle.fd_core.specs.Batches.{total}
+use Rattle.fd_entries.specs.Batches.{total}
 use Rattle.fd_core.specs.declared.machine.Phase.TheVariants.{Filling}
 use Rattle.fd_core.proofs.fail_steps.fail_put.Goals as goal
 

@@ -3,7 +3,7 @@ use Rattle.fd_core.specs.World.{World}
 use Rattle.fd_core.specs.Machine.{writer_in}
 use Rattle.fd_core.specs.declared.machine.Writer.{Writer}
 use Rattle.fd_core.proofs.Reached.{reached_up}
-use Rattle.fd_core.proofs.SlotNumbers.{lists_some}
+use Rattle.fd_core.proofs.TableReads.{lists_some}
 use Rattle.fd_core.proofs.FailSteps.{first_fits}
 use Rattle.fd_core.proofs.fail_steps.first_seq.Goals as goal
 

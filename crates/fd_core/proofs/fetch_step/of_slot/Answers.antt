@@ -2,9 +2,9 @@ use Rattle.std.proofs.Common.{◌≡◌, ◌+◌, ◌<◌, ◌≤◌, false, ℕ
 use Rattle.fd_disk.specs.declared.folders.FileName.{FileName}
 use Rattle.fd_disk.specs.declared.folders.FileKind.{FileKind}
 use Rattle.fd_disk.specs.declared.folders.FileKind.TheVariants.{Fields, Index}
-use Rattle.fd_core.specs.declared.table.Entry.{Entry}
-use Rattle.fd_core.specs.Table.{entry_in, gate_at}
-use Rattle.fd_core.specs.Batches.{HoldBatch}
+use Rattle.fd_entries.specs.declared.table.Entry.{Entry}
+use Rattle.fd_entries.specs.Table.{entry_in, gate_at}
+use Rattle.fd_entries.specs.Batches.{HoldBatch}
 use Rattle.fd_core.specs.World.{World}
 use Rattle.fd_core.specs.Machine.{file_of}
 use Rattle.fd_core.proofs.Reached.{reached_up}

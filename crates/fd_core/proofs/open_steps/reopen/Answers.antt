@@ -5,9 +5,10 @@ use Rattle.fd_core.specs.Machine.{after}
 use Rattle.fd_core.specs.declared.machine.Step.TheVariants.{Reopen}
 use Rattle.fd_core.proofs.Reached.{reached_step}
 use Rattle.fd_core.proofs.OpenSteps.{down_held, down_lists, reopen_done}
-use Rattle.fd_core.specs.Table.{listed}
-use Rattle.fd_core.specs.Machine.{entries_or_none}
-use Rattle.fd_core.specs.Took.{AllHeld, ListsSome}
+use Rattle.fd_entries.specs.Table.{listed}
+use Rattle.fd_entries.specs.Numbers.{entries_or_none}
+use Rattle.fd_core.specs.Took.{AllHeld}
+use Rattle.fd_entries.specs.Numbers.{ListsSome}
 use Rattle.fd_core.proofs.open_steps.reopen.Goals as goal
 
 pub entries_of-requires : goal.entries_of-requires

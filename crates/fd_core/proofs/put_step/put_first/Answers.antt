@@ -6,7 +6,7 @@ use Rattle.fd_core.specs.declared.machine.Step.TheVariants.{Put}
 use Rattle.fd_core.proofs.Reached.{reached_step}
 use Rattle.fd_core.proofs.PutSteps.{put_first_done}
 use Rattle.fd_core.specs.Machine.{can_put, file_of, filled, put_file, writer_in, writer_of}
-use Rattle.fd_core.specs.declared.batch.Pair.{Pair}
+use Rattle.fd_entries.specs.declared.batch.Pair.{Pair}
 use Rattle.fd_core.specs.declared.machine.Phase.TheVariants.{Filling}
 use Rattle.fd_core.specs.declared.machine.Writer.{Writer}
 use Rattle.fd_disk.specs.Images.{written}

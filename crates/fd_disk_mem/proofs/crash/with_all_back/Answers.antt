@@ -1,10 +1,10 @@
 use Rattle.std.proofs.Common.{Option, Some, None, [], sym, subst}
 use Rattle.fd_disk.specs.Outstanding.{IsDatasetImage, all_back}
 use Rattle.fd_disk.proofs.OutstandingLemmas.{table_back}
-use Rattle.fd_disk_mem.specs.Calls.{file_of}
+use Rattle.fd_file_mem.specs.Calls.{file_of}
 use Rattle.fd_disk_mem.specs.Out.{parts_of, shelves_in}
 use Rattle.fd_disk_mem.specs.Slots.{contents_of}
-use Rattle.fd_disk_mem.specs.declared.disk.MemDisk.{MemDisk}
+use Rattle.fd_file_mem.specs.declared.disk.MemDisk.{MemDisk}
 use Rattle.fd_disk_mem.specs.declared.folder.MemFolder.{MemFolder}
 use Rattle.fd_disk_mem.proofs.crash.with_all_back.Goals.{in-Some, in-None}
 use Rattle.fd_disk_mem.proofs.crash.with_all_back.Goals as goal

@@ -1,5 +1,5 @@
 use Rattle.std.proofs.Common.{◌≡◌, ◌≤◌, List, ℕ, length, drop}
-use Rattle.fd_core.specs.declared.batch.Pair.{Pair}
+use Rattle.fd_entries.specs.declared.batch.Pair.{Pair}
 use Rattle.fd_inventory.specs.Counted.{AreKeys}
 use Rattle.fd_inventory.specs.Shown.{AreLengths}
 use Rattle.fd_outcome.specs.Rows.{put_keys}

@@ -2,7 +2,7 @@ use Rattle.std.proofs.Common.{rules, ◌≡◌, ◌+◌, ◌-◌, ◌∙◌, ari
 use Rattle.std.specs.Prelude.{option_map}
 use Rattle.std.proofs.lemmas.Option.{slice_get-map}
 use Rattle.fd_segment.specs.Held.{Standing}
-use Rattle.fd_core.specs.declared.table.Entry.{Entry}
+use Rattle.fd_entries.specs.declared.table.Entry.{Entry}
 use Rattle.fd_inventory.proofs.Counts.{sums_more}
 use Rattle.fd_inventory.proofs.counting.sums.Goals as goal
 

@@ -1,5 +1,5 @@
 use Rattle.std.proofs.Common.{◌≡◌, ◌≤◌, List, ℕ, length, map, drop}
-use Rattle.fd_core.specs.declared.batch.Pair.{Pair}
+use Rattle.fd_entries.specs.declared.batch.Pair.{Pair}
 use Rattle.fd_dataset.specs.Listed.{listing}
 use Rattle.fd_inventory.specs.Shown.{AreRows}
 use Rattle.fd_inventory.specs.Indexes.{Tells}

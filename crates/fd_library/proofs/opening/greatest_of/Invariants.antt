@@ -1,5 +1,5 @@
 use Rattle.std.proofs.Common.{◌≤◌, ◌*◌, take, All}
-use Rattle.fd_core.specs.declared.table.Entry.{Entry}
+use Rattle.fd_entries.specs.declared.table.Entry.{Entry}
 use Rattle.fd_library.proofs.opening.greatest_of.Given as goal
 
 abbrev pub invariant-loop-entry : goal.invariant-loop-entry

@@ -1,6 +1,6 @@
 use Rattle.std.proofs.Common.{rules, ◌≡◌, ◌∙◌, IfSome, List, Ok, is_some, subst, true}
-use Rattle.fd_core.specs.declared.table.Entry.{Entry}
-use Rattle.fd_core.specs.Table.{listed}
+use Rattle.fd_entries.specs.declared.table.Entry.{Entry}
+use Rattle.fd_entries.specs.Table.{listed}
 use Rattle.fd_recovery.specs.Recovered.{AreTakenUp}
 use Rattle.fd_segment.specs.Shared.{standings}
 use Rattle.fd_recovery.proofs.TakingUp.{each_taken, held_taken, own_taken}

@@ -1,6 +1,6 @@
 use Rattle.std.proofs.lemmas.List.{length-map}
 use Rattle.std.proofs.Common.{refl, map, length, ◌≤◌, ◌≡◌, ◌-◌, ◌+◌, ℕ, List, Option, None, arith, ap, ◌∙◌, sym, subst, drop}
-use Rattle.fd_core.specs.Batches.{newest}
+use Rattle.fd_entries.specs.Batches.{newest}
 use Rattle.fd_dataset.specs.Listed.{listing}
 use Rattle.fd_schema.specs.Rules.{file_key}
 use Rattle.fd_schema.specs.Reading.{seen_place}

@@ -1,6 +1,6 @@
 use Rattle.std.proofs.Common.{◌≡◌, ◌≤◌, ◌-◌, List, map, drop, None}
-use Rattle.fd_core.specs.declared.batch.Pair.{Pair}
-use Rattle.fd_core.specs.Batches.{newest}
+use Rattle.fd_entries.specs.declared.batch.Pair.{Pair}
+use Rattle.fd_entries.specs.Batches.{newest}
 use Rattle.fd_dataset.specs.Listed.{listing}
 use Rattle.fd_retriever.specs.Kept.{AreThose, Fits}
 use Rattle.fd_retriever.specs.Answers.{LackBehind, Tells}

@@ -1,5 +1,5 @@
 use Rattle.std.proofs.Common.{◌≡◌, ◌∙◌, ap, sym, subst, Err}
-use Rattle.fd_core.specs.Table.{listed}
+use Rattle.fd_entries.specs.Table.{listed}
 use Rattle.fd_toc.specs.declared.parse.ReadFault.{ReadFault}
 use Rattle.fd_toc.specs.Slots.{OnNot}
 use Rattle.fd_toc.proofs.Fronts.{listed_told, table_told}

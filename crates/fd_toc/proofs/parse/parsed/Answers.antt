@@ -1,8 +1,8 @@
 use Rattle.std.proofs.Common.{◌∙◌, ap, sym, arith}
 use Rattle.std.proofs.lemmas.List.{take_rest}
-use Rattle.fd_core.specs.Table.{run_from}
-use Rattle.fd_core.specs.Table.{AreOctets}
-use Rattle.fd_core.proofs.Inverse.{table_listed}
+use Rattle.fd_entries.specs.Table.{run_from}
+use Rattle.fd_entries.specs.Table.{AreOctets}
+use Rattle.fd_entries.proofs.Inverse.{table_listed}
 use Rattle.fd_toc.proofs.SlotSteps.{listed_bad, listed_runs, on_not}
 use Rattle.fd_toc.proofs.parse.parsed.Goals as goal
 

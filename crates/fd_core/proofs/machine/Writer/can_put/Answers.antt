@@ -1,9 +1,10 @@
 use Rattle.std.proofs.Common.{◌+◌, ◌-◌, ◌^◌, ℕ, nat_lt, length, sym, ◌∙◌, ap, arith}
-use Rattle.fd_core.specs.declared.batch.Pair.{Pair}
+use Rattle.fd_entries.specs.declared.batch.Pair.{Pair}
 use Rattle.fd_core.specs.declared.machine.Phase.TheVariants.{Filling}
-use Rattle.fd_core.specs.Batches.{distinct, rows, total}
-use Rattle.fd_core.specs.Machine.{is_in_phase, with_pair}
-use Rattle.fd_core.proofs.BatchSums.{rows_length_push, total_push}
+use Rattle.fd_entries.specs.Batches.{distinct, rows, total}
+use Rattle.fd_core.specs.Machine.{is_in_phase}
+use Rattle.fd_entries.specs.Batches.{with_pair}
+use Rattle.fd_entries.proofs.BatchSums.{rows_length_push, total_push}
 use Rattle.fd_core.proofs.PutSteps.{last_test, many_bytes, rows_test}
 use Rattle.fd_core.proofs.machine.Writer.can_put.Goals as goal
 

@@ -1,4 +1,4 @@
-use Rattle.std.proofs.Common.{◌≡◌, List, ℕ, ap, subst, sym, ◌∙◌, string_bytes}
+use Rattle.std.proofs.Common.{◌≡◌, List, ℕ, ap, subst, ◌∙◌, string_bytes}
 use Rattle.fd_disk.specs.Folders.{Contents, SameBut, folder_at}
 use Rattle.fd_disk_mem.specs.Out.{parts_of}
 use Rattle.fd_disk_mem.specs.Planning.{holdings}

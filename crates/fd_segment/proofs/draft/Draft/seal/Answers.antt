@@ -1,6 +1,6 @@
 use Rattle.std.proofs.Common.{refl, ap, ◌∙◌, Option}
 use Rattle.std.specs.Prelude.{option_map}
-use Rattle.fd_core.specs.declared.table.Entry.{Entry}
+use Rattle.fd_entries.specs.declared.table.Entry.{Entry}
 use Rattle.fd_disk.specs.declared.file.File.{File}
 use Rattle.fd_index.specs.Pages.{index_of}
 use Rattle.fd_index.proofs.ReadBack.{reads_back}

@@ -2,8 +2,8 @@ use Rattle.std.proofs.Common.{◌≡◌, ℕ, ◌+◌, ◌<◌, List, [], ◌∷
 use Rattle.fd_disk.specs.Folders.{WhereTold}
 use Rattle.fd_disk.specs.Images.{synced, written}
 use Rattle.fd_disk.specs.Moments.{LeavesOnly}
-use Rattle.fd_core.specs.declared.table.Entry.{Entry}
-use Rattle.fd_core.specs.Table.{Fits, body_of, gate_at}
+use Rattle.fd_entries.specs.declared.table.Entry.{Entry}
+use Rattle.fd_entries.specs.Table.{Fits, body_of, gate_at}
 use Rattle.fd_toc.specs.Calls.{BodyFails, bodied}
 use Rattle.fd_toc.specs.Lists.{Lists}
 use Rattle.fd_toc.specs.Sound.{IsSound}

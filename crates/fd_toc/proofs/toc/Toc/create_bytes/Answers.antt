@@ -1,7 +1,7 @@
 use Rattle.std.proofs.Common.{ℕ, List, [], ◌∷◌, ◌++◌, sym, ◌∙◌, ap, arith}
 use Rattle.std.proofs.lemmas.List.{append-nil}
-use Rattle.fd_core.specs.Table.{header}
-use Rattle.fd_core.proofs.Slots.{listed_table}
+use Rattle.fd_entries.specs.Table.{header}
+use Rattle.fd_entries.proofs.Slots.{listed_table}
 use Rattle.fd_toc.proofs.toc.Toc.create_bytes.Goals as goal
 
 pub returns-clause-none : goal.returns-clause-none

@@ -3,9 +3,9 @@ use Rattle.std.proofs.lemmas.List.{length_push}
 use Rattle.fd_disk.specs.Folders.{WhereTold}
 use Rattle.fd_disk.specs.Images.{synced, written}
 use Rattle.fd_disk.specs.Moments.{LeavesOnly}
-use Rattle.fd_core.specs.declared.table.Entry.{Entry}
-use Rattle.fd_core.specs.Table.{Fits, gate_at}
-use Rattle.fd_core.proofs.StandingLemmas.{fit-push}
+use Rattle.fd_entries.specs.declared.table.Entry.{Entry}
+use Rattle.fd_entries.specs.Table.{Fits, gate_at}
+use Rattle.fd_entries.proofs.StandingLemmas.{fit-push}
 use Rattle.fd_toc.specs.Calls.{OpeningFails, opened}
 use Rattle.fd_toc.specs.Lists.{Lists, ListsOrAlso}
 use Rattle.fd_toc.specs.Sound.{IsOpen, IsSound}

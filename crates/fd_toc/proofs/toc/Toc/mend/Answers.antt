@@ -2,7 +2,7 @@ use Rattle.std.proofs.Common.{◌≡◌, ℕ, [], ◌∷◌, length, ◌∙◌, 
 use Rattle.fd_disk.specs.Folders.{WhereTold}
 use Rattle.fd_disk.specs.Images.{synced, written}
 use Rattle.fd_disk.specs.Moments.{LeavesOnly}
-use Rattle.fd_core.specs.Table.{gate_at}
+use Rattle.fd_entries.specs.Table.{gate_at}
 use Rattle.fd_toc.specs.Calls.{ClosingFails, closed}
 use Rattle.fd_toc.specs.Lists.{ListsOrAlso}
 use Rattle.fd_toc.specs.Writes.{IsUnsynced, LeftMeanwhile}

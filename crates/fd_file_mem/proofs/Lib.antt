@@ -1,0 +1,5 @@
+mod BufferLemmas
+mod CallLemmas
+mod KeptLemmas
+mod PlanLemmas
+pub mod Sending

@@ -1,0 +1,235 @@
+// A file in memory that is written.
+ghost use Rattle.std.specs.Prelude.{◌≡◌, ◌≤◌, ◌<◌, ◌+◌, ◌^◌, true, false, Some, length, max, not, is_ok, is_err, OnOk, OnErr, IfOk, option_map};
+ghost use Rattle.fd_bytes.specs.Causes.{Rose, HasCause};
+ghost use Rattle.fd_disk.specs.Images.{IsAfterFailedWrite, loosened, written};
+ghost use Rattle.fd_disk.specs.Moments.{Elapses};
+ghost use Rattle.fd_disk.specs.Folders.{WhereTold};
+ghost use Rattle.fd_disk.specs.Images.{synced};
+ghost use Rattle.fd_disk.specs.Reading.{ReadsBytes};
+ghost use Rattle.fd_file_mem.specs.Calls.{begun, file_of, fits, has_room, new_file, synced_by, extent_by};
+ghost use Rattle.fd_file_mem.specs.Past.{LeftSince};
+ghost use Rattle.fd_file_mem.specs.Left.{IsLeft};
+ghost use Rattle.fd_file_mem.specs.Plans.{FailsByPlan, after_call, is_due};
+
+use crate::plan::{Op, Plan};
+use crate::recorded::{Recorded, Room};
+use crate::sealed::{MemSealed, copied};
+use fd_disk::{Disk, FileName};
+use std::alloc::{AllocError, Global};
+
+/// A fault that was planned, a call beyond the room of a file or of its record, or a call behind the fuse.
+#[derive(Debug, Drop)]
+pub struct MemFault {
+    /// How many faults the object that answered it had met, this one counted.
+    number: u64,
+}
+
+/// A file in memory. It keeps its calls, so that it can tell what a crash at any moment might have left.
+#[derive(Drop)]
+pub struct MemDisk {
+    name: Vec<u8>,
+    made: Option<FileName>,
+    file: Recorded,
+    faults: u64,
+    plan: Plan,
+}
+
+impl MemDisk {
+    /// An empty file, for which all its room is reserved.
+    pub fn empty(
+        alloc: Global,
+        name: Vec<u8>,
+        made: Option<FileName>,
+        plan: Plan,
+        room: Room,
+    ) -> Result<MemDisk, AllocError>
+        ensures name { IfOk result (λ d. d.name.items ≡ name.items) }
+        ensures made { IfOk result (λ d. d.made ≡ made) }
+        ensures file { IfOk result (λ d. d.file ≡ new_file room) }
+        ensures plan { IfOk result (λ d. d.plan ≡ plan) }
+    {
+        Ok(MemDisk {
+            name,
+            made,
+            file: Recorded::empty(alloc, room)?,
+            faults: 0,
+            plan,
+        })
+    }
+
+    /// How many bytes it may have.
+    pub fn size(&self) -> usize
+        ensures { result ≡ self.now.file.size }
+    {
+        self.file.size()
+    }
+
+    /// Begins with these bytes, which are firm.
+    pub fn begin(&mut self, bytes: &[u8])
+        requires { length bytes.now ≤ self.old.file.size }
+        ensures file { self.new.file ≡ begun self.old.file bytes.now }
+        ensures name { self.new.name ≡ self.old.name }
+        ensures plan { self.new.plan ≡ self.old.plan }
+    {
+        self.file.begin(bytes);
+    }
+
+    /// Counts the creation of the file, and says whether it is to fail.
+    pub fn fails_to_begin(&mut self) -> bool
+        ensures same { (self.new.file ≡ self.old.file) × ((self.new.name ≡ self.old.name) × (self.new.made ≡ self.old.made)) }
+        ensures fails { FailsByPlan (is_due Op.Create self.old.plan) self.old.plan.fuse.allowed true (not result) result }
+        ensures asked { self.new.plan ≡ after_call Op.Create self.old.plan }
+    {
+        self.plan.meets(Op::Create)
+    }
+
+    /// The file as it is handed out under a dataset's name.
+    pub fn opened(self, name: Vec<u8>, plan: Plan) -> MemDisk
+        ensures file { result.file ≡ self.file }
+        ensures name { result.name ≡ name }
+        ensures plan { result.plan ≡ plan }
+    {
+        let MemDisk {
+            name: _,
+            made,
+            file,
+            faults,
+            plan: _,
+        } = self;
+        MemDisk {
+            name,
+            made,
+            file,
+            faults,
+            plan,
+        }
+    }
+
+    /// A crash: the file is firm with what is left of it.
+    pub fn crash(&mut self, choice: u64)
+        ensures left { IsLeft choice (file_of self.old.file) self.new.file.start }
+        ensures begun { self.new.file ≡ begun self.old.file self.new.file.start }
+    {
+        self.file.crash(choice);
+    }
+}
+
+impl Disk<MemFault> for MemDisk {
+    ghost use Rattle.fd_file_mem.specs.Calls.{file_of, synced_by, extent_by};
+    ghost use Rattle.fd_file_mem.specs.Past.{LeftSince, now_counts, only_now, reads_told, firm_told};
+    ghost use Rattle.std.specs.Prelude.{ℕ, Option, Some, length, false};
+
+    type Sealed = MemSealed;
+
+    ghost file = { λ d. Some (file_of d.file) };
+
+    ghost is_synced = { λ d. synced_by false d.file.calls };
+
+    ghost extent = { λ d. extent_by 0 d.file.calls };
+
+    ghost moment = { λ d. length d.file.calls };
+
+    ghost left_since = { λ d t c. LeftSince d.file t c };
+
+    ghost faults = { λ d. d.faults };
+
+    ghost name = { λ d. d.name.items };
+
+    ghost made = { λ d. d.made };
+
+    ghost counts_now = { λ d t c le image. now_counts d.file t c le image };
+
+    ghost only_now = { λ d c left. only_now d.file c left };
+
+    ghost reads_image = { λ d f is. reads_told d.file f is };
+
+    ghost synced_firm = { λ d f is synced. firm_told d.file f is synced };
+
+    fn read_at(&mut self, at: u64, into: &mut [u8]) -> Result<usize, MemFault>
+        ensures bytes { ReadsBytes (Some (file_of self.old.file).reads) at into.old into.new result }
+        ensures file { Some (file_of self.new.file) ≡ Some (file_of self.old.file) }
+        ensures synced { synced_by false self.new.file.calls ≡ synced_by false self.old.file.calls }
+        ensures extent { extent_by 0 self.new.file.calls ≡ extent_by 0 self.old.file.calls }
+        ensures name { self.new.name.items ≡ self.old.name.items }
+        ensures made { self.new.made ≡ self.old.made }
+        ensures time { Elapses (length self.old.file.calls) (length self.new.file.calls) (LeftSince self.old.file) (LeftSince self.new.file) (Some (file_of self.new.file)) }
+        ensures cause { HasCause self.old.faults self.new.faults result }
+        ensures fails { FailsByPlan (is_due Op.Read self.old.plan) self.old.plan.fuse.allowed true (is_ok result) (is_err result) }
+        ensures asked { self.new.plan ≡ after_call Op.Read self.old.plan }
+    {
+        if self.plan.meets(Op::Read) {
+            return Err(counted(&mut self.faults));
+        }
+        Ok(copied(self.file.reads(), at, into))
+    }
+
+    /// A write that fails has made its range loose, and a read gives what it gave; beyond the room it has done nothing.
+    fn write_at(&mut self, at: u64, bytes: &[u8]) -> Result<(), MemFault>
+        requires { at + length bytes.now < 2 ^ 63 }
+        ensures ok { OnOk result (Some (file_of self.new.file) ≡ option_map (λ f. written f at bytes.now) (Some (file_of self.old.file))) }
+        ensures err { OnErr result (WhereTold (Some (file_of self.old.file)) (Some (file_of self.new.file)) (λ f g. IsAfterFailedWrite f at (length bytes.now) g)) }
+        ensures loose { OnErr result (fits self.old.file at (length bytes.now) ≡ true → file_of self.new.file ≡ loosened (file_of self.old.file) at (length bytes.now) (file_of self.old.file).reads) }
+        ensures beyond { OnErr result (fits self.old.file at (length bytes.now) ≡ false → file_of self.new.file ≡ file_of self.old.file) }
+        ensures synced { OnOk result (synced_by false self.new.file.calls ≡ false) }
+        ensures synced_err { OnErr result (synced_by false self.new.file.calls ≡ true → synced_by false self.old.file.calls ≡ true) }
+        ensures extent { OnOk result (extent_by 0 self.new.file.calls ≡ max (extent_by 0 self.old.file.calls) (at + length bytes.now)) }
+        ensures extent_err { OnErr result (extent_by 0 self.new.file.calls ≡ extent_by 0 self.old.file.calls) }
+        ensures name { self.new.name.items ≡ self.old.name.items }
+        ensures made { self.new.made ≡ self.old.made }
+        ensures time { Elapses (length self.old.file.calls) (length self.new.file.calls) (LeftSince self.old.file) (LeftSince self.new.file) (Some (file_of self.new.file)) }
+        ensures cause { HasCause self.old.faults self.new.faults result }
+        ensures fails { FailsByPlan (is_due Op.Write self.old.plan) self.old.plan.fuse.allowed (fits self.old.file at (length bytes.now)) (is_ok result) (is_err result) }
+        ensures asked { self.new.plan ≡ after_call Op.Write self.old.plan }
+    {
+        let is_to_fail = self.plan.meets(Op::Write);
+        if !self.file.fits(at, bytes.len()) {
+            return Err(counted(&mut self.faults));
+        }
+        if is_to_fail {
+            self.file.fail_write(at, bytes.len() as u64);
+            return Err(counted(&mut self.faults));
+        }
+        self.file.write(at, bytes);
+        Ok(())
+    }
+
+    fn sync(&mut self) -> Result<(), MemFault>
+        ensures ok { OnOk result (Some (file_of self.new.file) ≡ option_map synced (Some (file_of self.old.file))) }
+        ensures err { OnErr result (Some (file_of self.new.file) ≡ Some (file_of self.old.file)) }
+        ensures synced { OnOk result (synced_by false self.new.file.calls ≡ true) }
+        ensures synced_err { OnErr result (synced_by false self.new.file.calls ≡ synced_by false self.old.file.calls) }
+        ensures extent { extent_by 0 self.new.file.calls ≡ extent_by 0 self.old.file.calls }
+        ensures name { self.new.name.items ≡ self.old.name.items }
+        ensures made { self.new.made ≡ self.old.made }
+        ensures time { Elapses (length self.old.file.calls) (length self.new.file.calls) (LeftSince self.old.file) (LeftSince self.new.file) (Some (file_of self.new.file)) }
+        ensures cause { HasCause self.old.faults self.new.faults result }
+        ensures fails { FailsByPlan (is_due Op.Sync self.old.plan) self.old.plan.fuse.allowed (has_room self.old.file) (is_ok result) (is_err result) }
+        ensures asked { self.new.plan ≡ after_call Op.Sync self.old.plan }
+    {
+        if self.plan.meets(Op::Sync) || !self.file.has_room() {
+            return Err(counted(&mut self.faults));
+        }
+        self.file.sync();
+        Ok(())
+    }
+
+    fn seal(self) -> MemSealed {
+        let MemDisk {
+            name,
+            made,
+            file,
+            faults: _,
+            plan,
+        } = self;
+        MemSealed::new(name, made, file.into_vec(), plan)
+    }
+}
+
+/// Counts a fault.
+pub fn counted(faults: &mut u64) -> MemFault
+    ensures count { Rose faults.old faults.new }
+    ensures later { faults.old ≤ faults.new }
+{
+    *faults = faults.saturating_add(1);
+    MemFault { number: *faults }
+}
