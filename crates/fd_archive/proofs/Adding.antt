@@ -1,6 +1,6 @@
 -- Batches that were added, by the words of the store.
 use Rattle.std.proofs.Common.{ℕ, List, Option}
-use Rattle.fd_core.specs.declared.batch.Pair.{Pair}
+use Rattle.fd_entries.specs.declared.batch.Pair.{Pair}
 use Rattle.fd_outcome.specs.Store.{Adds, AddsAll}
 use Rattle.fd_bulk.specs.Adding.{AddsAllBy, AddsBy}
 

@@ -9,9 +9,9 @@ use Rattle.fd_disk.specs.declared.folders.FileName.{FileName}
 use Rattle.fd_disk.specs.Folders.{Contents, Holdings, WhereTold, folder_at}
 use Rattle.fd_disk.specs.Images.{IsImage, firm_file}
 use Rattle.fd_disk.proofs.NameLemmas.{is_or_not}
-use Rattle.fd_core.specs.declared.batch.Listing.{Listing}
-use Rattle.fd_core.specs.declared.table.Entry.{Entry}
-use Rattle.fd_core.specs.Table.{listed}
+use Rattle.fd_entries.specs.declared.batch.Listing.{Listing}
+use Rattle.fd_entries.specs.declared.table.Entry.{Entry}
+use Rattle.fd_entries.specs.Table.{listed}
 use Rattle.fd_dataset.specs.Listed.{entries_of}
 use Rattle.fd_recovery.specs.Recovered.{batches_listed, held, held_by}
 use Rattle.fd_library.specs.Open.{OpenDataset, Seated, among, names_of}
@@ -52,7 +52,7 @@ some_pair (s ∷ ss) name there none = go (bytes_eq s.dataset name) refl (λ mor
     go false is rest (suc k) lt same e = rest (k, omega (arith, lt), same) e
 
 module _ {D : Type 0} (has : D → Option Contents) where
-  firm_among : (u j t : Holdings) → IsAfterCrash u j → (name : List ℕ) (hs : List (OpenDataset D)) → All (λ (h : OpenDataset D). IsGivenBack has h (folder_at u h.name)) hs → All IsSettled hs → among name (names_of hs) ≡ true → held_of j name ≡ held_with has hs t name
+  pub firm_among : (u j t : Holdings) → IsAfterCrash u j → (name : List ℕ) (hs : List (OpenDataset D)) → All (λ (h : OpenDataset D). IsGivenBack has h (folder_at u h.name)) hs → All IsSettled hs → among name (names_of hs) ≡ true → held_of j name ≡ held_with has hs t name
   firm_among u j t left name [] given settled there = absurd (cc there)
   firm_among u j t left name (h ∷ hs) given settled there = elim (is_or_not (bytes_eq name h.name)) as (λ _. held_of j name ≡ held_with has (h ∷ hs) t name) [
     | inl same ↦

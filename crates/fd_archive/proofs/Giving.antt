@@ -1,100 +1,37 @@
 -- All is given back: what the store holds then.
-use Rattle.std.proofs.Common.{◌≡◌, ◌≢◌, ◌∙◌, ◌≤◌, inl, inr, ℕ, ◌+◌, ◌||◌, Bool, false, List, [], ◌∷◌, ◌++◌, All, Contains, length, map, Option, Some, None, IfSome, IsSome, is_some, unwrap_or, refl, sym, ap, subst, arith, append_assoc, length-append, if◌then◌else◌}
-use Rattle.std.specs.Prelude.{◌/◌, Result, Ok, Err}
-use mathlib.Core.List.{map-append}
+use Rattle.std.proofs.Common.{◌≡◌, ◌∙◌, inl, inr, ℕ, ◌+◌, ◌||◌, Bool, true, false, List, [], ◌∷◌, ◌++◌, All, Contains, length, Option, Some, None, IfSome, IsSome, is_some, unwrap_or, refl, sym, ap, subst, arith, length-append, if◌then◌else◌}
+use Rattle.std.specs.Prelude.{◌⊎◌, Result, Ok, Err}
 use Rattle.std.specs.Str.{bytes_eq}
-use Rattle.std.proofs.lemmas.List.{length-map}
-use Rattle.std.proofs.lemmas.List.Elements.{All-contains, All-head, All-push, All-tail, All-weaker}
+use Rattle.std.proofs.lemmas.List.Elements.{All-contains, All-head, All-tail, All-weaker}
 use Rattle.std.proofs.lemmas.Slice.Eq.{bytes_eq-Decides}
 use Rattle.fd_disk.specs.Folders.{Contents, Holdings, WhereTold, folder_at, no_contents}
-use Rattle.fd_disk.specs.declared.folders.FileName.{FileName}
 use Rattle.fd_disk.proofs.NameLemmas.{is_or_not}
-use Rattle.fd_core.specs.declared.batch.Listing.{Listing}
-use Rattle.fd_core.specs.declared.batch.Pair as batches
-use Rattle.fd_core.specs.declared.table.Entry.{Entry}
-use Rattle.fd_segment.specs.Held.{batch_of}
-use Rattle.fd_dataset.specs.Listed.{entries_of}
-use Rattle.fd_recovery.specs.Recovered.{all_of, batches_listed, files_of, held, held_by}
+use Rattle.fd_entries.specs.declared.batch.Listing.{Listing}
+use Rattle.fd_entries.specs.declared.batch.Pair as batches
+use Rattle.fd_entries.specs.declared.table.Entry.{Entry}
+use Rattle.fd_recovery.specs.Recovered.{held}
 use Rattle.fd_library.specs.Open.{OpenDataset, Seated, among, names_of}
-use Rattle.fd_library.specs.Stores.{GivenBack, GivesBack, HasSeenAll, IsGivenBack, IsSettled, held_by_pass, held_in, held_of, held_with}
+use Rattle.fd_library.specs.Stores.{GivenBack, GivesBack, HasSeenAll, IsGivenBack, IsSettled, KeepsFolder, held_in, held_of, held_with}
 use Rattle.fd_key.specs.Pairs.{Pair}
 use Rattle.fd_schema.specs.Rules.{Rule}
 use Rattle.fd_outcome.specs.Archiving.{Stored, pairs_for, taken}
-use Rattle.fd_outcome.specs.Store.{Adds, AddsAll, Grows, GrowsBy, HasOnly, IsFull, entries_in, if_listed}
+use Rattle.fd_outcome.specs.Store.{Adds, AddsAll, Grows, GrowsBy, IsFull, entries_in, if_listed}
 use Rattle.fd_outcome.proofs.Leaving.{grows_none}
-use Rattle.fd_bulk.specs.Adding.{AddsBy, IsHeldBy, IsOnlyOf}
+use Rattle.fd_bulk.specs.Adding.{AddsBy, IsHeldBy}
 use Rattle.fd_bulk.specs.Archived as bulks
 use Rattle.fd_bulk.specs.Archived.{Archived, GrowsAll, IsBack, IsFront, IsSure, RefusedArchived, StoppedArchived}
 use Rattle.fd_bulk.specs.declared.bulk.Bulk.{Bulk}
 use Rattle.fd_bulk.specs.declared.bulk.BulkFault.{BulkFault}
 use Rattle.fd_bulk.specs.declared.bulk.BulkFault.TheVariants as faults
-use Rattle.fd_archive.specs.Crashing.{IsFirm}
+use Rattle.fd_archive.specs.Crashing.{GrowsFirmly, IsAfterCrash, IsFirm, IsUntouched}
 use Rattle.fd_archive.specs.Kept.{InputKept, IsStop, RefusedKept, StoppedKept}
 use Rattle.fd_archive.proofs.Adding.{adds_all_of, adds_of}
-use Rattle.fd_archive.proofs.Firm.{firm}
-use Rattle.fd_archive.proofs.Tables.{all_both, all_long, few_listed, whole_prefix}
+use Rattle.fd_archive.proofs.Doubting.{CanDoubt, back_grown, crash_grown}
+use Rattle.fd_archive.proofs.Firm.{firm, firm_among}
+use Rattle.fd_archive.proofs.Growing.{firm_same}
+use Rattle.fd_archive.proofs.Tables.{few_listed}
+use Rattle.fd_archive.proofs.Untouched.{firm_kept}
 use Rattle.fd_archive.proofs.Told.{both_told, held_inside, through}
-
--- ---- one dataset
-
--- What an open dataset may have in doubt: each listing is of these pairs, and the files give its batch; one more is few.
-record CanDoubt (workers : ℕ) (pairs : List batches.Pair) (b : List (List batches.Pair)) (files : FileName → Option (List ℕ)) (p : Seated) : Type 0 where
-  seen : p.view.opening + p.view.amount ≡ length p.view.history
-  opening : length b ≡ p.view.opening
-  doubts : All (IsOnlyOf pairs) p.view.doubts
-  files_are : All (IsHeldBy files) p.view.doubts
-  few : p.view.doubts ≢ [] → p.view.amount + 1 ≤ workers + length pairs / 512
-
-module _ (workers : ℕ) (name : List ℕ) (pairs : List batches.Pair) (b : List (List batches.Pair)) (files : Contents) (p : Seated) (v : Contents) (back : GivenBack name (Some files) (Some p) v) (can : CanDoubt workers pairs b files.files p)
-    (adds : AddsBy workers pairs b (held_by_pass (Some files) (Some p))) where
-  abbrev batch_at : Entry → Option (List batches.Pair)
-  batch_at e = batch_of (files_of files.files e)
-
-  entries_are : back.entries ≡ entries_of p.view.history
-  entries_are = whole_prefix (entries_of p.view.history) back.entries back.seen (back.count ∙ can.seen ∙ sym (length-map p.view.history (λ (l : Listing). l.entry)))
-
-  held_as : (es : List Entry) → Rattle.fd_core.specs.Table.listed name back.table.reads ≡ Ok es → held name v ≡ all_of (map batch_at es)
-  held_as es lists = ap (λ (fs : FileName → Option (List ℕ)). held_by name fs v.table) back.files_are ∙ (ap (held_by name files.files) back.table_is ∙ ap (batches_listed files.files) lists)
-
-  -- the table lists also an entry that was in doubt
-  doubted : (l : Listing) → Contains p.view.doubts l → Rattle.fd_core.specs.Table.listed name back.table.reads ≡ Ok (back.entries ++ l.entry ∷ []) → Adds workers pairs b (held name v)
-  doubted l there lists =
-      let only = All-contains (IsOnlyOf pairs) p.view.doubts l can.doubts there in
-      let kept = All-contains (IsHeldBy files.files) p.view.doubts l can.files_are there in
-      let c : List batches.Pair = kept.0 in
-      let first : all_of (map batch_at back.entries) ≡ Some (b ++ adds.added) = ap (λ (es : List Entry). all_of (map batch_at es)) entries_are ∙ adds.after_is in
-      let last : all_of (batch_at l.entry ∷ []) ≡ Some (c ∷ []) = ap (λ (o : Option (List batches.Pair)). all_of (o ∷ [])) kept.2 in
-      let long = all_long (map batch_at (entries_of p.view.history)) (b ++ adds.added) adds.after_is in
-      let count = length-map (entries_of p.view.history) batch_at in
-      let listings = length-map p.view.history (λ (x : Listing). x.entry) in
-      let sum = length-append b adds.added in
-      let more = length-append adds.added (c ∷ []) in
-      let some : p.view.doubts ≢ [] = λ none. let e = ap length none in let lt = there.1 in absurd (omega (arith, lt, e)) in
-      let few = can.few some in
-      let seen = can.seen in
-      let opening = can.opening in
-      record {
-        added = adds.added ++ c ∷ [];
-        after_is =
-            held_as (back.entries ++ l.entry ∷ []) lists
-            ∙ ap all_of (map-append batch_at back.entries (l.entry ∷ []))
-            ∙ all_both (map batch_at back.entries) (batch_at l.entry ∷ []) (b ++ adds.added) (c ∷ []) first last
-            ∙ ap (λ (x : List (List batches.Pair)). Some x) (append_assoc b adds.added (c ∷ []));
-        only = All-push (HasOnly pairs) adds.added c adds.only (only c kept.1);
-        few = omega (arith, long, count, listings, sum, more, few, seen, opening);
-      }
-
-  known_grown : Adds workers pairs b (held name v)
-  known_grown = elim (back.images back.table.reads back.reads) as (λ _. Adds workers pairs b (held name v)) [
-    | inl lists ↦ subst (Adds workers pairs b) (sym (held_as back.entries lists ∙ ap (λ (es : List Entry). all_of (map batch_at es)) entries_are)) (adds_of workers pairs b (held_by_pass (Some files) (Some p)) adds)
-    | inr d ↦ doubted d.0 d.1 d.2
-  ]
-
-back_grown : (workers : ℕ) (name : List ℕ) (pairs : List batches.Pair) (b : List (List batches.Pair)) (o : Option Contents) (p : Option Seated) (v : Contents) → GivenBack name o p v → IfSome o (λ files. IfSome p (CanDoubt workers pairs b files.files))
-    → AddsBy workers pairs b (held_by_pass o p) → Adds workers pairs b (held name v)
-back_grown workers name pairs b None p v back can adds = absurd back
-back_grown workers name pairs b (Some files) None v back can adds = absurd back
-back_grown workers name pairs b (Some files) (Some p) v back can adds = known_grown workers name pairs b files p v back can adds
 
 -- a table that was full is full
 full_back : (name : List ℕ) (o : Option Contents) (p : Option Seated) (v : Contents) → GivenBack name o p v → IfSome p (λ q. q.view.opening + q.view.amount ≡ length q.view.history) → IfSome p (λ q. length q.view.history ≡ 65535)
@@ -170,6 +107,34 @@ module _ {D : Type 0} (has : D → Option Contents) where
           (λ out. others (ap (λ (x : Bool). x || among name (names_of hs)) differs ∙ out)) (subst (AddsBy workers (pairs_for all name) b) (ap (λ (x : Bool). if x then held_in has h else held_with has hs t name) differs) adds)
     ]
 
+    -- the same, whatever a crash leaves
+    among_firm : (j : Holdings) → IsAfterCrash u j → (name : List ℕ) → held_of s name ≡ Some b → (hs : List (OpenDataset D)) → All (IsBack has workers all) hs → All (OpensAs s) hs → All (λ (h : OpenDataset D). IsGivenBack has h (folder_at u h.name)) hs → among name (names_of hs) ≡ true
+        → AddsBy workers (pairs_for all name) b (held_with has hs t name) → Adds workers (pairs_for all name) b (held_of j name)
+    among_firm j left name is [] back openings given there adds = absurd (cc there)
+    among_firm j left name is (h ∷ hs) back openings given there adds = elim (is_or_not (bytes_eq name h.name)) as (λ _. Adds workers (pairs_for all name) b (held_of j name)) [
+      | inl same ↦
+          let one : name ≡ h.name = (bytes_eq-Decides name h.name).0 same in
+          let here : AddsBy workers (pairs_for all name) b (held_in has h) = subst (AddsBy workers (pairs_for all name) b) (held_inside has h hs t name same) adds in
+          let opening = All-head (OpensAs s) h hs openings b (ap (held_of s) (sym one) ∙ is) in
+          subst (λ (m : List ℕ). Adds workers (pairs_for all m) b (held_of j m)) (sym one)
+          (crash_grown workers h.name (pairs_for all h.name) b (has h.folder) h.pass (folder_at u h.name) (folder_at j h.name) (All-head (λ (g : OpenDataset D). IsGivenBack has g (folder_at u g.name)) h hs given)
+          (can_doubt h (All-head (IsBack has workers all) h hs back) opening) (subst (λ (m : List ℕ). AddsBy workers (pairs_for all m) b (held_in has h)) one here) (left.files h.name) (left.tables h.name))
+      | inr differs ↦
+          among_firm j left name is hs (All-tail (IsBack has workers all) h hs back) (All-tail (OpensAs s) h hs openings) (All-tail (λ (g : OpenDataset D). IsGivenBack has g (folder_at u g.name)) h hs given)
+          (sym (ap (λ (x : Bool). x || among name (names_of hs)) differs) ∙ there) (subst (AddsBy workers (pairs_for all name) b) (ap (λ (x : Bool). if x then held_in has h else held_with has hs t name) differs) adds)
+    ]
+
+    abbrev IsFirmAt : List ℕ → Type 0
+    IsFirmAt name = IsUntouched (folder_at s name) (folder_at u name) ⊎ ((j : Holdings) → IsAfterCrash u j → Adds workers (pairs_for all name) b (held_of j name))
+
+    -- a dataset that wasn't open
+    closed_firm : (name : List ℕ) → held_of s name ≡ Some b → KeepsFolder name (folder_at s name) (folder_at t name) → u.folders name ≡ t.folders name → IsFirmAt name
+    closed_firm name is keeps same =
+        elim (firm_kept workers (pairs_for all name) name b (folder_at s name) (folder_at u name) is (subst (λ (o : Option Contents). KeepsFolder name (folder_at s name) (unwrap_or o no_contents)) (sym same) keeps)) as (λ _. IsFirmAt name) [
+          | inl x ↦ inl x
+          | inr f ↦ inr (λ j left. f (folder_at j name) (left.files name) (left.tables name))
+        ]
+
   module _ (workers : ℕ) (all : List Stored) (each : List (OpenDataset D)) (start now later : Option Holdings) (given : WhereTold now later (GivesBack has each)) where
     abbrev HoldsWith : Holdings → Holdings → Type 0
     HoldsWith s t = (n : List ℕ) → held_of t n ≡ held_with has each s n
@@ -189,6 +154,27 @@ module _ {D : Type 0} (has : D → Option Contents) where
         (λ s t u g r. record {
           schema = r.schema ∙ g.schema;
           each = λ name b is. among_grown workers all s t u b name is each back g.openings r.given (r.others name) (g.each_is name b is);
+        })
+
+    -- the same after a crash
+    all_firmly : WhereTold start now (GrowsAll has workers all each) → All (IsBackSure workers all) each → WhereTold start later (GrowsFirmly workers (pairs_for all))
+    all_firmly grows back =
+        through start now later (GrowsAll has workers all each) (GivesBack has each) (GrowsFirmly workers (pairs_for all)) grows given
+        (λ s t u g r. record {
+          each = λ name b is. elim (is_or_not (among name (names_of each))) as (λ _. IsFirmAt workers all s t u b name) [
+            | inl there ↦ inr (λ j left. subst (Adds workers (pairs_for all name) b) (sym (firm_among has u j t left name each r.given (settled workers all each back) there)) (adds_of workers (pairs_for all name) b (held_with has each t name) (g.each_is name b is).adds))
+            | inr out ↦ closed_firm workers all s t u b name is (g.keeps name out) (r.others name out)
+          ];
+        })
+
+    some_firmly : WhereTold start now (bulks.Grows has workers all each) → All (IsBack has workers all) each → WhereTold start later (GrowsFirmly workers (pairs_for all))
+    some_firmly grows back =
+        through start now later (bulks.Grows has workers all each) (GivesBack has each) (GrowsFirmly workers (pairs_for all)) grows given
+        (λ s t u g r. record {
+          each = λ name b is. elim (is_or_not (among name (names_of each))) as (λ _. IsFirmAt workers all s t u b name) [
+            | inl there ↦ inr (λ j left. among_firm workers all s t u b j left name is each back g.openings r.given there (g.each_is name b is))
+            | inr out ↦ closed_firm workers all s t u b name is (g.keeps name out) (r.others name out)
+          ];
         })
 
   is_full : (workers : ℕ) (all : List Stored) (each : List (OpenDataset D)) (now later : Option Holdings) → WhereTold now later (GivesBack has each) → All (IsBack has workers all) each → (h : OpenDataset D) → Contains each h → IfSome h.pass (λ p. length p.view.history ≡ 65535)
@@ -235,14 +221,14 @@ module _ {D : Type 0} (has : D → Option Contents) where
 
       module _ {X : Type 0} where
         refused_kept : (fault : BulkFault X) → RefusedArchived has workers rules pairs left after start now each fault → RefusedKept workers rules pairs left after start later fault
-        refused_kept fault w = record { all = w.all; grows = all_grow workers w.all each start now later given w.grows w.back kept; firm = firm_all w.all w.grows w.back; numbered = w.numbered; refused = w.refused }
+        refused_kept fault w = record { all = w.all; grows = all_grow workers w.all each start now later given w.grows w.back kept; firm = firm_all w.all w.grows w.back; firmly = all_firmly workers w.all each start now later given w.grows w.back; numbered = w.numbered; refused = w.refused }
 
         stopped_kept : (fault : BulkFault X) → StoppedArchived has workers rules pairs left after start now each fault → IsStop workers rules pairs left after start later fault → StoppedKept workers rules pairs left after start later fault
-        stopped_kept fault w stop = record { all = w.all; grows = some_grow workers w.all each start now later given w.grows w.back; front = w.front; stop = stop }
+        stopped_kept fault w stop = record { all = w.all; grows = some_grow workers w.all each start now later given w.grows w.back; firmly = some_firmly workers w.all each start now later given w.grows w.back; front = w.front; stop = stop }
 
         pub kept_of : (r : Result Bulk (BulkFault X)) → Archived has workers rules pairs left after start now each r → InputKept workers rules pairs left after start later r
-        kept_of (Ok bulk) w = record { all = w.all; grows = all_grow workers w.all each start now later given w.grows w.back kept; firm = firm_all w.all w.grows w.back; fields = w.fields; datasets = w.datasets; taken_is = w.taken_is }
-        kept_of (Err (faults.Input f)) w = record { all = w.all; grows = all_grow workers w.all each start now later given w.grows w.back kept; firm = firm_all w.all w.grows w.back; read = w.read }
+        kept_of (Ok bulk) w = record { all = w.all; grows = all_grow workers w.all each start now later given w.grows w.back kept; firm = firm_all w.all w.grows w.back; firmly = all_firmly workers w.all each start now later given w.grows w.back; fields = w.fields; datasets = w.datasets; taken_is = w.taken_is }
+        kept_of (Err (faults.Input f)) w = record { all = w.all; grows = all_grow workers w.all each start now later given w.grows w.back kept; firm = firm_all w.all w.grows w.back; firmly = all_firmly workers w.all each start now later given w.grows w.back; read = w.read }
         kept_of (Err (faults.Message at)) w = refused_kept (faults.Message at) w
         kept_of (Err (faults.Cut t)) w = refused_kept (faults.Cut t) w
         kept_of (Err (faults.Key number fault)) w = refused_kept (faults.Key number fault) w
@@ -261,9 +247,13 @@ same_grown : (workers : ℕ) (start : Option Holdings) → WhereTold start start
 same_grown workers None = tt
 same_grown workers (Some s) = grows_none workers (pairs_for []) s
 
+same_firm : (workers : ℕ) (start : Option Holdings) → WhereTold start start (GrowsFirmly workers (pairs_for []))
+same_firm workers None = tt
+same_firm workers (Some s) = firm_same workers (pairs_for []) s
+
 front_none : (rules : List Rule) (pairs : List Pair) (left : Option (List ℕ)) → IfSome left (λ octets. IsFront [] (taken rules pairs octets))
 front_none rules pairs None = tt
 front_none rules pairs (Some octets) = ((taken rules pairs octets).stored, refl)
 
 pub starved_kept : (X : Type 0) (workers : ℕ) (rules : List Rule) (pairs : List Pair) (left : Option (List ℕ)) (start : Option Holdings) → StoppedKept workers rules pairs left left start start {X = X} faults.NoMemory
-starved_kept X workers rules pairs left start = record { all = []; grows = same_grown workers start; front = front_none rules pairs left; stop = tt }
+starved_kept X workers rules pairs left start = record { all = []; grows = same_grown workers start; firmly = same_firm workers start; front = front_none rules pairs left; stop = tt }

@@ -1,11 +1,13 @@
 -- What more pairs than those that were stored make of a dataset.
-use Rattle.std.proofs.Common.{◌≡◌, ◌≤◌, ℕ, Bool, true, false, List, [], ◌∷◌, ◌++◌, length, Option, refl, sym, ap, subst, arith, length-append, if◌then◌else◌}
+use Rattle.std.proofs.Common.{◌≡◌, ◌≤◌, inl, inr, ℕ, Bool, true, false, List, [], ◌∷◌, ◌++◌, length, Option, refl, sym, ap, subst, arith, length-append, if◌then◌else◌}
+use Rattle.std.specs.Prelude.{◌⊎◌}
 use Rattle.std.specs.Str.{bytes_eq}
 use Rattle.std.proofs.lemmas.List.Elements.{Contains-append_left}
-use Rattle.fd_disk.specs.Folders.{Holdings}
-use Rattle.fd_core.specs.declared.batch.Pair.{Pair}
-use Rattle.fd_outcome.specs.Store.{Adds, Grows, GrowsBy, table_at}
+use Rattle.fd_disk.specs.Folders.{Holdings, folder_at}
+use Rattle.fd_entries.specs.declared.batch.Pair.{Pair}
+use Rattle.fd_outcome.specs.Store.{Adds, Grows, GrowsBy, Sorted, table_at}
 use Rattle.fd_outcome.specs.Archiving.{Stored, pairs_for}
+use Rattle.fd_archive.specs.Crashing.{GrowsFirmly, IsAfterCrash, IsUntouched}
 
 if_both : (p : Pair) (xs ys zs : List Pair) → zs ≡ xs ++ ys → (b : Bool) → (if b then p ∷ zs else zs) ≡ (if b then p ∷ xs else xs) ++ ys
 if_both p xs ys zs e true = ap (λ (ps : List Pair). p ∷ ps) e
@@ -34,3 +36,16 @@ grows_front workers all more h i g = record {
 
 pub grows_of : (workers : ℕ) (all : List Stored) (h i : Holdings) → GrowsBy workers (pairs_for all) h i → Grows workers (pairs_for all) h i
 grows_of workers all h i g = record { schema = g.schema; each = λ name t is. (g.each name t is).adds }
+
+-- ---- after a crash
+
+pub firm_same : (workers : ℕ) (pairs : Sorted) (h : Holdings) → GrowsFirmly workers pairs h h
+firm_same workers pairs h = record { each = λ name t is. inl (record { table = refl; files = refl }) }
+
+pub firm_front : (workers : ℕ) (all more : List Stored) (h i : Holdings) → GrowsFirmly workers (pairs_for all) h i → GrowsFirmly workers (pairs_for (all ++ more)) h i
+firm_front workers all more h i g = record {
+  each = λ name t is. elim (g.each name t is) as (λ _. IsUntouched (folder_at h name) (folder_at i name) ⊎ ((j : Holdings) → IsAfterCrash i j → Adds workers (pairs_for (all ++ more) name) t (table_at j name))) [
+    | inl same ↦ inl same
+    | inr f ↦ inr (λ j left. subst (λ (ps : List Pair). Adds workers ps t (table_at j name)) (sym (pairs_both all more name)) (adds_more workers (pairs_for all name) (pairs_for more name) t (table_at j name) (f j left)))
+  ];
+}

@@ -2,7 +2,10 @@ pub mod Told
 pub mod Growing
 pub mod Tables
 pub mod Adding
+pub mod Doubting
+pub mod Untouched
 pub mod Firm
 pub mod Giving
 pub mod ArchiveExits
 pub mod Outlasting
+pub mod Looked

@@ -2,11 +2,11 @@
 use Rattle.std.proofs.Common.{◌≡◌, ◌∙◌, ◌≤◌, ℕ, zero, suc, ◌+◌, ◌==◌, Bool, true, false, List, [], ◌∷◌, ◌++◌, length, drop, Option, Some, None, option_map, refl, sym, ap, arith, append-nil, length-append, if◌then◌else◌}
 use Rattle.std.specs.Prelude.{Result, Ok, Err}
 use mathlib.Core.List.{IsPrefix}
-use Rattle.fd_core.specs.declared.batch.Pair.{Pair}
-use Rattle.fd_core.specs.declared.table.Entry.{Entry}
-use Rattle.fd_core.specs.declared.table.NotATable.{NotATable}
-use Rattle.fd_core.specs.Table.{entry_fault, entry_in, fixed, gate_at, header, listed, mismatch, run_from, unless_fault, with_entry}
-use Rattle.fd_core.proofs.Inverse.{unless_ok}
+use Rattle.fd_entries.specs.declared.batch.Pair.{Pair}
+use Rattle.fd_entries.specs.declared.table.Entry.{Entry}
+use Rattle.fd_entries.specs.declared.table.NotATable.{NotATable}
+use Rattle.fd_entries.specs.Table.{entry_fault, entry_in, fixed, gate_at, header, listed, mismatch, run_from, unless_fault, with_entry}
+use Rattle.fd_entries.proofs.Inverse.{unless_ok}
 use Rattle.fd_recovery.specs.Recovered.{all_of}
 
 -- ---- a table lists 65,535 entries at most

@@ -3,18 +3,20 @@ use Rattle.std.specs.Prelude.{◌≡◌, ◌⊎◌, ◌++◌, ℕ, List, Option,
 use Rattle.fd_disk.specs.declared.file.File.{File}
 use Rattle.fd_disk.specs.declared.folders.FileName.{FileName}
 use Rattle.fd_io.specs.Streams.{Takes}
-use Rattle.fd_disk.specs.Folders.{Holdings, WhereTold, folder_at}
+use Rattle.fd_disk.specs.Folders.{Contents, Holdings, WhereTold, folder_at}
 use Rattle.fd_disk.specs.Images.{IsImage, firm_file}
-use Rattle.fd_core.specs.declared.batch.Pair.{Pair}
+use Rattle.fd_entries.specs.declared.batch.Pair.{Pair}
 use Rattle.fd_key.specs.Pairs as keys
 use Rattle.fd_schema.specs.Rules.{Rule}
 use Rattle.fd_outcome.specs.Causes.{Cause, table_full}
 use Rattle.fd_outcome.specs.Asking.{rules_of}
 use Rattle.fd_outcome.specs.Objects.{Object}
+use Rattle.fd_outcome.specs.Outcome.{generated_messages}
+use Rattle.fd_outcome.specs.Trying.{trial_given, trial_rules}
 use Rattle.fd_words.specs.declared.command.Command.{Command}
 use Rattle.fd_words.specs.declared.command.Command.TheVariants as commands
 use Rattle.fd_outcome.specs.Archiving.{Stored, datasets_in, pairs_for, taken, taken_of}
-use Rattle.fd_outcome.specs.Store.{AddsAll, Grows, table_at}
+use Rattle.fd_outcome.specs.Store.{Adds, AddsAll, Grows, Sorted, table_at}
 use Rattle.fd_outcome.specs.declared.status.Status.{Status}
 use Rattle.fd_outcome.specs.declared.status.Status.TheVariants.{Done, Missed, Words, Refused, InputFault, OutputFault, DiskFault, NoMemory, Damaged, Limit}
 
@@ -41,6 +43,17 @@ pub record IsFirmRead (workers : ℕ) (rules : List Rule) (given : List keys.Pai
   pub left_is : left ≡ Some rest
   pub firm : IsFirm workers (taken_of rules given seen) h i
 
+-- the folder has the table and the files that it had
+pub record IsUntouched (v w : Contents) : Type 0 where
+  pub table : w.table ≡ v.table
+  pub files : w.files ≡ v.files
+
+-- The later store came about of the earlier. Of each dataset that was sound the folder is untouched; or in each store that a
+-- crash may leave the dataset holds what it held, and behind it few batches of its pairs alone, each of them whole.
+pub record GrowsFirmly (workers : ℕ) (pairs : Sorted) (h i : Holdings) : Type 0 where
+  pub each : (name : List ℕ) (t : List (List Pair)) → table_at h name ≡ Some t
+      → IsUntouched (folder_at h name) (folder_at i name) ⊎ ((j : Holdings) → IsAfterCrash i j → Adds workers (pairs name) t (table_at j name))
+
 -- What outlasts a crash by the status: all that was archived, where that is told, or what stands before the refusal or the
 -- failed read that is told. `full` says that the line of a full table was told. At a fault of the store, or where no line
 -- could be told, each dataset has few batches more, of its pairs alone.
@@ -56,12 +69,20 @@ Outlasts NoMemory full workers rules given input left h i = Grows workers (pairs
 Outlasts Damaged full workers rules given input left h i = Grows workers (pairs_for (taken rules given input).stored) h i
 Outlasts Limit full workers rules given input left h i = IsFirm workers (taken rules given input).stored h i ⊎ (full × Grows workers (pairs_for (taken rules given input).stored) h i)
 
--- the same, where the store has rules
+-- The same, where the store has rules; and at every status what each store has that a crash may leave. Where it has none, it is
+-- as it was.
 abbrev pub OutlastsBy : Status → Type 0 → ℕ → Result (List Rule) Cause → List keys.Pair → List ℕ → Option (List ℕ) → Holdings → Holdings → Type 0
-OutlastsBy s full workers (Ok rules) given input left h i = Outlasts s full workers rules given input left h i
-OutlastsBy s full workers (Err cause) given input left h i = Unit {0}
+OutlastsBy s full workers (Ok rules) given input left h i = Outlasts s full workers rules given input left h i × GrowsFirmly workers (pairs_for (taken rules given input).stored) h i
+OutlastsBy s full workers (Err cause) given input left h i = i ≡ h
 
--- What outlasts a crash of what an archive stored, where its input and its store tell.
+-- What outlasts a crash of a trial: at 0 all its messages, and at every status few batches of them alone. Where the stored schema
+-- isn't that of a trial, the store is as it was.
+abbrev pub OutlastsTrial : Status → ℕ → ℕ → Result (List Rule) Cause → Holdings → Holdings → Type 0
+OutlastsTrial s workers count (Ok rules) h i =
+    (s ≡ Done → IsFirm workers (taken rules trial_given (generated_messages count)).stored h i) × GrowsFirmly workers (pairs_for (taken rules trial_given (generated_messages count)).stored) h i
+OutlastsTrial s workers count (Err cause) h i = i ≡ h
+
+-- What outlasts a crash of what an archive or a trial stored, where its input and its store tell.
 abbrev pub OutlastsCrash : Command → Status → Object Holdings → Object (List ℕ) → Object (List ℕ) → Type 0
 OutlastsCrash (commands.Pick wanted) s store input report = Unit {0}
 OutlastsCrash commands.Describe s store input report = Unit {0}
@@ -75,4 +96,4 @@ OutlastsCrash (commands.List root) s store input report = Unit {0}
 OutlastsCrash (commands.Axes root) s store input report = Unit {0}
 OutlastsCrash (commands.Stats root) s store input report = Unit {0}
 OutlastsCrash (commands.Session root) s store input report = Unit {0}
-OutlastsCrash (commands.Trial root count workers) s store input report = Unit {0}
+OutlastsCrash (commands.Trial root count workers) s store input report = WhereTold store.before store.now (λ h i. OutlastsTrial s workers count (trial_rules h.schema) h i)

@@ -11,7 +11,7 @@ use Rattle.fd_bulk.specs.declared.bulk.Bulk.{Bulk}
 use Rattle.fd_bulk.specs.declared.bulk.BulkFault.{BulkFault}
 use Rattle.fd_bulk.specs.declared.bulk.BulkFault.TheVariants as faults
 use Rattle.fd_bulk.specs.Archived.{HasRead, IsCause, IsFront, IsNumbered}
-use Rattle.fd_archive.specs.Crashing.{IsFirm}
+use Rattle.fd_archive.specs.Crashing.{GrowsFirmly, IsFirm}
 
 module _ (workers : ℕ) (rules : List Rule) (given : List Pair) (left after : Option (List ℕ)) (start now : Option Holdings) where
   -- all messages of the input stand in the store, also after a crash
@@ -19,6 +19,7 @@ module _ (workers : ℕ) (rules : List Rule) (given : List Pair) (left after : O
     pub all : List Stored
     pub grows : WhereTold start now (GrowsBy workers (pairs_for all))
     pub firm : WhereTold start now (IsFirm workers all)
+    pub firmly : WhereTold start now (GrowsFirmly workers (pairs_for all))
     pub fields : bulk.fields ≡ length all
     pub datasets : bulk.datasets ≡ count_distinct (datasets_in all)
     pub taken_is : IfSome left (λ octets. taken rules given octets ≡ record { stored = all; refusal = None; junk = bulk.junk })
@@ -28,6 +29,7 @@ module _ (workers : ℕ) (rules : List Rule) (given : List Pair) (left after : O
     pub all : List Stored
     pub grows : WhereTold start now (GrowsBy workers (pairs_for all))
     pub firm : WhereTold start now (IsFirm workers all)
+    pub firmly : WhereTold start now (GrowsFirmly workers (pairs_for all))
     pub numbered : IsNumbered fault (length all + 1)
     pub refused : IfSome left (λ octets. ((taken rules given octets).stored ≡ all) × ((c : Cause) × ((taken rules given octets).refusal ≡ Some c) × IsCause fault c))
 
@@ -36,6 +38,7 @@ module _ (workers : ℕ) (rules : List Rule) (given : List Pair) (left after : O
     pub all : List Stored
     pub grows : WhereTold start now (GrowsBy workers (pairs_for all))
     pub firm : WhereTold start now (IsFirm workers all)
+    pub firmly : WhereTold start now (GrowsFirmly workers (pairs_for all))
     pub read : IfSome left (λ octets. HasRead rules given octets after all)
 
   -- the dataset is that of a message
@@ -50,10 +53,12 @@ module _ (workers : ℕ) (rules : List Rule) (given : List Pair) (left after : O
   IsStop (faults.TableFull count) = (count ≡ 65535) × ((name : List ℕ) × IfSome now (λ t. IsFull t name) × IsOfMessage name)
   IsStop fault = Unit {0}
 
-  -- the store failed or refused, or memory ran out: each dataset holds what it held, and behind it batches of these alone
+  -- The store failed or refused, or memory ran out: each dataset holds what it held, and behind it batches of these alone, also
+  -- after a crash.
   pub record StoppedKept {X : Type 0} (fault : BulkFault X) : Type 0 where
     pub all : List Stored
     pub grows : WhereTold start now (Grows workers (pairs_for all))
+    pub firmly : WhereTold start now (GrowsFirmly workers (pairs_for all))
     pub front : IfSome left (λ octets. IsFront all (taken rules given octets))
     pub stop : IsStop fault
 

@@ -8,7 +8,7 @@ use Rattle.std.proofs.lemmas.List.{length-map}
 use Rattle.std.proofs.lemmas.List.Elements.{All-cons, All-nil, Contains-append_left, Contains-append_right}
 use Rattle.fd_disk.specs.declared.folders.FileName.{FileName}
 use Rattle.fd_disk.specs.Folders.{Contents, Holdings, WhereTold}
-use Rattle.fd_core.specs.declared.batch.Pair.{Pair}
+use Rattle.fd_entries.specs.declared.batch.Pair.{Pair}
 use Rattle.fd_segment.specs.Held.{Standing}
 use Rattle.fd_turn.specs.declared.board.Pass.{Pass}
 use Rattle.fd_turn.specs.Passes.{BoardId, view}
@@ -456,6 +456,7 @@ module _ {D H X Y E : Type 0} (has : D → Option Contents) (faults : D → ℕ)
       schema = r.schema;
       each_is = λ x b base. go x b base (true_or_false (among x (names_of l.each)));
       openings = all_from (λ (g : OpenDataset D). (b : List (List Pair)) → held_of s g.name ≡ Some b → IfSome g.pass (λ p. length b ≡ p.view.opening)) m.each (λ n g at b base. one_opening n g at s b is base);
+      keeps = λ x out. r.keeps x (sym (names_now x) ∙ out);
     }
       where
         go : (x : List ℕ) (b : List (List Pair)) → held_of s x ≡ Some b → (among x (names_of l.each) ≡ true) ⊎ (among x (names_of l.each) ≡ false) → AddsBy (length js) (pairs_for all x) b (held_with has m.each t x)
@@ -533,7 +534,7 @@ module _ {D H X Y E : Type 0} (has : D → Option Contents) (faults : D → ℕ)
             (kk.begun.holds s b is (ap (held_of s) (sym name) ∙ base)) (λ w. refl) same_its))
 
       whole_told : (s t : Holdings) → start ≡ Some s → HoldsRest (names_of l.each) s t → GrowsAll has (length js) all m.each s t
-      whole_told s t is r = record { schema = r.schema; each_is = λ x b base. go x b base (true_or_false (among x (names_of l.each))); only = λ x out. only x (sym (names_now x) ∙ out) }
+      whole_told s t is r = record { schema = r.schema; each_is = λ x b base. go x b base (true_or_false (among x (names_of l.each))); only = λ x out. only x (sym (names_now x) ∙ out); keeps = λ x out. r.keeps x (sym (names_now x) ∙ out) }
         where
           go : (x : List ℕ) (b : List (List Pair)) → held_of s x ≡ Some b → (among x (names_of l.each) ≡ true) ⊎ (among x (names_of l.each) ≡ false) → AddsAllBy (length js) (pairs_for all x) b (held_with has m.each t x)
           go x b base (inl there) =

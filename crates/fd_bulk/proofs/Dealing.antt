@@ -3,8 +3,8 @@ use Rattle.std.proofs.Common.{◌≡◌, ◌==◌, ◌≤◌, ◌<◌, ◌+◌, 
 use Rattle.std.proofs.lemmas.Bool.Decides.{nat_tests}
 use Rattle.std.proofs.lemmas.Nat.{le-div}
 use Rattle.std.proofs.lemmas.List.Elements.{All-head, All-tail}
-use Rattle.fd_core.specs.declared.batch.Pair.{Pair}
-use Rattle.fd_core.specs.Batches.{newest, of_batch, or_older, same_bytes}
+use Rattle.fd_entries.specs.declared.batch.Pair.{Pair}
+use Rattle.fd_entries.specs.Batches.{newest, of_batch, or_older, same_bytes}
 use Rattle.fd_bulk.specs.Dealing.{Marked, AreAsOne, AreFew, batches_by, batches_of, dealt_to, flat}
 
 or_assoc : {A : Type 0} (a b c : Option A) → or_older a (or_older b c) ≡ or_older (or_older a b) c

@@ -3,8 +3,8 @@ use Rattle.std.proofs.Common.{◌≡◌, ◌⊎◌, inl, inr, ℕ, suc, ◌+◌,
 use Rattle.std.specs.Prelude.{nat_lt, nat_le}
 use Rattle.std.proofs.lemmas.List.Sums.{sum_by-cons}
 use Rattle.std.proofs.lemmas.Bool.{leb-false, ltb-false, lt-ltb, le-leb}
-use Rattle.fd_core.specs.declared.batch.Pair.{Pair}
-use Rattle.fd_core.specs.Batches.{KeysFit, distinct, has_key, same_bytes}
+use Rattle.fd_entries.specs.declared.batch.Pair.{Pair}
+use Rattle.fd_entries.specs.Batches.{KeysFit, distinct, has_key, same_bytes}
 use Rattle.fd_index.specs.declared.fault.Full.{Full}
 use Rattle.fd_index.specs.Builder.{has_room, room_for}
 use Rattle.fd_index.specs.Held.{Held, key_bytes, left_of}

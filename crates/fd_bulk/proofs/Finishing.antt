@@ -4,8 +4,8 @@ use Rattle.std.specs.Prelude.{All, Contains, IfSome, string_bytes}
 use Rattle.std.proofs.lemmas.List.{length-map}
 use Rattle.std.proofs.lemmas.List.Elements.{Contains-append_left, Contains-append_right}
 use Rattle.fd_disk.specs.declared.folders.FileName.{FileName}
-use Rattle.fd_disk.specs.Folders.{Contents, Holdings, WhereTold}
-use Rattle.fd_core.specs.declared.batch.Pair as batches
+use Rattle.fd_disk.specs.Folders.{Contents, Holdings, WhereTold, folder_at}
+use Rattle.fd_entries.specs.declared.batch.Pair as batches
 use Rattle.fd_key.specs.Pairs.{Pair}
 use Rattle.fd_schema.specs.Rules.{Rule}
 use Rattle.fd_turn.specs.declared.board.Pass.{Pass}
@@ -28,6 +28,7 @@ use Rattle.fd_bulk.specs.Halting.{HaveMetNone, OnStore}
 use Rattle.fd_bulk.specs.Inputs.{BeginsIn, ComesTo, EndsAfter, InputEnds, is_calm, is_unread}
 use Rattle.fd_bulk.specs.Sharing.{AllFit, AllWork, AreParcels, its_pairs}
 use Rattle.fd_bulk.specs.Working.{Filling}
+use Rattle.fd_bulk.proofs.Keeping.{keeps_same}
 use Rattle.fd_bulk.proofs.Matching.{matched_long}
 use Rattle.fd_bulk.proofs.Texts.{one_text}
 use Rattle.std.specs.Str.{bytes_eq}
@@ -68,7 +69,7 @@ module _ {D H X Y F : Type 0} (has : D → Option Contents) (kept : H → Option
             (subst (λ (hs : List (OpenDataset D)). AllWork {X = X} {Y = Y} kept (λ n. Filling) (its_pairs (length js) (names_of l.each) w []) 0 [] (names_of hs) []) (sym no_each) tt));
         only = λ n out. refl;
       };
-      rest = same_told (HoldsRest (names_of l.each)) (λ s. record { schema = refl; rest = λ n out. refl }) start;
+      rest = same_told (HoldsRest (names_of l.each)) (λ s. record { schema = refl; rest = λ n out. refl; keeps = λ n out. keeps_same n (folder_at s n) }) start;
     };
     waits = record {
       parcels_are = subst (AreParcels (length js) (names_of l.each) []) (sym no_parcels) tt;
@@ -95,6 +96,7 @@ starved_first {D = D} X has workers rules given left after start each none = rec
       few = omega arith;
     };
     openings = λ i d lt. absurd (let e = ap length none in omega (arith, lt, e));
+    keeps = λ name out. keeps_same name (folder_at s name);
   }) start;
   back = subst (All (IsBack has workers [])) (sym none) (λ i d lt. absurd (omega (arith, lt)));
   front = go left;

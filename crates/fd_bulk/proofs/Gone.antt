@@ -7,7 +7,7 @@ use Rattle.fd_sections.specs.Message.{Sections, message_octets}
 use Rattle.fd_sections.specs.Progress.{Progress}
 use Rattle.fd_sections.specs.Splitting.{answer, progress, waiting}
 use Rattle.fd_sections.specs.Stream.{Takes, first, from_mark}
-use Rattle.fd_sections.proofs.Laws.{reading_takes}
+use Rattle.fd_sections.proofs.Joins.{answered, message_so, refuses_so}
 use Rattle.fd_sections.proofs.Pending.{pending_le, waited}
 use Rattle.fd_sections.proofs.StreamLaws.{before_mark, first_at-takes}
 use Rattle.fd_key.specs.Keys.{key_of}
@@ -29,16 +29,13 @@ use Rattle.fd_bulk.specs.Inputs.{CanGo, EndedThere, EndsFor, GoesOn, Going, Plac
 use Rattle.fd_bulk.specs.Taking.{StoredOn}
 use Rattle.fd_bulk.proofs.Opened.{deals_closes}
 use Rattle.fd_bulk.proofs.Steps.{ended_later, ended_now, ends_there, placed_ends, stored_is, stored_more, stored_nothing, too_many_ends, unopened_ends, went_none, went_one}
-use Rattle.fd_bulk.proofs.Takings.{answered, refused_at}
 
 octets_push : (all : List Stored) (s : Stored) → octets_of (all ++ s ∷ []) ≡ octets_of all + length s.pair.bytes
 octets_push [] s = omega arith
 octets_push (x ∷ xs) s = omega (arith, octets_push xs s)
 
 pub message_limit : (p : Progress) (m : Sections) → answer p (first p.rest) ≡ Ok (Some m) → length (message_octets m) ≤ 134217728
-message_limit p m e =
-    let t = answered p (first p.rest) m e in
-    (reading_takes (message_octets m) m (first_at-takes (from_mark p.rest) m t.0 t.1).read).indicator.limit
+message_limit p m e = (message_so p m e).indicator.limit
 
 -- the message and what comes behind it are no more than there was
 message_fits : (p : Progress) (m : Sections) (r : List ℕ) → first p.rest ≡ Takes m r → length (message_octets m) + length r ≤ length p.rest
@@ -176,7 +173,7 @@ module _ {D H X Y F : Type 0} (has : D → Option Contents) (kept : H → Option
       all = all;
       waiting = waits;
       on = ended_now rules given (faults.Message at) p (all ++ waits) (ends_there rules given Z (datasets_in (all ++ waits)) p at e);
-      ends = (deals_closes has kept start all waits before (datasets_in (all ++ waits)) l ps js parcels g.deals, g.deals.met, (refused_at p (first p.rest) at e).1 ∙ ap (λ (n : ℕ). n + 1) g.given);
+      ends = (deals_closes has kept start all waits before (datasets_in (all ++ waits)) l ps js parcels g.deals, g.deals.met, (refuses_so p at e).number ∙ ap (λ (n : ℕ). n + 1) g.given);
       sum = few_octets;
     }
 

@@ -5,9 +5,9 @@ use Rattle.std.proofs.lemmas.List.Elements.{All-head, All-tail}
 use Rattle.fd_disk.specs.declared.folders.FileName.{FileName}
 use Rattle.fd_disk.specs.declared.folders.FileKind.TheVariants.{Fields, Index}
 use Rattle.fd_disk.specs.Names.{name_of}
-use Rattle.fd_core.specs.declared.batch.Listing.{Listing}
-use Rattle.fd_core.specs.declared.batch.Pair.{Pair}
-use Rattle.fd_core.specs.declared.table.Entry.{Entry}
+use Rattle.fd_entries.specs.declared.batch.Listing.{Listing}
+use Rattle.fd_entries.specs.declared.batch.Pair.{Pair}
+use Rattle.fd_entries.specs.declared.table.Entry.{Entry}
 use Rattle.fd_segment.specs.Held.{Standing, batch_of, batch_told}
 use Rattle.fd_turn.specs.Views.{View}
 use Rattle.fd_dataset.specs.Listed.{entries_of, listing}

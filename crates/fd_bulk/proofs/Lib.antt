@@ -15,6 +15,7 @@ pub mod Turns
 pub mod Texts
 pub mod Tellings
 pub mod Matching
+pub mod Keeping
 pub mod Desks
 pub mod Joined
 pub mod Opened

@@ -6,7 +6,7 @@ use Rattle.std.specs.Prelude.{string_bytes}
 use Rattle.std.proofs.lemmas.List.{length-map}
 use Rattle.fd_disk.specs.declared.folders.FileName.{FileName}
 use Rattle.fd_disk.specs.Folders.{Contents, Holdings, SameBut, WhereTold, no_contents}
-use Rattle.fd_core.specs.declared.batch.Pair.{Pair}
+use Rattle.fd_entries.specs.declared.batch.Pair.{Pair}
 use Rattle.fd_turn.specs.declared.board.Pass.{Pass}
 use Rattle.fd_turn.specs.Passes.{BoardId, IsOf}
 use Rattle.fd_archiver.specs.Writing.{Writing}
@@ -25,6 +25,7 @@ use Rattle.fd_bulk.specs.Opening.{AreOpen}
 use Rattle.fd_bulk.specs.Working.{Filling}
 use Rattle.fd_bulk.proofs.Desks.{all_begun_on}
 use Rattle.fd_bulk.proofs.Joined.{at_end, begun_lost, begun_new, desks_more, desks_none, each_back, each_same_on, running_more, running_same, set_end, waits_more, waits_on, work_long}
+use Rattle.fd_bulk.proofs.Keeping.{keeps_on}
 use Rattle.fd_bulk.proofs.Matching.{matched_long, matched_map, matched_push}
 use Rattle.fd_bulk.proofs.Tellings.{through}
 use Rattle.fd_bulk.proofs.Texts.{among_apart, among_push, count_new, count_old, is_among_push, no_pairs_for, one_text, true_or_false}
@@ -167,6 +168,7 @@ module _ {D H X Y E : Type 0} (has : D → Option Contents) (kept : H → Option
         rest_names = through start before after (HoldsRest (names_of l.each)) (SameBut name) (HoldsRest (names_of l.each ++ name ∷ [])) d.crewed.rest o.store (λ s b t first second. record {
           schema = second.schema ∙ first.schema;
           rest = λ m out. let apart = among_apart m name (names_of l.each) out in folder_same b t m (second.others m apart.1) ∙ first.rest m apart.0;
+          keeps = λ m out. let apart = among_apart m name (names_of l.each) out in keeps_on m s b t (second.others m apart.1) (first.keeps m apart.0);
         })
 
         untouched_names : AreUntouched start after (names_of l.each ++ name ∷ [])

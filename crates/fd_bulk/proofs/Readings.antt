@@ -26,7 +26,8 @@ use Rattle.fd_bulk.specs.declared.round.Parcel.{Parcel}
 use Rattle.fd_bulk.specs.Archived.{HasRead}
 use Rattle.fd_bulk.specs.Crewing.{Closes, Deals, octets_of}
 use Rattle.fd_bulk.specs.Inputs.{EndedOn, EndedThere, EndsAfter, EndsFor, EndsOf, EndsTaken, Going, InputDealt, Midway, Reads, WentOn, is_unread}
-use Rattle.fd_bulk.specs.Taking.{IsWaiting, Seen, StoredOn, taken_from}
+use Rattle.fd_sections.specs.Joining.{IsWaiting}
+use Rattle.fd_bulk.specs.Taking.{Seen, StoredOn, taken_from}
 use Rattle.fd_bulk.proofs.Inputs.{ended_in, held_of, seen_more, seen_nothing, taken_cut, taken_past, taken_whole}
 use Rattle.fd_bulk.proofs.Opened.{deals_closes}
 use Rattle.fd_bulk.proofs.Steps.{ended_now}
@@ -157,14 +158,14 @@ module _ {D H X Y F : Type 0} (has : D → Option Contents) (kept : H → Option
       few_octets : p.fed ≤ input_limit → octets_of so_far < 2 ^ 63
       few_octets le = let g = m.going in let sum = g.sum in omega (arith, sum, le)
 
-      pub turned : (after : Text) (now : Option Holdings) (l₂ : OpenDatasets D) (qs : List (Pass X Y)) (ks : List (Job (Writing H) (Pass X Y) (FlushFault F))) (more : List Parcel) (q n : Progress) (piece : List ℕ) → Gives mid after piece → q ≡ fed p piece → WentOn has kept rules given q n start_has now so_far l₂ qs ks more → n.fed ≡ q.fed
+      pub turned : (after : Text) (now : Option Holdings) (l₂ : OpenDatasets D) (qs : List (Pass X Y)) (ks : List (Job (Writing H) (Pass X Y) (FlushFault F))) (more : List Parcel) (q n : Progress) (piece : List ℕ) → Gives mid after piece → q ≡ fed p piece → WentOn has kept rules given q n start_has now so_far l₂ qs ks more
           → Midway has kept rules given left after start_has now l₂ qs ks more n
-      turned after now l₂ qs ks more q n piece gives is w same_fed = record {
+      turned after now l₂ qs ks more q n piece gives is w = record {
         all = w.all;
         waiting = w.waiting;
         going = w.going;
         reads = read_on left mid after piece (Seen rules given p so_far) (Seen rules given n (w.all ++ w.waiting)) m.reads gives (λ seen s.
-            seen_more rules given p n so_far (w.all ++ w.waiting) seen piece s (subst (λ (x : Progress). StoredOn rules given x n so_far (w.all ++ w.waiting)) is w.on) (same_fed ∙ ap (λ (x : Progress). x.fed) is));
+            seen_more rules given p n so_far (w.all ++ w.waiting) seen piece s (subst (λ (x : Progress). StoredOn rules given x n so_far (w.all ++ w.waiting)) is w.on));
       }
 
       -- ---- the exits
@@ -177,7 +178,7 @@ module _ {D H X Y F : Type 0} (has : D → Option Contents) (kept : H → Option
         ends_in : (after : Text) (piece : List ℕ) (b : List Stored) → Gives mid after piece → p.fed + length piece ≤ input_limit → EndedOn e (taken_from rules given (datasets_in so_far) (fed p piece)) so_far b → IfSome left (λ octets. EndsAfter e b (taken rules given octets))
         ends_in after piece b gives le on =
             read_so left after (Followed piece) (λ octets. EndsAfter e b (taken rules given octets)) (read_on left mid after piece (Seen rules given p so_far) (Followed piece) m.reads gives (λ seen s. (seen, s, refl))) (λ octets both rest x all h.
-            ended_in rules given e p so_far b octets h.0 piece rest h.1 (subst (λ (y : List ℕ). octets ≡ y ++ rest) h.2 all) (let f = h.1 in let g = f.fed in omega (arith, g, le, length-append h.0 piece)) on)
+            ended_in rules given e p so_far b octets h.0 piece rest h.1 (subst (λ (y : List ℕ). octets ≡ y ++ rest) h.2 all) (let f = h.1 in let g = f.splits.fed in omega (arith, g, le, length-append h.0 piece)) on)
 
         pub stopped_there : (after : Text) (now : Option Holdings) (l₂ : OpenDatasets D) (qs : List (Pass X Y)) (ks : List (Job (Writing H) (Pass X Y) (FlushFault F))) (more : List Parcel) (q : Progress) (piece : List ℕ) → Gives mid after piece → p.fed + length piece ≤ input_limit → q ≡ fed p piece → EndedThere has kept rules given q start_has now so_far l₂ qs ks more e
             → InputDealt has kept rules given left after start_has now l₂ qs ks more (Err e)
@@ -210,7 +211,7 @@ module _ {D H X Y F : Type 0} (has : D → Option Contents) (kept : H → Option
         stands = m.going.deals;
         comes = read_so left mid (Seen rules given p so_far) (λ octets. HasRead rules given octets after so_far) m.reads (λ octets seen rest x all s.
             let f : EndsAfter {Z = Z} faults.NoMemory so_far (taken rules given octets) =
-            ended_in rules given faults.NoMemory p so_far so_far octets seen [] rest s (all ∙ ap (λ (y : List ℕ). y ++ rest) (sym (append-nil seen))) (let g = s.fed in omega (arith, g, le, length-append seen [])) (ended_now rules given faults.NoMemory (fed p []) so_far (λ past more. tt)) in
+            ended_in rules given faults.NoMemory p so_far so_far octets seen [] rest s (all ∙ ap (λ (y : List ℕ). y ++ rest) (sym (append-nil seen))) (let g = s.splits.fed in omega (arith, g, le, length-append seen [])) (ended_now rules given faults.NoMemory (fed p []) so_far (λ past more. tt)) in
             record {
               seen = seen;
               rest = rest;
@@ -240,6 +241,6 @@ module _ {D H X Y F : Type 0} (has : D → Option Contents) (kept : H → Option
         waiting = m.waiting;
         stands = (closes, m.going.deals.met, let g = m.going in cut_number p t (first p.rest) cut ∙ ap (λ (n : ℕ). n + 1) g.given);
         comes = read_so left mid (Seen rules given p so_far) (λ octets. EndsAfter (faults.Cut t) so_far (taken rules given octets)) m.reads (λ octets seen rest x all s.
-            taken_cut rules given p so_far octets seen t s (all ∙ ap (λ (y : List ℕ). seen ++ y) (none_left mid rest x end)) le cut);
+            taken_cut rules given p so_far octets seen t s (all ∙ ap (λ (y : List ℕ). seen ++ y) (none_left mid rest x end)) le waits cut);
         sum = few_octets le;
       })

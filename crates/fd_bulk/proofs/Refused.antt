@@ -6,9 +6,9 @@ use Rattle.std.proofs.lemmas.List.{length-map}
 use Rattle.fd_disk.specs.declared.file.File.{File}
 use Rattle.fd_disk.specs.declared.folders.FileName.{FileName}
 use Rattle.fd_disk.specs.Folders.{Contents, Holdings, WhereTold, folder_at, no_contents}
-use Rattle.fd_core.specs.declared.table.Entry.{Entry}
-use Rattle.fd_core.specs.declared.table.NotATable.{NotATable}
-use Rattle.fd_core.specs.Table.{listed}
+use Rattle.fd_entries.specs.declared.table.Entry.{Entry}
+use Rattle.fd_entries.specs.declared.table.NotATable.{NotATable}
+use Rattle.fd_entries.specs.Table.{listed}
 use Rattle.fd_segment.specs.declared.fault.Damage.{Damage}
 use Rattle.fd_turn.specs.declared.board.Pass.{Pass}
 use Rattle.fd_archiver.specs.Writing.{Writing}
@@ -29,6 +29,7 @@ use Rattle.fd_bulk.specs.declared.round.Job.{Job}
 use Rattle.fd_bulk.specs.declared.round.Parcel.{Parcel}
 use Rattle.fd_bulk.specs.Crewing.{Closes, Deals, HoldsRest, IsUnopened, SaysDamaged, SaysNotATable, TooManyAt, Undealt}
 use Rattle.fd_bulk.specs.Halting.{Each, IsSameJob}
+use Rattle.fd_bulk.proofs.Keeping.{keeps_looked}
 use Rattle.fd_bulk.proofs.Opened.{deals_closes, deals_same}
 use Rattle.fd_bulk.proofs.Tellings.{both_told, held_outside, through}
 use Rattle.fd_bulk.proofs.Texts.{not_too_many_few, too_many_new}
@@ -93,6 +94,7 @@ module _ {D H X Y E : Type 0} (has : D → Option Contents) (kept : H → Option
       (λ s b t first second. record {
         schema = second.0.schema ∙ first.schema;
         rest = λ n out. sym (held_outside has l.each t n out) ∙ second.1 n ∙ held_outside has l.each b n out ∙ first.rest n out;
+        keeps = λ n out. keeps_looked name n s b t second.0 (first.keeps n out);
       })
 
   -- nothing was opened, and no message comes any more

@@ -1,7 +1,7 @@
 -- What the shares of all workers make of the messages of a round.
 use Rattle.std.proofs.Common.{◌≡◌, ◌==◌, ◌&&◌, ◌||◌, ℕ, zero, suc, Bool, true, false, if◌then◌else◌, List, [], ◌∷◌, ◌++◌, slice_get, Some, refl, sym, ap, ap₂, ◌∙◌}
 use Rattle.std.specs.Str.{bytes_eq}
-use Rattle.fd_core.specs.declared.batch.Pair.{Pair}
+use Rattle.fd_entries.specs.declared.batch.Pair.{Pair}
 use Rattle.fd_library.specs.Open.{AreDistinct, among}
 use Rattle.fd_outcome.specs.Archiving.{Stored, pairs_for}
 use Rattle.fd_segment.proofs.Keys.{eq_is, eq_refl}

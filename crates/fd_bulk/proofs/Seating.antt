@@ -4,9 +4,9 @@ use mathlib.Core.List.{map-append}
 use Rattle.std.proofs.lemmas.List.Elements.{All-cons, All-head, All-tail, All-weaker}
 use Rattle.fd_disk.specs.declared.folders.FileName.{FileName}
 use Rattle.fd_disk.specs.Folders.{Contents, Holdings}
-use Rattle.fd_core.specs.declared.batch.Listing.{Listing}
-use Rattle.fd_core.specs.declared.batch.Pair.{Pair}
-use Rattle.fd_core.specs.Table.{greatest_writer}
+use Rattle.fd_entries.specs.declared.batch.Listing.{Listing}
+use Rattle.fd_entries.specs.declared.batch.Pair.{Pair}
+use Rattle.fd_entries.specs.Table.{greatest_writer}
 use Rattle.fd_numbers.specs.Numbers.{Differ, IsIn}
 use Rattle.fd_segment.specs.declared.draft.Room.{Room}
 use Rattle.fd_turn.specs.declared.board.Pass.{Pass}

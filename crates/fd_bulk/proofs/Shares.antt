@@ -1,8 +1,8 @@
 -- A worker's share of a round, up to one of its messages.
 use Rattle.std.proofs.Common.{◌≡◌, ◌==◌, ◌&&◌, ◌<◌, ◌≤◌, ◌+◌, ◌^◌, ℕ, zero, suc, Bool, if◌then◌else◌, List, [], ◌∷◌, ◌++◌, take, drop, length, get_or, slice_get, slice_set, Option, Some, None, Result, Ok, Err, refl, sym, ap, ap₂, subst, ◌∙◌, arith}
 use Rattle.fd_disk.specs.declared.folders.FileName.{FileName}
-use Rattle.fd_core.specs.declared.batch.Pair.{Pair}
-use Rattle.fd_core.specs.Batches.{total}
+use Rattle.fd_entries.specs.declared.batch.Pair.{Pair}
+use Rattle.fd_entries.specs.Batches.{total}
 use Rattle.fd_turn.specs.declared.board.Pass.{Pass}
 use Rattle.fd_turn.specs.Passes.{BoardId, IsSame, view}
 use Rattle.fd_archiver.specs.declared.fault.FlushFault.{FlushFault}

@@ -1,7 +1,7 @@
 -- A worker's share, message by message.
 use Rattle.std.proofs.Common.{◌≡◌, ◌&&◌, ℕ, zero, suc, ◌+◌, ◌≤◌, Bool, if◌then◌else◌, List, [], ◌∷◌, ◌++◌, slice_get, slice_set, Option, Some, refl, sym, ap, ap₂, subst, ◌∙◌, arith, append-nil}
 use Rattle.fd_disk.specs.declared.folders.FileName.{FileName}
-use Rattle.fd_core.specs.declared.batch.Pair.{Pair}
+use Rattle.fd_entries.specs.declared.batch.Pair.{Pair}
 use Rattle.fd_turn.specs.declared.board.Pass.{Pass}
 use Rattle.fd_turn.specs.Passes.{BoardId, IsOf, view}
 use Rattle.fd_archiver.specs.Writing.{Writing}

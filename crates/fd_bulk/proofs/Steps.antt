@@ -1,5 +1,5 @@
 -- One message after the other is dealt.
-use Rattle.std.proofs.Common.{◌≡◌, ℕ, ◌+◌, Bool, true, false, List, [], ◌∷◌, ◌++◌, Some, None, Result, Ok, Err, refl, sym, ap, ◌∙◌, subst, append_assoc, append-nil, if◌then◌else◌}
+use Rattle.std.proofs.Common.{◌≡◌, ℕ, ◌+◌, Bool, true, false, List, [], ◌∷◌, ◌++◌, Some, None, Result, Ok, Err, refl, sym, ap, ◌∙◌, subst, append_assoc, append-nil, arith, if◌then◌else◌}
 use Rattle.std.specs.Prelude.{String, string_bytes}
 use Rattle.std.specs.declared.alloc.Global.{Global}
 use Rattle.fd_sections.specs.declared.bad.Bad.{Bad}
@@ -7,10 +7,9 @@ use Rattle.fd_sections.specs.declared.bad.Bad.TheVariants as bads
 use Rattle.fd_sections.specs.declared.refusal.BadAt.{BadAt}
 use Rattle.fd_sections.specs.Message.{Sections}
 use Rattle.fd_sections.specs.Progress.{Progress}
-use Rattle.fd_sections.specs.Splitting.{answer, progress, waiting}
-use Rattle.fd_sections.specs.Stream.{Bad_end, Takes, first}
-use Rattle.fd_sections.proofs.Pieces.{shorter}
-use Rattle.fd_sections.proofs.Pending.{still_waits, waited}
+use Rattle.fd_sections.specs.Splitting.{answer, progress}
+use Rattle.fd_sections.specs.Stream.{Bad_end, first}
+use Rattle.fd_sections.proofs.Joins.{takes_so, waits_so}
 use Rattle.fd_key.specs.Keys.{key_of}
 use Rattle.fd_key.specs.Pairs.{Pair}
 use Rattle.fd_schema.specs.Rules.{Rule, Texts, place_from}
@@ -23,18 +22,13 @@ use Rattle.fd_bulk.specs.declared.bulk.BulkFault.TheVariants as faults
 use Rattle.fd_bulk.specs.Archived.{refusal_at}
 use Rattle.fd_bulk.specs.Inputs.{BeginsIn, EndedOn, EndsTaken, PlacedAs}
 use Rattle.fd_bulk.specs.Taking.{Measures, StoredOn, StoresOn, behind, taken_from}
-use Rattle.fd_bulk.proofs.Takings.{answered, behind_both, datasets_both, refused_none, refused_one, refused_there, stored_none, stored_one, stores_more, stores_nothing}
+use Rattle.fd_bulk.proofs.Takings.{behind_both, datasets_both, refused_none, refused_one, refused_there, stored_none, stored_one, stores_more, stores_nothing, stores_same}
 
 pub measured_one : (p q : Progress) (m : Sections) → answer p (first p.rest) ≡ Ok (Some m) → q ≡ progress p (first p.rest) → Measures true p q × (q.fed ≡ p.fed)
-measured_one p q m e goes =
-    let t = answered p (first p.rest) m e in
-    let q-is : q ≡ progress p (Takes m t.0) = goes ∙ ap (progress p) t.1 in
-    (rw q-is (shorter p.rest m t.0 t.1), ap (λ (x : Progress). x.fed) q-is)
+measured_one p q m e goes = let t = takes_so p q m e goes in let fed = t.0.fed in (t.1, omega (arith, fed))
 
 pub measured_none : (p q : Progress) → answer p (first p.rest) ≡ Ok None → q ≡ progress p (first p.rest) → Measures false p q × (q.fed ≡ p.fed)
-measured_none p q e goes =
-    let q-is : q ≡ waiting p = goes ∙ waited p (first p.rest) e in
-    (rw q-is (still_waits p (first p.rest) refl e), ap (λ (x : Progress). x.fed) q-is)
+measured_none p q e goes = let t = waits_so p q e goes in let fed = t.0.fed in (t.1, omega (arith, fed))
 
 -- ---- where a message is stored
 
@@ -76,7 +70,7 @@ module _ (rules : List Rule) (given : List Pair) where
     in_dataset name s is named past more =
         let is-now : stored_of rules given ds (p.given + 1) m ≡ Ok s = ap (λ (k : ℕ). stored_of rules given ds (k + 1) m) (sym count) ∙ is in
         let on = stored_one rules given ds p (progress p (first p.rest)) m s e refl is-now in
-        (s, (_, ap (λ (t : Taken). t.stored) (on.same past more), named))
+        (s, (_, ap (λ (t : Taken). t.stored) (stores_same rules given ds p (progress p (first p.rest)) (s ∷ []) on past more), named))
 
     module _ {Z : Type 0} where
       -- a message has no place
@@ -167,7 +161,7 @@ module _ (rules : List Rule) (given : List Pair) where
               let x = t.ends past more in
               record {
                 rest = x.rest;
-                is = s.on.same past more ∙ ap (λ (ds : List (List ℕ)). behind s.new (taken_from rules given ds q past more)) (sym there) ∙ ap (behind s.new) x.is ∙ behind_both s.new t.new x.rest;
+                is = stores_same rules given (datasets_in a) p q s.new s.on past more ∙ ap (λ (ds : List (List ℕ)). behind s.new (taken_from rules given ds q past more)) (sym there) ∙ ap (behind s.new) x.is ∙ behind_both s.new t.new x.rest;
                 ends = x.ends;
               };
         }

@@ -4,9 +4,9 @@ use mathlib.Core.List.{IsPrefix}
 use Rattle.fd_disk.specs.declared.folders.FileName.{FileName}
 use Rattle.fd_disk.specs.declared.folders.FileKind.TheVariants.{Fields, Index}
 use Rattle.fd_disk.specs.Names.{name_of}
-use Rattle.fd_core.specs.declared.batch.Listing.{Listing}
-use Rattle.fd_core.specs.declared.batch.Pair.{Pair}
-use Rattle.fd_core.specs.Batches.{total}
+use Rattle.fd_entries.specs.declared.batch.Listing.{Listing}
+use Rattle.fd_entries.specs.declared.batch.Pair.{Pair}
+use Rattle.fd_entries.specs.Batches.{total}
 use Rattle.fd_index.specs.declared.fault.Full.{Full}
 use Rattle.fd_index.specs.Builder.{room_for}
 use Rattle.fd_segment.specs.Filling as drafts

@@ -4,10 +4,10 @@ use mathlib.Core.List.{map-append}
 use Rattle.std.proofs.lemmas.List.{length-map}
 use Rattle.std.proofs.lemmas.List.Elements.{All-nil, All-cons, Contains-append_left, Contains-append_right}
 use Rattle.fd_disk.specs.declared.folders.FileName.{FileName}
-use Rattle.fd_core.specs.declared.batch.Listing.{Listing}
-use Rattle.fd_core.specs.declared.batch.Pair.{Pair}
-use Rattle.fd_core.specs.declared.table.Entry.{Entry}
-use Rattle.fd_core.specs.Batches.{newest, of_batch, or_older, same_bytes}
+use Rattle.fd_entries.specs.declared.batch.Listing.{Listing}
+use Rattle.fd_entries.specs.declared.batch.Pair.{Pair}
+use Rattle.fd_entries.specs.declared.table.Entry.{Entry}
+use Rattle.fd_entries.specs.Batches.{newest, of_batch, or_older, same_bytes}
 use Rattle.fd_segment.specs.Held.{Alike, batch_of}
 use Rattle.fd_segment.proofs.Keys.{eq_is, same_as_eq}
 use Rattle.fd_dataset.specs.Listed.{entries_of}

@@ -5,7 +5,7 @@ use Rattle.std.specs.Str.{bytes_eq}
 use Rattle.std.proofs.lemmas.Bool.{lt-ltb}
 use Rattle.std.proofs.lemmas.List.Folds.{list_any-append}
 use Rattle.std.proofs.lemmas.Slice.Eq.{bytes_eq-Decides}
-use Rattle.fd_core.specs.declared.batch.Pair.{Pair}
+use Rattle.fd_entries.specs.declared.batch.Pair.{Pair}
 use Rattle.fd_library.specs.Open.{AreDistinct, among}
 use Rattle.fd_outcome.specs.Asking.{count_distinct, is_among}
 use Rattle.fd_outcome.specs.Archiving.{Stored, datasets_in, is_too_many, pairs_for}

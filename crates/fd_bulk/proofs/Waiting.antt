@@ -11,7 +11,7 @@ use Rattle.fd_library.specs.Open.{OpenDataset, OpenDatasets, names_of}
 use Rattle.fd_outcome.specs.Archiving.{Stored, datasets_in}
 use Rattle.fd_bulk.specs.declared.round.Job.{Job}
 use Rattle.fd_bulk.specs.declared.round.Parcel.{Parcel}
-use Rattle.fd_core.specs.declared.batch.Pair.{Pair}
+use Rattle.fd_entries.specs.declared.batch.Pair.{Pair}
 use Rattle.fd_bulk.specs.Crewing.{AreMet, CanSeat, Deals, HasBegun, HasDesk, desks_at, message_at}
 use Rattle.fd_bulk.specs.Dealt.{dealt}
 use Rattle.fd_bulk.specs.Halting.{HaveMetNone}

@@ -1,9 +1,9 @@
 -- What a dataset comes to hold by several workers.
 use Rattle.std.specs.Prelude.{◌≡◌, ◌≤◌, ◌+◌, ◌/◌, ℕ, List, ◌++◌, length, All, Option, Some}
 use Rattle.fd_disk.specs.declared.folders.FileName.{FileName}
-use Rattle.fd_core.specs.declared.batch.Listing.{Listing}
-use Rattle.fd_core.specs.declared.batch.Pair.{Pair}
-use Rattle.fd_core.specs.Batches.{newest, of_batch, or_older}
+use Rattle.fd_entries.specs.declared.batch.Listing.{Listing}
+use Rattle.fd_entries.specs.declared.batch.Pair.{Pair}
+use Rattle.fd_entries.specs.Batches.{newest, of_batch, or_older}
 use Rattle.fd_segment.specs.Held.{batch_of}
 use Rattle.fd_recovery.specs.Recovered.{files_of}
 use Rattle.fd_outcome.specs.Store.{HasOnly}

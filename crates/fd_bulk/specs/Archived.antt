@@ -7,14 +7,14 @@ use Rattle.fd_key.specs.Pairs as keys
 use Rattle.fd_key.specs.Pairs.{key_text}
 use Rattle.fd_schema.specs.Rules.{Rule}
 use Rattle.fd_library.specs.Open.{OpenDataset, Seated, among, names_of}
-use Rattle.fd_library.specs.Stores.{held_of, held_with}
+use Rattle.fd_library.specs.Stores.{KeepsFolder, held_of, held_with}
 use Rattle.fd_outcome.specs.declared.refusal.Refusal.{Refusal}
 use Rattle.fd_outcome.specs.declared.refusal.Refusal.TheVariants as refusals
 use Rattle.fd_outcome.specs.Asking.{count_distinct}
 use Rattle.fd_outcome.specs.Archiving.{Stored, Taken, datasets_in, pairs_for, taken, taken_of}
 use Rattle.fd_outcome.specs.Causes.{BadFile, BadTable, Cause, InStream, NoRule, TooManyDatasets}
 use Rattle.fd_outcome.specs.Store.{Stands}
-use Rattle.fd_core.specs.declared.batch.Pair.{Pair}
+use Rattle.fd_entries.specs.declared.batch.Pair.{Pair}
 use Rattle.fd_bulk.specs.Adding.{AddsAllBy, AddsBy, IsHeldBy, IsOnlyOf}
 use Rattle.fd_bulk.specs.declared.bulk.Bulk.{Bulk}
 use Rattle.fd_bulk.specs.declared.bulk.BulkFault.{BulkFault}
@@ -29,6 +29,8 @@ module _ {D : Type 0} (has : D → Option Contents) where
     pub each_is : (name : List ℕ) (b : List (List Pair)) → held_of s name ≡ Some b → AddsBy workers (pairs_for all name) b (held_with has each t name)
     -- what a pass counts from are the batches that were there
     pub openings : All (λ h. (b : List (List Pair)) → held_of s h.name ≡ Some b → IfSome h.pass (λ p. length b ≡ p.view.opening)) each
+    -- a dataset that isn't open has the files that it had, and its table as it was, synced, or founded
+    pub keeps : (name : List ℕ) → among name (names_of each) ≡ false → KeepsFolder name (folder_at s name) (folder_at t name)
 
   -- and all pairs are stored
   pub record GrowsAll (workers : ℕ) (all : List Stored) (each : List (OpenDataset D)) (s t : Holdings) : Type 0 where
@@ -36,6 +38,8 @@ module _ {D : Type 0} (has : D → Option Contents) where
     pub each_is : (name : List ℕ) (b : List (List Pair)) → held_of s name ≡ Some b → AddsAllBy workers (pairs_for all name) b (held_with has each t name)
     -- the datasets of the messages are open
     pub only : (name : List ℕ) → among name (names_of each) ≡ false → pairs_for all name ≡ []
+    -- a dataset that isn't open has the files that it had, and its table as it was, synced, or founded
+    pub keeps : (name : List ℕ) → among name (names_of each) ≡ false → KeepsFolder name (folder_at s name) (folder_at t name)
 
   -- Each pass is back, no archiver is out, and each pass has seen all that is listed. What it has in doubt is of pairs of its
   -- dataset, whose folder has the files of that; and where something is, one batch more is still few for so many workers.

@@ -3,8 +3,8 @@ use Rattle.std.specs.Prelude.{◌≡◌, ◌≢◌, ◌<◌, ◌≤◌, ◌+◌,
 use mathlib.Core.List.{IsPrefix}
 use Rattle.fd_disk.specs.declared.folders.FileName.{FileName}
 use Rattle.fd_disk.specs.Folders.{Contents, Holdings, WhereTold, folder_at}
-use Rattle.fd_core.specs.declared.batch.Pair.{Pair}
-use Rattle.fd_core.specs.declared.table.NotATable.{NotATable}
+use Rattle.fd_entries.specs.declared.batch.Pair.{Pair}
+use Rattle.fd_entries.specs.declared.table.NotATable.{NotATable}
 use Rattle.fd_segment.specs.declared.fault.Damage.{Damage}
 use Rattle.fd_numbers.specs.Numbers.{Differ}
 use Rattle.fd_schema.specs.Rules.{Texts, file_key}
@@ -17,7 +17,7 @@ use Rattle.fd_archiver.specs.declared.fault.FlushFault.{FlushFault}
 use Rattle.fd_recovery.specs.declared.fault.OpenFault.{OpenFault}
 use Rattle.fd_recovery.specs.declared.fault.OpenFault.TheVariants as opens
 use Rattle.fd_library.specs.Open.{OpenDataset, OpenDatasets, among, names_of, seat_of}
-use Rattle.fd_library.specs.Stores.{held_by_pass, held_of}
+use Rattle.fd_library.specs.Stores.{KeepsFolder, held_by_pass, held_of}
 use Rattle.fd_outcome.specs.Archiving.{Stored, datasets_in, pairs_for}
 use Rattle.fd_outcome.specs.Asking.{count_distinct, is_among}
 use Rattle.fd_outcome.specs.Causes.{BadFile, BadTable}
@@ -85,10 +85,12 @@ Matched P n [] [] [] = Unit {0}
 Matched P n (a ∷ xs) (b ∷ bs) (c ∷ cs) = P n a b c × Matched P (suc n) xs bs cs
 Matched P n xs bs cs = ⊥
 
--- the datasets that aren't open hold what they held
+-- The datasets that aren't open hold what they held: of each the folder has the files that it had, and the table as it was,
+-- synced, or founded.
 pub record HoldsRest (names : List (List ℕ)) (s t : Holdings) : Type 0 where
   pub schema : t.schema ≡ s.schema
   pub rest : (n : List ℕ) → among n names ≡ false → held_of t n ≡ held_of s n
+  pub keeps : (n : List ℕ) → among n names ≡ false → KeepsFolder n (folder_at s n) (folder_at t n)
 
 -- their folders are as they were at first
 abbrev pub AreUntouched : Option Holdings → Option Holdings → List (List ℕ) → Type 0

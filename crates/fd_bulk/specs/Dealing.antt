@@ -1,7 +1,7 @@
 -- Pairs that are dealt to workers, each of which lists its own in batches.
 use Rattle.std.specs.Prelude.{◌≡◌, ◌≤◌, ◌<◌, ◌+◌, ◌*◌, ◌/◌, ◌==◌, ℕ, List, [], ◌∷◌, ◌++◌, if◌then◌else◌, length, map, All}
-use Rattle.fd_core.specs.declared.batch.Pair.{Pair}
-use Rattle.fd_core.specs.Batches.{newest, of_batch, or_older}
+use Rattle.fd_entries.specs.declared.batch.Pair.{Pair}
+use Rattle.fd_entries.specs.Batches.{newest, of_batch, or_older}
 
 -- a batch that was listed, with the worker that listed it
 pub record Marked : Type 0 where

@@ -1,8 +1,8 @@
 -- What a dataset's table holds once several workers have listed in it, and their files are in its folder.
 use Rattle.std.specs.Prelude.{◌≡◌, ◌≤◌, ◌<◌, ◌+◌, ◌*◌, ℕ, List, [], ◌∷◌, ◌++◌, length, take, Option, Some, Ok}
 use Rattle.fd_disk.specs.declared.folders.FileName.{FileName}
-use Rattle.fd_core.specs.declared.batch.Listing.{Listing}
-use Rattle.fd_core.specs.declared.batch.Pair.{Pair}
+use Rattle.fd_entries.specs.declared.batch.Listing.{Listing}
+use Rattle.fd_entries.specs.declared.batch.Pair.{Pair}
 use Rattle.fd_segment.specs.Held.{Alike, batch_of}
 use Rattle.fd_dataset.specs.Listed.{entries_of, listing}
 use Rattle.fd_recovery.specs.Recovered.{batches_listed, files_of}

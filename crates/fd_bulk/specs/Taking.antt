@@ -1,11 +1,13 @@
 -- How far a stream is stored.
-use Rattle.std.specs.Prelude.{◌≡◌, ◌<◌, ℕ, Bool, true, false, List, [], ◌++◌, length, None, Ok}
+use Rattle.std.specs.Prelude.{◌≡◌, ◌<◌, ◌+◌, ℕ, Bool, true, false, List, [], ◌++◌, length, None}
+use Rattle.fd_sections.specs.Message.{Sections}
 use Rattle.fd_sections.specs.Progress.{Progress}
-use Rattle.fd_sections.specs.Splitting.{answer}
-use Rattle.fd_sections.specs.Stream.{stream, first}
+use Rattle.fd_sections.specs.Splitting.{start}
+use Rattle.fd_sections.specs.Stream.{stream}
+use Rattle.fd_sections.specs.Joining.{IsWaiting, SplitsOn}
 use Rattle.fd_key.specs.Pairs.{Pair}
 use Rattle.fd_schema.specs.Rules.{Rule}
-use Rattle.fd_outcome.specs.Archiving.{Stored, Taken, taken_after, datasets_in}
+use Rattle.fd_outcome.specs.Archiving.{Stored, Taken, taken_after, taken_messages, datasets_in}
 
 -- messages that are stored before others
 abbrev pub behind : List Stored → Taken → Taken
@@ -15,9 +17,15 @@ behind ss t = record { stored = ss ++ t.stored; refusal = t.refusal; junk = t.ju
 abbrev pub taken_from : List Rule → List Pair → List (List ℕ) → Progress → Bool → List ℕ → Taken
 taken_from rules given datasets p past more = taken_after rules given past datasets p.given p.skipped (stream (p.rest ++ more))
 
--- From one place to another these were stored; whatever more comes, they come before what is stored from there on.
+-- each of the messages, from number n on and after messages of these datasets, is stored, and these they are
+abbrev pub AreStored : List Rule → List Pair → List (List ℕ) → ℕ → List Sections → List Stored → Type 0
+AreStored rules given datasets n messages ss = taken_messages rules given datasets n None 0 messages ≡ record { stored = ss; refusal = None; junk = 0 }
+
+-- From one place to another these messages were gone over, and these were stored.
 pub record StoresOn (rules : List Rule) (given : List Pair) (datasets : List (List ℕ)) (p q : Progress) (ss : List Stored) : Type 0 where
-  pub same : (past : Bool) (more : List ℕ) → taken_from rules given datasets p past more ≡ behind ss (taken_from rules given (datasets ++ datasets_in ss) q past more)
+  pub messages : List Sections
+  pub splits : SplitsOn p q [] messages
+  pub stores : AreStored rules given datasets (p.given + 1) messages ss
 
 -- From one place to another these were stored, behind the messages a; all are b.
 pub record StoredOn (rules : List Rule) (given : List Pair) (p q : Progress) (a b : List Stored) : Type 0 where
@@ -25,16 +33,13 @@ pub record StoredOn (rules : List Rule) (given : List Pair) (p q : Progress) (a 
   pub adds : b ≡ a ++ new
   pub on : StoresOn rules given (datasets_in a) p q new
 
--- no message is whole
-abbrev pub IsWaiting : Progress → Type 0
-IsWaiting p = answer p (first p.rest) ≡ Ok None
-
 -- one message was gone over, or none is whole
 abbrev pub Measures : Bool → Progress → Progress → Type 0
 Measures true p q = length q.rest < length p.rest
 Measures false p q = IsWaiting q
 
--- The stream was gone over so far, and all its messages were stored: whatever more comes.
+-- These messages of the octets seen were gone over, and these were stored.
 pub record Seen (rules : List Rule) (given : List Pair) (p : Progress) (all : List Stored) (seen : List ℕ) : Type 0 where
-  pub fed : p.fed ≡ length seen
-  pub same : (past : Bool) (more : List ℕ) → taken_after rules given past [] 0 0 (stream (seen ++ more)) ≡ behind all (taken_from rules given (datasets_in all) p past more)
+  pub messages : List Sections
+  pub splits : SplitsOn start p seen messages
+  pub stores : AreStored rules given [] 1 messages all

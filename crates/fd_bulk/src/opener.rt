@@ -3,8 +3,8 @@ ghost use Rattle.std.specs.Prelude.{[], All, ◌≡◌, ◌⊎◌, ◌≤◌, �
 ghost use Rattle.fd_bytes.specs.Causes.{Rose};
 ghost use Rattle.fd_disk.specs.Causes.{OnFault};
 ghost use Rattle.fd_disk.specs.Folders.{WhereTold, folder_at};
-ghost use Rattle.fd_core.specs.declared.table.Entry.{Entry};
-ghost use Rattle.fd_core.specs.Table.{listed};
+ghost use Rattle.fd_entries.specs.declared.table.Entry.{Entry};
+ghost use Rattle.fd_entries.specs.Table.{listed};
 ghost use Rattle.fd_turn.specs.Passes.{IsOf};
 ghost use Rattle.fd_recovery.specs.Causes.{OnDamaged, OnDisk, OnNotATable};
 ghost use Rattle.fd_recovery.specs.Damages.{IsFirst, damages};

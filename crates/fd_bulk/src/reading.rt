@@ -11,7 +11,8 @@ ghost use Rattle.fd_library.specs.Open.{OutAre};
 ghost use Rattle.fd_outcome.specs.Archiving.{Stored};
 ghost use Rattle.fd_bulk.specs.Halting.{OnStore};
 ghost use Rattle.fd_bulk.specs.Inputs.{CanGo, EndsOf, Going, GoesOn, InputDealt, InputEnds, PlacedAs, is_calm, is_listed, is_unread};
-ghost use Rattle.fd_bulk.specs.Taking.{IsWaiting, Measures};
+ghost use Rattle.fd_sections.specs.Joining.{IsWaiting};
+ghost use Rattle.fd_bulk.specs.Taking.{Measures};
 ghost use Rattle.fd_bulk.specs.Crewing.{Deals, Finished, Running};
 
 use crate::bulk::BulkFault;

@@ -1,6 +1,6 @@
 //! A round: each worker stores its share of some messages.
 ghost use Rattle.std.specs.Prelude.{◌≡◌, ◌<◌, ◌≤◌, ℕ, List, All, length, slice_index_or};
-ghost use Rattle.fd_core.specs.declared.batch.Pair.{Pair};
+ghost use Rattle.fd_entries.specs.declared.batch.Pair.{Pair};
 ghost use Rattle.fd_bulk.specs.Sharing.{AllWork, CanListAll, CanListAt, CanShare, CanStore, Listed, ListedAt, SameMet, Shared, StoredAt};
 ghost use Rattle.fd_bulk.specs.Working.{Filling, Stage};
 

@@ -1,6 +1,6 @@
 //! A worker in one dataset: it puts messages into a batch, and lists the batch where it is full.
 ghost use Rattle.std.specs.Prelude.{◌≡◌, ◌≤◌, ◌<◌, ◌+◌, ◌^◌, ◌∷◌, ◌++◌, [], List, length, Err};
-ghost use Rattle.fd_core.specs.declared.batch.Pair.{Pair};
+ghost use Rattle.fd_entries.specs.declared.batch.Pair.{Pair};
 ghost use Rattle.fd_schema.specs.Rules.{file_key};
 ghost use Rattle.fd_schema.specs.Reading.{seen_place};
 ghost use Rattle.fd_turn.specs.Views.{View};

@@ -88,7 +88,8 @@ where
     // were listed, and what the store holds then.
     ensures session { IfSome (command_of (texts words.now)) (λ command. OfSession command (SessionRan F result (object (S.has store.old) (S.has store.new) (S.faults store.old) (S.faults store.new)) (object (I.left input.old) (I.left input.new) (I.faults input.old) (I.faults input.new)) (object (K.taken output.old) (K.taken output.new) (K.faults output.old) (K.faults output.new)) (object (E.taken report.old) (E.taken report.new) (E.faults report.old) (E.faults report.new)))) }
 
-    // What an archive tells to be stored outlasts a crash: each store that it may leave has it.
+    // What an archive or a trial tells to be stored outlasts a crash: each store that it may leave has it. And whatever is told,
+    // each dataset holds there what it held, and behind it few batches of the messages alone.
     ensures outlasts { IfSome (command_of (texts words.now)) (λ command. OutlastsCrash command result (object (S.has store.old) (S.has store.new) (S.faults store.old) (S.faults store.new)) (object (I.left input.old) (I.left input.new) (I.faults input.old) (I.faults input.new)) (object (E.taken report.old) (E.taken report.new) (E.faults report.old) (E.faults report.new))) }
 
     // A fault is told only where a count rose.

@@ -1,8 +1,8 @@
 -- The bytes of a key that was located, copied.
 use Rattle.std.proofs.Common.{◌≡◌, ◌∙◌, ◌-◌, ◌+◌, ◌≤◌, ◌++◌, ℕ, List, take, drop, Option, None, Some, refl, sym, ap, subst, slice_get, take-take, take-append-drop}
 use Rattle.std.specs.Prelude.{IfSome}
-use Rattle.fd_core.specs.declared.batch.Pair.{Pair}
-use Rattle.fd_core.specs.Batches.{newest}
+use Rattle.fd_entries.specs.declared.batch.Pair.{Pair}
+use Rattle.fd_entries.specs.Batches.{newest}
 use Rattle.fd_schema.specs.Rules.{Texts, file_key}
 use Rattle.fd_segment.specs.Copying.{IsCopied, IsCopiedInPart}
 use Rattle.fd_segment.specs.Held.{Standing}

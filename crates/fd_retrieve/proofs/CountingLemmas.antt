@@ -4,8 +4,8 @@ use Rattle.std.specs.Prelude.{◌||◌, IfSome, is_some, option_map, slice_get}
 use Rattle.std.specs.Str.{bytes_eq}
 use Rattle.std.proofs.lemmas.Slice.Eq.{bytes_eq-Decides}
 use Rattle.fd_disk.specs.Folders.{Holdings, WhereTold, folder_at}
-use Rattle.fd_core.specs.declared.batch.Pair.{Pair}
-use Rattle.fd_core.specs.Batches.{newest}
+use Rattle.fd_entries.specs.declared.batch.Pair.{Pair}
+use Rattle.fd_entries.specs.Batches.{newest}
 use Rattle.fd_schema.specs.Rules.{Texts, file_key}
 use Rattle.fd_schema.specs.Reading.{seen_place}
 use Rattle.fd_schema.specs.declared.place.Place.{Place}

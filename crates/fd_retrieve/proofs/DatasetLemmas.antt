@@ -7,7 +7,7 @@ use Rattle.fd_segment.specs.Held.{Standing}
 use Rattle.std.specs.Prelude.{option_map}
 use Rattle.std.proofs.lemmas.List.Elements.{All-head, All-tail}
 use Rattle.fd_disk.proofs.NameLemmas.{is_or_not}
-use Rattle.fd_core.specs.declared.batch.Pair.{Pair}
+use Rattle.fd_entries.specs.declared.batch.Pair.{Pair}
 use Rattle.fd_dataset.specs.Listed.{listing}
 use Rattle.fd_recovery.specs.Recovered.{all_of}
 use Rattle.fd_retriever.specs.Answers.{Tells}

@@ -1,4 +1,5 @@
 pub mod Staying
+pub mod Looking
 pub mod TableLemmas
 pub mod OpenLemmas
 pub mod DatasetLemmas

@@ -5,10 +5,10 @@ use Rattle.fd_disk.specs.declared.file.File.{File}
 use Rattle.fd_disk.specs.Folders.{Contents}
 use Rattle.fd_disk.specs.Images.{IsImage}
 use Rattle.fd_disk.specs.Moments.{MayLeave}
-use Rattle.fd_core.specs.declared.batch.Listing.{Listing}
-use Rattle.fd_core.specs.declared.batch.Pair.{Pair}
-use Rattle.fd_core.specs.declared.table.Entry.{Entry}
-use Rattle.fd_core.specs.Table.{listed}
+use Rattle.fd_entries.specs.declared.batch.Listing.{Listing}
+use Rattle.fd_entries.specs.declared.batch.Pair.{Pair}
+use Rattle.fd_entries.specs.declared.table.Entry.{Entry}
+use Rattle.fd_entries.specs.Table.{listed}
 use Rattle.fd_toc.specs.Lists.{ListsOrAlso}
 use Rattle.fd_segment.specs.Held.{Standing, batch_of}
 use Rattle.fd_dataset.specs.Listed.{listing}

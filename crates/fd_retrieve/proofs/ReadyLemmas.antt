@@ -10,8 +10,8 @@ use Rattle.std.proofs.lemmas.List.Elements.{All-nil, All-cons, All-head, All-tai
 use Rattle.fd_disk.specs.declared.file.File.{File}
 use Rattle.fd_disk.specs.Folders.{Holdings, folder_at}
 use Rattle.fd_disk.proofs.NameLemmas.{is_or_not}
-use Rattle.fd_core.specs.declared.batch.Pair as batches
-use Rattle.fd_core.specs.Batches.{newest}
+use Rattle.fd_entries.specs.declared.batch.Pair as batches
+use Rattle.fd_entries.specs.Batches.{newest}
 use Rattle.fd_recovery.specs.Recovered.{held_by}
 use Rattle.fd_key.specs.Pairs.{Pair}
 use Rattle.fd_schema.specs.declared.place.Place.{Place}

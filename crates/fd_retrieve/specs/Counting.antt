@@ -1,6 +1,6 @@
 -- How many keys are found.
 use Rattle.std.specs.Prelude.{◌≡◌, ◌+◌, ℕ, List, [], ◌∷◌, length, option_map, Option, Some, None, slice_get, string_bytes}
-use Rattle.fd_core.specs.Batches.{newest}
+use Rattle.fd_entries.specs.Batches.{newest}
 use Rattle.fd_disk.specs.Folders.{Holdings}
 use Rattle.fd_schema.specs.Rules.{Texts, file_key}
 use Rattle.fd_segment.specs.declared.fault.Damage.{Damage}

@@ -1,7 +1,7 @@
 -- Where the newest bytes of a request's keys stand, among the datasets that are open.
 use Rattle.std.specs.Prelude.{◌≡◌, ◌<◌, ◌≤◌, ℕ, List, length, Option, Some, None, false, IfSome, slice_get, slice_index_or, option_map}
-use Rattle.fd_core.specs.declared.batch.Pair.{Pair}
-use Rattle.fd_core.specs.Batches.{newest}
+use Rattle.fd_entries.specs.declared.batch.Pair.{Pair}
+use Rattle.fd_entries.specs.Batches.{newest}
 use Rattle.fd_schema.specs.declared.place.Place.{Place}
 use Rattle.fd_segment.specs.declared.fault.Damage.{Damage}
 use Rattle.fd_schema.specs.Rules.{Texts, file_key}

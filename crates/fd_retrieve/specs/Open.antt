@@ -3,9 +3,9 @@ use Rattle.std.specs.Prelude.{◌≡◌, ◌<◌, length, ℕ, List, [], ◌∷�
 use Rattle.std.specs.Str.{bytes_eq}
 use Rattle.fd_disk.specs.declared.file.File.{File}
 use Rattle.fd_disk.specs.Folders.{Contents, Holdings, folder_at}
-use Rattle.fd_core.specs.declared.batch.Pair.{Pair}
-use Rattle.fd_core.specs.declared.table.Entry.{Entry}
-use Rattle.fd_core.specs.Table.{listed}
+use Rattle.fd_entries.specs.declared.batch.Pair.{Pair}
+use Rattle.fd_entries.specs.declared.table.Entry.{Entry}
+use Rattle.fd_entries.specs.Table.{listed}
 use Rattle.fd_segment.specs.Held.{Standing}
 use Rattle.fd_segment.specs.declared.fault.Damage.{Damage}
 use Rattle.fd_retriever.specs.Answers.{StandsIn}

@@ -1,8 +1,8 @@
 // How many keys are found.
 ghost use Rattle.std.specs.Prelude.{◌≡◌, ◌≤◌, ◌<◌, List, ℕ, Option, Some, None, false, length, map, filter, IfOk, IfErr, IfSome, slice_index_or};
 ghost use Rattle.fd_disk.specs.Folders.{WhereTold};
-ghost use Rattle.fd_core.specs.declared.batch.Pair.{Pair};
-ghost use Rattle.fd_core.specs.Batches.{newest};
+ghost use Rattle.fd_entries.specs.declared.batch.Pair.{Pair};
+ghost use Rattle.fd_entries.specs.Batches.{newest};
 ghost use Rattle.fd_schema.specs.Rules.{Texts, file_key};
 ghost use Rattle.fd_schema.specs.Reading.{seen_place};
 ghost use Rattle.fd_schema.specs.declared.place.Place.{Place};
@@ -11,6 +11,7 @@ ghost use Rattle.fd_outcome.specs.Store.{Stays, has_table, table_at};
 ghost use Rattle.fd_outcome.specs.Trying.{tally_of};
 ghost use Rattle.fd_retrieve.specs.Open.{IsDamagedAt, table_in};
 ghost use Rattle.fd_retrieve.specs.Located.{AreLocated, IsIn, IsLocated, OnLost};
+ghost use Rattle.fd_retrieve.specs.Looking.{IsLookedThrough};
 ghost use Rattle.fd_retrieve.specs.Counting.{IsBrokenAmong, IsLength, IsOfKeys, IsLostIn, IsTally, finds, with_length};
 ghost use Rattle.fd_retrieve.specs.Stops.{OnTooMany};
 ghost use Rattle.fd_retrieve.specs.Tables.{datasets_in};
@@ -74,6 +75,7 @@ where
     ensures of { IfErr result IsOfKeys }
     ensures too_many { IfErr result (λ e. OnTooMany e (IfSome (S.has store.old) (λ h. 2048 < count_distinct (filter (has_table h) (datasets_in places.now))))) }
     ensures stays { WhereTold (S.has store.old) (S.has store.new) Stays }
+    ensures looks { WhereTold (S.has store.old) (S.has store.new) IsLookedThrough }
     ensures home { (n : List ℕ) → S.out store.new n ≡ false }
     ensures later { S.faults store.old ≤ S.faults store.new }
 {

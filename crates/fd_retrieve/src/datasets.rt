@@ -1,9 +1,9 @@
 // The datasets that were opened, in which fields are found.
 ghost use Rattle.std.specs.Prelude.{◌≡◌, ◌≤◌, ◌<◌, List, ℕ, Option, Some, None, false, length, map, slice_get, IfOk, IfErr, IfSome, OnOk, MatchOption};
-ghost use Rattle.fd_core.specs.declared.batch.Pair.{Pair};
+ghost use Rattle.fd_entries.specs.declared.batch.Pair.{Pair};
 ghost use Rattle.fd_segment.specs.Held.{Standing};
 ghost use Rattle.fd_bytes.specs.Causes.{Rose};
-ghost use Rattle.fd_core.specs.Batches.{newest};
+ghost use Rattle.fd_entries.specs.Batches.{newest};
 ghost use Rattle.fd_schema.specs.Rules.{Texts, file_key};
 ghost use Rattle.fd_retriever.specs.Answers.{IsAnswer, OnDamaged, OnWrite, TookFront};
 ghost use Rattle.fd_retriever.specs.Kept.{AreThose};

@@ -2,13 +2,14 @@
 ghost use Rattle.std.specs.Prelude.{◌≡◌, ◌≤◌, List, ℕ, Option, Some, None, Ok, Err, false, is_some, length, IfOk, IfErr, IfSome, string_bytes};
 ghost use Rattle.std.specs.Str.{bytes_eq};
 ghost use Rattle.fd_disk.specs.Folders.{WhereTold, folder_at};
-ghost use Rattle.fd_core.specs.declared.table.Entry.{Entry};
-ghost use Rattle.fd_core.specs.Table.{listed};
+ghost use Rattle.fd_entries.specs.declared.table.Entry.{Entry};
+ghost use Rattle.fd_entries.specs.Table.{listed};
 ghost use Rattle.fd_segment.specs.Shared.{AreOf, standings};
 ghost use Rattle.fd_recovery.specs.Causes.{NotTooMany, OnDamaged, OnNotATable};
 ghost use Rattle.fd_recovery.specs.Damages.{IsFirst, damages};
 ghost use Rattle.fd_recovery.specs.Recovered.{WithTable};
 ghost use Rattle.fd_outcome.specs.Store.{StaysFolder, Stays, has_table};
+ghost use Rattle.fd_retrieve.specs.Looking.{IsLookedAt, IsLookedThrough};
 ghost use Rattle.fd_retrieve.specs.Open.{IsOpenOf, IsOpenIn, StandsAsSaid};
 
 use fd_bytes::{Bytes, NoMemory};
@@ -72,6 +73,7 @@ where
     ensures broken { IfErr result (λ e. IfSome (S.has store.old) (λ h. StandsAsSaid name.now (folder_at h name.now) e)) }
     ensures never { IfErr result NotTooMany }
     ensures stays { WhereTold (S.has store.old) (S.has store.new) Stays }
+    ensures looks { WhereTold (S.has store.old) (S.has store.new) IsLookedThrough }
     ensures home { (n : List ℕ) → S.out store.new n ≡ false }
     ensures later { S.faults store.old ≤ S.faults store.new }
 {
@@ -99,6 +101,7 @@ where
     ensures broken { IfErr result (λ e. IfSome (D.has folder.old) (λ v. StandsAsSaid name.now v e)) }
     ensures never { IfErr result NotTooMany }
     ensures stays { IfSome (D.has folder.old) (λ v. IfSome (D.has folder.new) (λ w. StaysFolder name.now v w)) }
+    ensures looks { IfSome (D.has folder.old) (λ v. IfSome (D.has folder.new) (λ w. IsLookedAt v w)) }
     ensures back { D.table_out folder.new ≡ false }
     ensures name { D.name folder.new ≡ D.name folder.old }
 {

@@ -7,6 +7,7 @@ ghost use Rattle.fd_recovery.specs.Causes.{NotTooMany};
 ghost use Rattle.fd_request.specs.Expansion.{expand};
 ghost use Rattle.fd_outcome.specs.Asking.{asked_of};
 ghost use Rattle.fd_outcome.specs.Store.{Stays};
+ghost use Rattle.fd_retrieve.specs.Looking.{IsLookedThrough};
 ghost use Rattle.fd_retrieve.specs.Ready.{AreOpen, IsBrokenOf, IsReady, IsUnopened, MayOpen, asked_at, placed_of};
 ghost use Rattle.fd_retrieve.specs.Stops.{IsOfRequest, OfDataset, OnInput, OnRefusal, Says};
 
@@ -116,6 +117,7 @@ where
     ensures broken { IfErr result (λ e. IfSome (S.has store.old) (λ h. IsBrokenOf e h (texts names.now))) }
     ensures of { IfErr result OfDataset }
     ensures stays { WhereTold (S.has store.old) (S.has store.new) Stays }
+    ensures looks { WhereTold (S.has store.old) (S.has store.new) IsLookedThrough }
     ensures home { (n : List ℕ) → S.out store.new n ≡ false }
     ensures later { S.faults store.old ≤ S.faults store.new }
 {
@@ -142,6 +144,7 @@ where
     ensures broken { IfErr result (λ e. IfSome (S.has store.old) (λ h. IsBrokenOf e h (name.now ∷ []))) }
     ensures of { IfErr result OfDataset }
     ensures stays { WhereTold (S.has store.old) (S.has store.new) Stays }
+    ensures looks { WhereTold (S.has store.old) (S.has store.new) IsLookedThrough }
     ensures home { (n : List ℕ) → S.out store.new n ≡ false }
     ensures later { S.faults store.old ≤ S.faults store.new }
 {

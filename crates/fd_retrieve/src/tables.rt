@@ -5,6 +5,7 @@ ghost use Rattle.fd_outcome.specs.Asking.{count_distinct, is_among};
 ghost use Rattle.fd_schema.specs.Reading.{seen_place};
 ghost use Rattle.fd_schema.specs.Seen.{texts};
 ghost use Rattle.fd_outcome.specs.Store.{Stays, has_table};
+ghost use Rattle.fd_retrieve.specs.Looking.{IsLookedThrough};
 ghost use Rattle.fd_retrieve.specs.Stops.{NotRefused, OnTooMany};
 ghost use Rattle.fd_retrieve.specs.Tables.{AreTables, MayAdd, datasets_in};
 
@@ -29,6 +30,7 @@ pub(crate) fn tables_of<F: Send, S: Store<F>>(
     ensures too_many { IfErr result (λ e. OnTooMany e (IfSome (S.has store.old) (λ h. 2048 < count_distinct (filter (has_table h) (datasets_in places.now))))) }
     ensures stops { IfErr result (NotRefused) }
     ensures stays { WhereTold (S.has store.old) (S.has store.new) Stays }
+    ensures looks { WhereTold (S.has store.old) (S.has store.new) IsLookedThrough }
     ensures home { (n : List ℕ) → S.out store.new n ≡ false }
     ensures later { S.faults store.old ≤ S.faults store.new }
 {
@@ -56,6 +58,7 @@ fn add_table<F: Send, S: Store<F>>(
     ensures too_many { IfErr result (λ e. OnTooMany e (IfSome (S.has store.old) (λ h. (length names.old.items ≡ 2048) × (is_among (texts names.old.items) (seen_place place.now).dataset ≡ false) × (has_table h (seen_place place.now).dataset ≡ true)))) }
     ensures stops { IfErr result (NotRefused) }
     ensures stays { WhereTold (S.has store.old) (S.has store.new) Stays }
+    ensures looks { WhereTold (S.has store.old) (S.has store.new) IsLookedThrough }
     ensures home { (n : List ℕ) → S.out store.new n ≡ false }
     ensures later { S.faults store.old ≤ S.faults store.new }
 {
@@ -103,6 +106,7 @@ pub fn has_table<F: Send, S: Store<F>>(
     ensures there { IfOk result (λ b. IfSome (S.has store.old) (λ h. b ≡ has_table h name.now)) }
     ensures short { IfOk result (λ b. b ≡ true → length name.now ≤ 255) }
     ensures stays { WhereTold (S.has store.old) (S.has store.new) Stays }
+    ensures looks { WhereTold (S.has store.old) (S.has store.new) IsLookedThrough }
     ensures home { (n : List ℕ) → S.out store.new n ≡ false }
     ensures later { S.faults store.old ≤ S.faults store.new }
 {

@@ -4,8 +4,8 @@ use Rattle.std.specs.Prelude.{◌⊎◌, Contains, is_some, option_map}
 use Rattle.std.specs.Str.{bytes_eq}
 use Rattle.std.proofs.lemmas.Slice.Eq.{bytes_eq-Decides}
 use Rattle.fd_disk.specs.Folders.{Holdings, folder_at}
-use Rattle.fd_core.specs.declared.batch.Pair.{Pair}
-use Rattle.fd_core.specs.Batches.{newest, of_batch, or_older, same_bytes}
+use Rattle.fd_entries.specs.declared.batch.Pair.{Pair}
+use Rattle.fd_entries.specs.Batches.{newest, of_batch, or_older, same_bytes}
 use Rattle.std.proofs.lemmas.Bool.Decides.{nat_tests}
 use Rattle.fd_schema.specs.Rules.{Texts, file_key}
 use Rattle.fd_outcome.specs.Archiving.{Stored, datasets_in, pairs_for}

@@ -7,3 +7,4 @@ pub mod Giving
 pub mod TrialExits
 pub mod Stepping
 pub mod Stopping
+pub mod Outlasting

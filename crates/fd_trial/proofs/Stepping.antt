@@ -4,7 +4,7 @@ use Rattle.std.specs.Prelude.{IfSome, Contains, codes}
 use Rattle.std.specs.Fmt.{decimal}
 use Rattle.fd_disk.specs.Folders.{Contents, Holdings, WhereTold, folder_at}
 use Rattle.fd_listing.specs.Lines.{line}
-use Rattle.fd_core.specs.declared.batch.Pair.{Pair}
+use Rattle.fd_entries.specs.declared.batch.Pair.{Pair}
 use Rattle.fd_schema.specs.declared.place.Place.{Place}
 use Rattle.fd_schema.specs.Reading.{seen_place}
 use Rattle.fd_schema.specs.Rules.{Rule, Texts}

@@ -38,7 +38,7 @@ use Rattle.fd_trial.proofs.Finding.{broken_before}
 
 -- ---- the rules
 
-never_unruled : (c : Cause) → trial_rules None ≡ Err c → ⊥
+pub never_unruled : (c : Cause) → trial_rules None ≡ Err c → ⊥
 never_unruled c e = go worked.rules (sym rows.every.planted_rules ∙ e) rows.every.taken_one
   where
     go : (r : Result (List Rule) Cause) → r ≡ Err c → (r then λ rs. Ok (taken rs worked.given worked.field)) ≡ Ok (record { stored = record { dataset = worked.dataset; pair = worked.pair worked.field } ∷ []; refusal = None; junk = 0 }) → ⊥

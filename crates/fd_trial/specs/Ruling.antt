@@ -1,6 +1,6 @@
 -- Why a trial has no rules, and what that leaves.
-use Rattle.std.specs.Prelude.{◌≡◌, ◌⊎◌, ℕ, List, Some, Err, unwrap_or}
-use Rattle.fd_disk.specs.Folders.{Holdings}
+use Rattle.std.specs.Prelude.{◌≡◌, ◌⊎◌, ℕ, List, Some, None, Err, unwrap_or}
+use Rattle.fd_disk.specs.Folders.{Holdings, planted}
 use Rattle.fd_schema.specs.Grammar.{Fault}
 use Rattle.fd_schema.specs.Reading.{IsFirst}
 use Rattle.fd_outcome.specs.Asking.{rules_of, ◌then◌}
@@ -13,6 +13,10 @@ use Rattle.fd_trial.specs.declared.ruling.Unruled.TheVariants as unruled
 -- all stays, or the schema of a trial was planted
 abbrev pub IsLeft : Holdings → Holdings → Type 0
 IsLeft h m = Stays h m ⊎ Plants trial_schema h m
+
+-- the store is the same, or the same with the schema of a trial, where there was none
+abbrev pub IsPlantedOnly : Holdings → Holdings → Type 0
+IsPlantedOnly h m = (m ≡ h) ⊎ ((h.schema ≡ None) × (m ≡ planted trial_schema h))
 
 -- a fault of the store, or want of memory
 abbrev pub IsOfStore : Unruled → Type 0

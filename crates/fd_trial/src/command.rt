@@ -12,6 +12,8 @@ ghost use Rattle.fd_outcome.specs.Told.{ToldOrNoMemory};
 ghost use Rattle.fd_outcome.specs.Trying.{trial_given, trial_rules};
 ghost use Rattle.fd_bytes.specs.Causes.{Rose};
 ghost use Rattle.fd_retrieve.specs.Stops.{OnDisk};
+ghost use Rattle.fd_archive.specs.Crashing.{OutlastsCrash, OutlastsTrial};
+ghost use Rattle.fd_retrieve.specs.Looking.{IsLookedThrough};
 ghost use Rattle.fd_trial.specs.Asking.{Begins};
 ghost use Rattle.fd_trial.specs.Telling.{ToldUnfound, ToldUnstored};
 
@@ -45,6 +47,9 @@ fn given(alloc: Global) -> Result<Given, NoMemory>
 /// Stores so many generated messages, asks for their keys, and tells how many were found, how many octets these have, and how
 /// many were missed. Where the store has no schema, that of a trial is planted first; another one is refused. So many workers
 /// store and look for the fields. No folder of the store is out, and none is out afterwards.
+///
+/// What is told to be stored outlasts a crash: each store that it may leave has all messages; and whatever is told, each dataset
+/// holds there what it held, and behind it few batches of these messages alone.
 pub fn trial<F: Send + Drop, X: Drop, S: Store<F>, E: Sink<X>, G: Gate, R: Threads + Wait + Sync>(
     rt: &R,
     alloc: Global,
@@ -60,6 +65,7 @@ where
     requires workers { (1 ≤ workers) × (workers ≤ 8) }
     requires home { (name : List ℕ) → S.out store.old name ≡ false }
     ensures ran { (left : Option (List ℕ)) (l : ℕ) (a : Option (List ℕ)) (k : ℕ) → Ran (Trial root.now count workers) result (object (S.has store.old) (S.has store.new) (S.faults store.old) (S.faults store.new)) (object left left l l) (object a a k k) (object (E.taken report.old) (E.taken report.new) (E.faults report.old) (E.faults report.new)) }
+    ensures outlasts { (left : Option (List ℕ)) (l : ℕ) → OutlastsCrash (Trial root.now count workers) result (object (S.has store.old) (S.has store.new) (S.faults store.old) (S.faults store.new)) (object left left l l) (object (E.taken report.old) (E.taken report.new) (E.faults report.old) (E.faults report.new)) }
     ensures home { (name : List ℕ) → S.out store.new name ≡ false }
 {
     let Ok(given) = given(alloc) else {
@@ -97,6 +103,7 @@ where
     ensures ran { (root : List ℕ) (start : Option Holdings) (faults : ℕ) (left : Option (List ℕ)) (l : ℕ) (a : Option (List ℕ)) (k : ℕ) → faults ≤ S.faults store.old
         → WhereTold start (S.has store.old) (λ h m. IsPlanted h m × (trial_rules h.schema ≡ Ok schema.now))
         → Ran (Trial root count workers) result (object start (S.has store.new) faults (S.faults store.new)) (object left left l l) (object a a k k) (object (E.taken report.old) (E.taken report.new) (E.faults report.old) (E.faults report.new)) }
+    ensures outlasts { WhereTold (S.has store.old) (S.has store.new) (OutlastsTrial result workers count (Ok schema.now)) }
     ensures home { (name : List ℕ) → S.out store.new name ≡ false }
 {
     let mut messages = MadeMessages::new(alloc, count);
@@ -170,6 +177,7 @@ where
     ensures ran { (root : List ℕ) (start : Option Holdings) (faults : ℕ) (left : Option (List ℕ)) (l : ℕ) (a : Option (List ℕ)) (k : ℕ) → faults ≤ S.faults store.old
         → Begins workers schema.now count start (S.has store.old)
         → Ran (Trial root count workers) result (object start (S.has store.new) faults (S.faults store.new)) (object left left l l) (object a a k k) (object (E.taken report.old) (E.taken report.new) (E.faults report.old) (E.faults report.new)) }
+    ensures looks { WhereTold (S.has store.old) (S.has store.new) IsLookedThrough }
     ensures home { (name : List ℕ) → S.out store.new name ≡ false }
 {
     let Ok(places) = places_of(alloc, schema, given, count) else {

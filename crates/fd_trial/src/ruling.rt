@@ -6,7 +6,7 @@ ghost use Rattle.fd_schema.specs.Grammar.{IsSchema};
 ghost use Rattle.fd_outcome.specs.Asking.{rules_of, ◌then◌};
 ghost use Rattle.fd_outcome.specs.Trying.{if_trial, trial_rules, trial_schema};
 ghost use Rattle.fd_outcome.specs.Ends.{IsPlanted};
-ghost use Rattle.fd_trial.specs.Ruling.{IsLeft, IsOfStore, IsUnruledBy, IsUnruledIn, OnDisk};
+ghost use Rattle.fd_trial.specs.Ruling.{IsLeft, IsOfStore, IsPlantedOnly, IsUnruledBy, IsUnruledIn, OnDisk};
 
 use fd_disk::{Down, Store};
 use fd_schema::{Schema, SchemaFault, SchemaKind};
@@ -43,6 +43,7 @@ fn plant<F: Send + Drop, S: Store<F>>(alloc: Global, store: &mut S) -> Result<Ve
     requires none { IfSome (S.has store.old) (λ h. h.schema ≡ None) }
     ensures text { IfOk result (λ t. WhereTold (S.has store.old) (S.has store.new) (λ h m. IsPlanted h m × (t.items ≡ unwrap_or h.schema trial_schema))) }
     ensures left { OnErr result (WhereTold (S.has store.old) (S.has store.new) IsLeft) }
+    ensures kept { WhereTold (S.has store.old) (S.has store.new) IsPlantedOnly }
     ensures of { IfErr result IsOfStore }
     ensures disk { IfErr result (λ e. OnDisk e (Rose (S.faults store.old) (S.faults store.new))) }
     ensures out { S.out store.new ≡ S.out store.old }
@@ -67,6 +68,7 @@ fn text_in<F: Send + Drop, S: Store<F>>(
 ) -> Result<Vec<u8>, Unruled>
     ensures text { IfOk result (λ t. WhereTold (S.has store.old) (S.has store.new) (λ h m. IsPlanted h m × (t.items ≡ unwrap_or h.schema trial_schema))) }
     ensures left { OnErr result (WhereTold (S.has store.old) (S.has store.new) IsLeft) }
+    ensures kept { WhereTold (S.has store.old) (S.has store.new) IsPlantedOnly }
     ensures of { IfErr result IsOfStore }
     ensures disk { IfErr result (λ e. OnDisk e (Rose (S.faults store.old) (S.faults store.new))) }
     ensures out { S.out store.new ≡ S.out store.old }
@@ -115,6 +117,7 @@ pub(crate) fn ruled<F: Send + Drop, S: Store<F>>(
     ensures rules { IfOk result (λ rules. WhereTold (S.has store.old) (S.has store.new) (λ h m. IsPlanted h m × (trial_rules h.schema ≡ Ok rules))) }
     ensures read { IfOk result IsSchema }
     ensures unruled { IfErr result (λ e. WhereTold (S.has store.old) (S.has store.new) (λ h m. IsLeft h m × IsUnruledIn h e)) }
+    ensures kept { WhereTold (S.has store.old) (S.has store.new) IsPlantedOnly }
     ensures disk { IfErr result (λ e. OnDisk e (Rose (S.faults store.old) (S.faults store.new))) }
     ensures out { S.out store.new ≡ S.out store.old }
     ensures later { S.faults store.old ≤ S.faults store.new }

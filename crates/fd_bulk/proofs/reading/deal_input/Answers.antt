@@ -94,8 +94,7 @@ loop-preserved g c =
     record {
       midway = turned g.S.Folder.Folder.has g.S.Folder.Shelf.Shelf.kept c.args.schema.now c.args.given.now (g.I.Source.left c.args.input.now) (g.S.Store.has c.args.store.now) (g.S.Store.has c.loop.store) (g.I.Source.left c.loop.input) c.loop.opener.library c.loop.crew.passes.items c.loop.crew.jobs.items c.loop.crew.parcels.items c.loop.splitter i.midway
           (g.I.Source.left c.read_piece.new.input) (g.S.Store.has c.deal_messages.new.store) c.deal_messages.new.opener.library c.deal_messages.new.crew.passes.items c.deal_messages.new.crew.jobs.items c.deal_messages.new.crew.parcels.items c.feed.new.self c.deal_messages.new.splitter piece gives c.in-Ok-feed.ensures.ok
-          (d.goes (g.S.Store.has c.args.store.now) m.all m.waiting (fed_going g.S.Folder.Folder.has g.S.Folder.Shelf.Shelf.kept c.args.schema.now c.args.given.now (g.I.Source.left c.args.input.now) (g.S.Store.has c.args.store.now) (g.S.Store.has c.loop.store) c.loop.opener.library c.loop.crew.passes.items c.loop.crew.jobs.items c.loop.crew.parcels.items c.loop.splitter c.feed.new.self c.split_at.result.0.now m.all m.waiting c.in-Ok-feed.ensures.ok m.going))
-          d.fed;
+          (d.goes (g.S.Store.has c.args.store.now) m.all m.waiting (fed_going g.S.Folder.Folder.has g.S.Folder.Shelf.Shelf.kept c.args.schema.now c.args.given.now (g.I.Source.left c.args.input.now) (g.S.Store.has c.args.store.now) (g.S.Store.has c.loop.store) c.loop.opener.library c.loop.crew.passes.items c.loop.crew.jobs.items c.loop.crew.parcels.items c.loop.splitter c.feed.new.self c.split_at.result.0.now m.all m.waiting c.in-Ok-feed.ensures.ok m.going));
       out = d.out;
       told = d.told ∙ i.told;
       later = omega (arith, i.later, d.later);

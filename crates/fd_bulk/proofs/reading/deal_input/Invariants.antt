@@ -2,7 +2,7 @@ use Rattle.std.proofs.Common.{◌≡◌, ◌≤◌, length}
 use Rattle.std.specs.Prelude.{is_some, vec_len}
 use Rattle.fd_library.specs.Open.{OutAre}
 use Rattle.fd_bulk.specs.Inputs.{Midway}
-use Rattle.fd_bulk.specs.Taking.{IsWaiting}
+use Rattle.fd_sections.specs.Joining.{IsWaiting}
 use Rattle.fd_bulk.proofs.reading.deal_input.Given as goal
 
 abbrev pub invariant-loop : goal.invariant-loop

@@ -1,5 +1,5 @@
 use Rattle.std.proofs.Common.{rules, ◌≡◌, ◌<◌, ◌≤◌, ◌+◌, ◌++◌, ◌∷◌, [], ◌∙◌, List, ℕ, ap, sym, subst, length, take, append_assoc, append-nil}
-use Rattle.fd_core.specs.declared.batch.Pair.{Pair}
+use Rattle.fd_entries.specs.declared.batch.Pair.{Pair}
 use Rattle.fd_bulk.specs.declared.round.Parcel.{Parcel}
 use Rattle.fd_bulk.specs.Working.{Filling}
 use Rattle.fd_bulk.specs.Sharing.{Sharing, SharedTo, share}

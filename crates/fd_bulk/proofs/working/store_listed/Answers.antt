@@ -1,5 +1,5 @@
 use Rattle.std.proofs.Common.{Err, length, subst}
-use Rattle.fd_core.specs.declared.batch.Pair.{Pair}
+use Rattle.fd_entries.specs.declared.batch.Pair.{Pair}
 use Rattle.fd_schema.specs.Rules.{file_key}
 use Rattle.fd_schema.specs.Reading.{seen_place}
 use Rattle.fd_archiver.specs.declared.fault.ArchiveFault.{ArchiveFault}

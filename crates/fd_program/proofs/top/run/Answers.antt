@@ -110,4 +110,4 @@ pub returns-in-Session-clause-outlasts : goal.returns-in-Session-clause-outlasts
 returns-in-Session-clause-outlasts g c = rw c.in-Session.is tt
 
 pub returns-in-Trial-clause-outlasts : goal.returns-in-Trial-clause-outlasts
-returns-in-Trial-clause-outlasts g c = rw c.in-Trial.is tt
+returns-in-Trial-clause-outlasts g c = rw c.in-Trial.is (c.trial.ensures.outlasts (g.I.Source.left c.args.input.now) (g.I.Source.faults c.args.input.now))

@@ -1,5 +1,5 @@
 use Rattle.std.proofs.Common.{subst}
-use Rattle.fd_core.specs.Batches.{newest}
+use Rattle.fd_entries.specs.Batches.{newest}
 use Rattle.fd_schema.specs.Rules.{file_key}
 use Rattle.fd_retriever.specs.Answers.{IsAnswer}
 use Rattle.fd_retrieve.proofs.AnsweringLemmas.{front_one, untold_one}

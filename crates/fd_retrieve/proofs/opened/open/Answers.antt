@@ -1,6 +1,7 @@
 use Rattle.std.proofs.Common.{rules, ◌≡◌, Some, IfSome}
 use Rattle.std.specs.Prelude.{option_map}
 use Rattle.fd_disk.specs.Folders.{SameBut, WhereTold, folder_at}
+use Rattle.fd_retrieve.proofs.Looking.{looked_given}
 use Rattle.fd_retrieve.proofs.Staying.{stays_given}
 use Rattle.fd_retrieve.proofs.opened.open.Goals as goal
 
@@ -17,3 +18,17 @@ returns-clause-stays g c =
     let home : WhereTold (g.S.Store.has c.folder.new.self) new (SameBut name) = search rules in
     let left : IfSome new (λ t. has e ≡ Some (folder_at t name)) = search rules in
     stays_given old (g.S.Store.has c.folder.new.self) new (has d) (has e) name away home first c.open_in-answer.ensures.stays left
+
+pub returns-clause-looks : goal.returns-clause-looks
+returns-clause-looks g c =
+    let has = g.S.Folder.Folder.has in
+    let name = c.args.name.now in
+    let old = g.S.Store.has c.args.store.now in
+    let new = g.S.Store.has c.give_folder.new.self in
+    let d = c.in-Ok.folder in
+    let e = c.open_in-answer.new.folder in
+    let first : has d ≡ option_map (λ s. folder_at s name) old = search rules in
+    let away : WhereTold old (g.S.Store.has c.folder.new.self) (SameBut name) = search rules in
+    let home : WhereTold (g.S.Store.has c.folder.new.self) new (SameBut name) = search rules in
+    let left : IfSome new (λ t. has e ≡ Some (folder_at t name)) = search rules in
+    looked_given old (g.S.Store.has c.folder.new.self) new (has d) (has e) name away home first c.open_in-answer.ensures.looks left

@@ -1,11 +1,13 @@
 use Rattle.std.proofs.Common.{rules, ◌≡◌, refl, true, None, IfSome, map}
 use Rattle.std.specs.Prelude.{is_some, option_map, Ok}
 use Rattle.fd_disk.specs.Folders.{with_table, without_table}
-use Rattle.fd_core.specs.Table.{listed}
+use Rattle.fd_disk.specs.Images.{synced}
+use Rattle.fd_entries.specs.Table.{listed}
 use Rattle.fd_segment.specs.Held.{batch_of}
 use Rattle.fd_segment.specs.Shared.{standings}
 use Rattle.fd_recovery.specs.Recovered.{AreTakenUp, all_of, held}
 use Rattle.fd_retrieve.proofs.OpenLemmas.{lists_again, open_told}
+use Rattle.fd_retrieve.proofs.Looking.{as_synced}
 use Rattle.fd_retrieve.proofs.Staying.{table_back}
 use Rattle.fd_retrieve.proofs.opened.open_in.Goals as goal
 
@@ -39,3 +41,13 @@ returns-in-Ok-clause-stays g c =
     let put : has c.give_table.new.self ≡ with_table table (has c.recover.new.folder) = search rules in
     table_back name old (has c.recover.new.folder) (has c.give_table.new.self) table out put
     (lists_again name toc.dataset table toc.entries toc.entries toc.doubt old text sure refl c.into_table.ensures.images ((g.met.D.Table.Disk g.world.𝓛 g.world.𝓜 g.world.𝓡 ((λ s x. x), (λ x. x), (λ x. x), λ x. x)).reads_image c.into_table.result) there lists)
+
+pub returns-in-Ok-clause-looks : goal.returns-in-Ok-clause-looks
+returns-in-Ok-clause-looks g c =
+    let has = g.D.Folder.has in
+    let old = has c.args.folder.now in
+    let table = g.D.Table.Disk.file c.into_table.result in
+    let firm : IfSome old (λ v. table ≡ option_map synced v.table) = search rules in
+    let out : has c.recover.new.folder ≡ option_map without_table old = search rules in
+    let put : has c.give_table.new.self ≡ with_table table (has c.recover.new.folder) = search rules in
+    as_synced old (has c.recover.new.folder) (has c.give_table.new.self) table firm out put

@@ -2,6 +2,7 @@ use Rattle.std.proofs.Common.{rules, ◌≡◌, ◌∷◌, [], IfSome, string_by
 use Rattle.std.proofs.lemmas.List.{length-map}
 use Rattle.fd_schema.specs.Seen.{texts}
 use Rattle.fd_retrieve.specs.Ready.{AreOpen, IsBrokenOf, MayOpen}
+use Rattle.fd_retrieve.proofs.Looking.{looked_both}
 use Rattle.fd_retrieve.proofs.Staying.{told_both}
 use Rattle.fd_retrieve.proofs.PrepareLemmas.{among_one_of, broken_told, open_told_more, take_end, take_more}
 use Rattle.fd_retrieve.proofs.preparing.open_all.Goals as goal
@@ -21,6 +22,7 @@ loop-i-preserved g c =
     record {
       home = c.open_more.ensures.home;
       stays = told_both (g.S.Store.has c.args.store.now) (g.S.Store.has c.loop-i.store) (g.S.Store.has c.open_more.new.store) c.loop-i.invariant.stays c.open_more.ensures.stays;
+      looks = looked_both (g.S.Store.has c.args.store.now) (g.S.Store.has c.loop-i.store) (g.S.Store.has c.open_more.new.store) c.loop-i.invariant.looks c.open_more.ensures.looks;
       opened = subst (λ l. IfSome (g.S.Store.has c.args.store.now) (λ h. AreOpen h l c.open_more.new.opened.items)) (sym more)
           (open_told_more (g.S.Store.has c.args.store.now) (g.S.Store.has c.loop-i.store) (take c.loop-i.i (texts c.args.names.now)) c.loop-i.opened.items c.open_more.new.opened.items (string_bytes c.index-names-i.result) c.loop-i.invariant.stays c.loop-i.invariant.opened (subst (λ n. IfSome (g.S.Store.has c.loop-i.store) (λ h. MayOpen h c.loop-i.opened.items n c.open_more.new.opened.items)) text c.in-Ok.ensures.opened));
       later = omega (arith, later, before);

@@ -2,6 +2,7 @@ use Rattle.std.proofs.Common.{◌≡◌, ◌≤◌, List, ℕ, false, IfSome, ta
 use Rattle.fd_disk.specs.Folders.{WhereTold}
 use Rattle.fd_schema.specs.Seen.{texts}
 use Rattle.fd_outcome.specs.Store.{Stays}
+use Rattle.fd_retrieve.specs.Looking.{IsLookedThrough}
 use Rattle.fd_retrieve.specs.Ready.{AreOpen}
 use Rattle.fd_retrieve.proofs.preparing.open_all.Given as goal
 
@@ -9,6 +10,7 @@ abbrev pub invariant-loop-i : goal.invariant-loop-i
 invariant-loop-i g l = record {
   home : (n : List ℕ) → g.S.Store.out l.store n ≡ false;
   stays : WhereTold (g.S.Store.has l.fn.store) (g.S.Store.has l.store) Stays;
+  looks : WhereTold (g.S.Store.has l.fn.store) (g.S.Store.has l.store) IsLookedThrough;
   opened : IfSome (g.S.Store.has l.fn.store) (λ h. AreOpen h (take l.i (texts l.names)) l.opened.items);
   later : g.S.Store.faults l.fn.store ≤ g.S.Store.faults l.store;
 }

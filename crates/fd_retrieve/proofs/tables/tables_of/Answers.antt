@@ -3,6 +3,7 @@ use Rattle.fd_schema.specs.Reading.{seen_place}
 use Rattle.fd_schema.specs.Seen.{texts}
 use Rattle.fd_schema.specs.declared.place.Place.{Place}
 use Rattle.fd_retrieve.specs.Tables.{AreTables, datasets_in}
+use Rattle.fd_retrieve.proofs.Looking.{looked_both}
 use Rattle.fd_retrieve.proofs.Staying.{told_both}
 use Rattle.fd_retrieve.proofs.PrepareLemmas.{many_told, subst_length, tables_told, take_more, take_rest}
 use Rattle.fd_retrieve.proofs.tables.tables_of.Goals as goal
@@ -18,6 +19,9 @@ returns-in-Err-clause-too_many g c =
 pub returns-in-Err-clause-stays : goal.returns-in-Err-clause-stays
 returns-in-Err-clause-stays g c = told_both (g.S.Store.has c.args.store.now) (g.S.Store.has c.loop-i.store) (g.S.Store.has c.add_table.new.store) c.loop-i.invariant.stays c.in-Err.ensures.stays
 
+pub returns-in-Err-clause-looks : goal.returns-in-Err-clause-looks
+returns-in-Err-clause-looks g c = looked_both (g.S.Store.has c.args.store.now) (g.S.Store.has c.loop-i.store) (g.S.Store.has c.add_table.new.store) c.loop-i.invariant.looks c.in-Err.ensures.looks
+
 pub loop-i-preserved : goal.loop-i-preserved
 loop-i-preserved g c =
     let ds = datasets_in c.args.places.now in
@@ -28,6 +32,7 @@ loop-i-preserved g c =
     record {
       home = c.add_table.ensures.home;
       stays = told_both (g.S.Store.has c.args.store.now) (g.S.Store.has c.loop-i.store) (g.S.Store.has c.add_table.new.store) c.loop-i.invariant.stays c.add_table.ensures.stays;
+      looks = looked_both (g.S.Store.has c.args.store.now) (g.S.Store.has c.loop-i.store) (g.S.Store.has c.add_table.new.store) c.loop-i.invariant.looks c.add_table.ensures.looks;
       few = c.add_table.ensures.few;
       tables = subst (λ l. IfSome (g.S.Store.has c.args.store.now) (λ h. AreTables h l (texts c.add_table.new.names.items))) (sym more)
           (tables_told (g.S.Store.has c.args.store.now) (g.S.Store.has c.loop-i.store) (take c.loop-i.i ds) (texts c.loop-i.names.items) d (texts c.add_table.new.names.items) c.loop-i.invariant.stays c.loop-i.invariant.tables c.in-Ok.ensures.added);

@@ -6,7 +6,9 @@ use Rattle.fd_schema.specs.Reading.{seen_place}
 use Rattle.fd_outcome.specs.Store.{Stays, table_at}
 use Rattle.fd_outcome.specs.Trying.{tally_of}
 use Rattle.fd_retrieve.specs.Counting.{IsBrokenAmong, IsTally, finds}
+use Rattle.fd_retrieve.specs.Looking.{IsLookedThrough}
 use Rattle.fd_retrieve.specs.Tables.{datasets_in}
+use Rattle.fd_retrieve.proofs.Looking.{looked_told}
 use Rattle.fd_retrieve.proofs.StopExits.{later_disk}
 use Rattle.fd_trial.specs.Placed.{ArePlaced}
 use Rattle.fd_trial.proofs.Stepping.{asked, begun, grown, says}
@@ -47,3 +49,9 @@ returns-clause-ran g c = λ root start faults left l a k le begins.
     c.requires.count places placed long begins stays c.in-Err.stop c.tell_unfound.ensures.told c.in-Err.ensures.of
     (subst (λ ps. IfSome mid (λ h. IsBrokenAmong c.in-Err.stop h (datasets_in ps))) c.deref.ensures.value c.in-Err.ensures.broken)
     (later_disk c.in-Err.stop faults (g.S.Store.faults c.count_found.new.store) (g.S.Store.faults c.tell_unfound.new.store) later c.tell_unfound.ensures.noted)
+
+pub returns-in_default-clause-looks : goal.returns-in_default-clause-looks
+returns-in_default-clause-looks g c = looked_told (g.S.Store.has c.args.store.now)
+
+pub returns-clause-looks : goal.returns-clause-looks
+returns-clause-looks g c = subst (λ n. WhereTold (g.S.Store.has c.args.store.now) n IsLookedThrough) (sym c.tell_unfound.ensures.has) c.count_found.ensures.looks

@@ -1,9 +1,12 @@
-use Rattle.std.proofs.Common.{subst}
+use Rattle.std.proofs.Common.{refl, subst}
 use Rattle.fd_bytes.specs.Causes.{Rose}
 use Rattle.fd_disk.specs.Folders.{WhereTold}
 use Rattle.fd_words.specs.declared.command.Command.TheVariants.{Trial}
 use Rattle.fd_outcome.proofs.Starved.{starved}
 use Rattle.fd_trial.specs.Ruling.{IsLeft, IsUnruledIn, OnDisk}
+use Rattle.fd_outcome.specs.declared.status.Status.TheVariants.{DiskFault, NoMemory, Refused}
+use Rattle.fd_archive.proofs.Outlasting.{idle_trial, told_undone}
+use Rattle.fd_trial.proofs.Outlasting.{early, since_planted, some_undone}
 use Rattle.fd_trial.proofs.Stepping.{where_told}
 use Rattle.fd_trial.proofs.TrialExits.{different_ran, disk_early, schema_ran, starved_early}
 use Rattle.fd_trial.proofs.command.trial.Goals as goal
@@ -40,3 +43,26 @@ returns-clause-ran g c = λ left l a k.
     let now = g.S.Store.has c.ruled.new.store in
     starved_early c.args.root.now c.args.count c.args.workers (g.S.Store.has c.args.store.now) now _ _ left l a k _ c.tell_no_memory-in-Err-NoMemory.result
     (where_told (g.S.Store.has c.args.store.now) now _ IsLeft (λ h i x. x.0) c.in-Err-NoMemory.ensures.unruled) c.tell_no_memory-in-Err-NoMemory.ensures
+
+pub returns-in_default-clause-outlasts : goal.returns-in_default-clause-outlasts
+returns-in_default-clause-outlasts g c = λ left l. idle_trial c.tell_no_memory.result c.args.workers c.args.count (g.S.Store.has c.args.store.now) (told_undone NoMemory _ c.tell_no_memory.result _ _ _ _ refl c.tell_no_memory.ensures)
+
+pub returns-in-Ok-ruled-clause-outlasts : goal.returns-in-Ok-ruled-clause-outlasts
+returns-in-Ok-ruled-clause-outlasts g c = λ left l.
+    since_planted c.trial_by.result c.args.workers c.args.count c.in-Ok-ruled.schema (g.S.Store.has c.args.store.now) (g.S.Store.has c.ruled.new.store) (g.S.Store.has c.trial_by.new.store) c.in-Ok-ruled.ensures.rules c.ruled.ensures.kept c.trial_by.ensures.outlasts
+
+pub returns-in-Err-Disk-clause-outlasts : goal.returns-in-Err-Disk-clause-outlasts
+returns-in-Err-Disk-clause-outlasts g c = λ left l.
+    early c.tell_disk_failed.result c.args.workers c.args.count (g.S.Store.has c.args.store.now) (g.S.Store.has c.ruled.new.store) c.ruled.ensures.kept (told_undone DiskFault _ c.tell_disk_failed.result _ _ _ _ refl c.tell_disk_failed.ensures)
+
+pub returns-in-Err-Different-clause-outlasts : goal.returns-in-Err-Different-clause-outlasts
+returns-in-Err-Different-clause-outlasts g c = λ left l.
+    early c.tell.result c.args.workers c.args.count (g.S.Store.has c.args.store.now) (g.S.Store.has c.ruled.new.store) c.ruled.ensures.kept (told_undone Refused _ c.tell.result _ _ _ _ refl c.tell.ensures)
+
+pub returns-in-Err-At-clause-outlasts : goal.returns-in-Err-At-clause-outlasts
+returns-in-Err-At-clause-outlasts g c = λ left l.
+    early c.tell_schema.result c.args.workers c.args.count (g.S.Store.has c.args.store.now) (g.S.Store.has c.ruled.new.store) c.ruled.ensures.kept (some_undone c.tell_schema.result _ _ _ _ c.tell_schema.ensures.some)
+
+pub returns-clause-outlasts : goal.returns-clause-outlasts
+returns-clause-outlasts g c = λ left l.
+    early c.tell_no_memory-in-Err-NoMemory.result c.args.workers c.args.count (g.S.Store.has c.args.store.now) (g.S.Store.has c.ruled.new.store) c.ruled.ensures.kept (told_undone NoMemory _ c.tell_no_memory-in-Err-NoMemory.result _ _ _ _ refl c.tell_no_memory-in-Err-NoMemory.ensures)

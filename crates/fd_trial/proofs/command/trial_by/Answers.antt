@@ -4,6 +4,7 @@ use Rattle.fd_outcome.specs.Trying.{trial_given}
 use Rattle.fd_retrieve.proofs.RetrieveExits.{rose_later}
 use Rattle.fd_archive.specs.Kept.{InputKept, WholeKept}
 use Rattle.fd_trial.specs.Made.{made_left}
+use Rattle.fd_trial.proofs.Outlasting.{asked_outlasts, unstored_outlasts}
 use Rattle.fd_trial.proofs.Stopping.{kept_ran, kept_whole, on_disk}
 use Rattle.fd_trial.proofs.command.trial_by.Goals as goal
 
@@ -26,3 +27,21 @@ returns-clause-ran g c = λ root start faults left l a k le planted.
     (subst (λ given. InputKept c.args.workers c.args.schema.now given (Some (made_left c.new-messages.result)) after mid now (Err c.in-Err.fault)) c.requires.given c.in-Err.ensures.stored) in
     kept_ran root c.args.count c.args.workers start mid now faults (g.S.Store.faults c.store_all.new.store) left l a k _ c.tell_unstored.result c.args.schema.now c.in-Err.fault after planted w c.tell_unstored.ensures
     (on_disk c.in-Err.fault _ (Rose faults (g.S.Store.faults c.store_all.new.store)) (rose_later faults (g.S.Store.faults c.args.store.now) (g.S.Store.faults c.store_all.new.store) le) c.in-Err.ensures.disk)
+
+pub returns-in-Ok-clause-outlasts : goal.returns-in-Ok-clause-outlasts
+returns-in-Ok-clause-outlasts g c =
+    let mid = g.S.Store.has c.args.store.now in
+    let j = g.S.Store.has c.store_all.new.store in
+    let after = Some (made_left c.store_all.new.input) in
+    let w = subst (λ o. WholeKept c.args.workers c.args.schema.now trial_given (Some o) after mid j c.in-Ok.field-0) c.new-messages.ensures.left
+    (subst (λ given. WholeKept c.args.workers c.args.schema.now given (Some (made_left c.new-messages.result)) after mid j c.in-Ok.field-0) c.requires.given c.in-Ok.ensures.stored) in
+    asked_outlasts c.args.workers c.args.count c.args.schema.now mid c.ask.result j (g.S.Store.has c.ask.new.store) after c.in-Ok.field-0 w c.ask.ensures.looks
+
+pub returns-clause-outlasts : goal.returns-clause-outlasts
+returns-clause-outlasts g c =
+    let mid = g.S.Store.has c.args.store.now in
+    let now = g.S.Store.has c.store_all.new.store in
+    let after = Some (made_left c.store_all.new.input) in
+    let w = subst (λ o. InputKept c.args.workers c.args.schema.now trial_given (Some o) after mid now (Err c.in-Err.fault)) c.new-messages.ensures.left
+    (subst (λ given. InputKept c.args.workers c.args.schema.now given (Some (made_left c.new-messages.result)) after mid now (Err c.in-Err.fault)) c.requires.given c.in-Err.ensures.stored) in
+    unstored_outlasts c.tell_unstored.result _ _ _ _ c.args.workers c.args.count c.args.schema.now mid now after c.in-Err.fault w c.tell_unstored.ensures

@@ -1,7 +1,7 @@
 use Rattle.std.proofs.Common.{◌≡◌, ◌∙◌, ◌-◌, List, Some, ap, IfSome, slice_get, subst, sym}
 use Rattle.std.specs.Prelude.{IfErr, IfOk}
-use Rattle.fd_core.specs.declared.batch.Pair.{Pair}
-use Rattle.fd_core.specs.Batches.{newest}
+use Rattle.fd_entries.specs.declared.batch.Pair.{Pair}
+use Rattle.fd_entries.specs.Batches.{newest}
 use Rattle.fd_segment.specs.Copying.{IsCopied, IsCopiedInPart}
 use Rattle.fd_schema.specs.Rules.{Texts, file_key}
 use Rattle.fd_segment.specs.Causes.{IsBadFrame, IsBadIndex}
