@@ -148,6 +148,16 @@ fn keys_asked_for(rt: HostRuntime) -> Result<(), Fail> {
             "retrieve,class=od,expver=2",
             false,
         ),
+    ];
+    for (partial, request, want) in rows {
+        assert_eq!(rt; asked(rt.alloc(), partial, request)?, want);
+    }
+    Ok(())
+}
+
+#[test]
+fn keys_in_ranges(rt: HostRuntime) -> Result<(), Fail> {
+    let rows = [
         ("list,step=0/to/24/by/6", "retrieve,step=12", true),
         ("list,step=0/to/24/by/6", "retrieve,step=24", true),
         ("list,step=0/to/24/by/6", "retrieve,step=13", false),
@@ -230,7 +240,7 @@ fn limits(rt: HostRuntime) -> Result<(), Fail> {
                 "step=262144"
             );
         }
-        Err(_) => assert_eq!(rt; 0, 1),
+        Err(_) => panic!(rt; "no request"),
     }
     Ok(())
 }
@@ -253,7 +263,7 @@ fn long_keys_and_texts(rt: HostRuntime) -> Result<(), Fail> {
             assert_eq!(rt; request.count(), 100);
             assert_eq!(rt; request.key(alloc, 99)?.text(alloc)?.len(), 255);
         }
-        Err(_) => assert_eq!(rt; 0, 1),
+        Err(_) => panic!(rt; "no request"),
     }
     let over = long_value(alloc, 243)?;
     let want = "At { at: 270, kind: KeyTooLong { len: 256 } }";

@@ -45,7 +45,7 @@ fn read(alloc: Global, text: &[u8]) -> Result<String, Fail> {
 }
 
 #[test]
-fn scripts_and_their_first_faults(rt: HostRuntime) -> Result<(), Fail> {
+fn scripts_and_their_ends(rt: HostRuntime) -> Result<(), Fail> {
     let rows = [
         (
             "# two lanes\n\ndataset class=od,expver=0001\nlane a class=OD\nput 1\nflush\nget retrieve,step=0/to/12\nlane b2 \n#\nput 010\nmessages\nGRIB",
@@ -62,6 +62,17 @@ fn scripts_and_their_first_faults(rt: HostRuntime) -> Result<(), Fail> {
             "At { line: 3, kind: Byte(195) }",
         ),
         ("#\u{e9}\ndataset a=1\n", "At { line: 1, kind: Byte(195) }"),
+    ];
+    for (text, want) in &rows {
+        let got = read(rt.alloc(), text.as_bytes())?;
+        assert_eq!(rt; got.as_str(), *want);
+    }
+    Ok(())
+}
+
+#[test]
+fn first_faults_of_scripts(rt: HostRuntime) -> Result<(), Fail> {
+    let rows = [
         ("\nmessages\n", "At { line: 2, kind: Dataset }"),
         (
             "dataset time=12\nmessages\n",

@@ -122,6 +122,12 @@ fn streams_in_pieces(rt: HostRuntime) -> Result<(), Fail> {
     )?;
     check(&rt, alloc, &joined(alloc, &[&FIELD, ten])?, cut(2, 10, 16))?;
     check(&rt, alloc, &joined(alloc, &[ten, front])?, cut(1, 175, 183))?;
+    Ok(())
+}
+
+#[test]
+fn refused_streams_in_pieces(rt: HostRuntime) -> Result<(), Fail> {
+    let alloc = rt.alloc();
     check(&rt, alloc, &patched(alloc, 7, 1)?, bad(1, Bad::Edition(1)))?;
     check(
         &rt,

@@ -53,6 +53,12 @@ fn reads_words(rt: HostRuntime) -> Result<(), Fail> {
     check(&rt, alloc, &["values", "--decimals=01"], "values 1")?;
     check(&rt, alloc, &["values", "--decimals", "30"], "values 30")?;
     check(&rt, alloc, &["generate", "000100000"], "generate 100000")?;
+    Ok(())
+}
+
+#[test]
+fn reads_words_of_a_store(rt: HostRuntime) -> Result<(), Fail> {
+    let alloc = rt.alloc();
     check(&rt, alloc, &["create", "s"], "create s")?;
     check(&rt, alloc, &["archive", "s"], "archive s 0 1")?;
     check(
@@ -110,6 +116,12 @@ fn refuses_words(rt: HostRuntime) -> Result<(), Fail> {
         &["values", "--decimals=1", "--decimals=1"],
         "none",
     )?;
+    Ok(())
+}
+
+#[test]
+fn refuses_words_of_a_store(rt: HostRuntime) -> Result<(), Fail> {
+    let alloc = rt.alloc();
     check(&rt, alloc, &["list", "s", "t"], "none")?;
     check(&rt, alloc, &["axes", "--with=class=od", "s"], "none")?;
     check(&rt, alloc, &["create"], "none")?;

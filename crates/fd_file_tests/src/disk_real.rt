@@ -1,6 +1,7 @@
 //! A dataset on the real disk, in the folder where the test runs.
 use fd_disk::{Disk, FileKind, FileName, Folder, Reader, Sealed, Shelf, Store};
 use fd_disk_real::*;
+use std::alloc::{AllocError, Global};
 use std::fs;
 use std::test::Fail;
 
@@ -33,7 +34,7 @@ fn holds_a_schema(rt: HostRuntime) -> Result<(), Fail> {
 }
 
 #[test]
-fn keeps_files(rt: HostRuntime) -> Result<(), Fail> {
+fn keeps_a_table(rt: HostRuntime) -> Result<(), Fail> {
     let mut store = RealStore::new(rt.alloc(), rt)?;
     let Ok(mut folder) = store.folder(rt.alloc(), DATASET) else {
         panic!(rt; "no folder")
@@ -52,6 +53,20 @@ fn keeps_files(rt: HostRuntime) -> Result<(), Fail> {
         fs::read(&rt, "class=od/toc")?.as_slice(),
         b"tAble!!".as_slice()
     );
+    store.give_folder(folder);
+    let Ok(names) = store.names(rt.alloc()) else {
+        panic!(rt; "no names")
+    };
+    assert!(rt; names.iter().any(|name| name.as_str() == DATASET));
+    Ok(())
+}
+
+#[test]
+fn keeps_sealed_files(rt: HostRuntime) -> Result<(), Fail> {
+    let mut store = RealStore::new(rt.alloc(), rt)?;
+    let Ok(mut folder) = store.folder(rt.alloc(), "class=xd") else {
+        panic!(rt; "no folder")
+    };
     let Ok(mut shelf) = folder.shelf(rt.alloc(), 7) else {
         panic!(rt; "no shelf")
     };
@@ -75,19 +90,24 @@ fn keeps_files(rt: HostRuntime) -> Result<(), Fail> {
     let mut bytes = [0u8; 8];
     assert!(rt; matches!(reader.read_at(1, &mut bytes), Ok(3)));
     assert_eq!(rt; bytes, *b"RIB\0\0\0\0\0");
-    fs::write(&rt, "class=od/7-1.fields", b"G".as_slice())?;
+    fs::write(&rt, "class=xd/7-1.fields", b"G".as_slice())?;
     assert!(rt; reader.read_at(1, &mut bytes).is_err());
     store.give_folder(folder);
-    let Ok(names) = store.names(rt.alloc()) else {
-        panic!(rt; "no names")
-    };
-    assert!(rt; names.iter().any(|name| name.as_str() == DATASET));
     Ok(())
 }
 
 /// The byte of a field at a place.
 fn byte_at(place: usize) -> u8 {
     (place % 251) as u8
+}
+
+/// The bytes of a field of 200,000 octets.
+fn many_bytes(alloc: Global) -> Result<Vec<u8>, AllocError> {
+    let mut all = Vec::new(alloc);
+    for place in 0..200_000usize {
+        all.push(byte_at(place))?;
+    }
+    Ok(all)
 }
 
 #[test]
@@ -102,10 +122,7 @@ fn gathers_writes_and_reads_ahead(rt: HostRuntime) -> Result<(), Fail> {
     let Ok(mut fields) = shelf.create(rt.alloc(), 1, FileKind::Fields) else {
         panic!(rt; "no file")
     };
-    let mut all = Vec::new(rt.alloc());
-    for place in 0..200_000usize {
-        all.push(byte_at(place))?;
-    }
+    let all = many_bytes(rt.alloc())?;
     let mut at = 0usize;
     for turn in 0..1000usize {
         let n = if turn % 90 == 89 {
@@ -133,19 +150,33 @@ fn gathers_writes_and_reads_ahead(rt: HostRuntime) -> Result<(), Fail> {
     let Ok(mut reader) = sealed.reader(rt.alloc()) else {
         panic!(rt; "no reader")
     };
-    let mut piece = [0u8; 4096];
     for start in [0usize, 1, 70_000, 3] {
-        for i in 0..20usize {
-            let place = start + i * 4096;
-            let Ok(n) = reader.read_at(place as u64, &mut piece) else {
-                panic!(rt; "a read failed")
-            };
-            assert!(rt; place <= bytes.len());
-            let (_, rest) = bytes.split_at(place);
-            assert!(rt; n <= 4096 && n <= rest.len());
-            assert_eq!(rt; &piece[..n], &rest[..n]);
-            assert_eq!(rt; n, 4096.min(rest.len()));
-        }
+        assert!(rt; reads_as(&mut reader, start, &bytes));
     }
     Ok(())
+}
+
+/// Tells that twenty pieces from a place on are read as these bytes.
+fn reads_as<F: Send + Drop, R: Reader<F>>(reader: &mut R, start: usize, bytes: &[u8]) -> bool {
+    let mut piece = [0u8; 4096];
+    let Some((_, mut rest)) = bytes.split_at_checked(start) else {
+        return false;
+    };
+    let mut place = start as u64;
+    for _ in 0..20 {
+        let Ok(n) = reader.read_at(place, &mut piece) else {
+            return false;
+        };
+        if n != 4096.min(rest.len()) {
+            return false;
+        }
+        let (read, after) = rest.split_at(n);
+        let (front, _) = piece.split_at(n);
+        if front != read {
+            return false;
+        }
+        rest = after;
+        place = place.saturating_add(n as u64);
+    }
+    true
 }

@@ -5,9 +5,9 @@ ghost use Rattle.fd_disk.specs.declared.folders.FileKind.TheVariants.{Fields, In
 ghost use Rattle.fd_segment.specs.Filling.{IsOf};
 ghost use Rattle.fd_disk.specs.Names.{name_of};
 
-use fd_core::Entry;
 use fd_disk::{Disk, FileKind, FileName, Folder, Reader, Sealed, Shelf, Store};
 use fd_disk_mem::{MemFolder, MemStore, Op};
+use fd_entries::Entry;
 use fd_io::{MemSink, Sink};
 use fd_segment::*;
 use std::alloc::Global;

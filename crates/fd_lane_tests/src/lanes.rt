@@ -11,7 +11,7 @@ ghost use Rattle.fd_lanes.specs.Jobs.{MayBegin, writers_of};
 
 use crate::messages::push_message;
 use fd_archiver::Archiver;
-use fd_bytes::Bytes;
+use fd_bytes::{Bytes, NoMemory};
 use fd_casting::cast;
 use fd_dataset::{Dataset, DatasetPass};
 use fd_disk::{Disk, Folder, Sealed, Shelf, Store};
@@ -187,7 +187,7 @@ where
     let archivers = archivers(alloc, first, second)?;
     let (dataset, pass) = opened(alloc, table, script.dataset())?;
     let crew = Crew { archivers, pass };
-    match lanes(
+    transcript_of(lanes(
         rt,
         alloc,
         script,
@@ -197,25 +197,28 @@ where
         &dataset,
         crew,
         gate,
-    ) {
-        Ok(
-            Outcome {
-                transcript,
-                crew: Crew {
-                    archivers: _,
-                    pass: _,
-                },
-            },
-        ) => Ok(transcript),
-        Err(
-            (
-                Crew {
-                    archivers: _,
-                    pass: _,
-                },
-                _,
-            ),
-        ) => Err("memory".into()),
+    ))
+}
+
+/// The transcript of lanes that ran.
+fn transcript_of<F: Send + Drop, T: Disk<F>, H: Shelf<F>>(
+    found: Result<Outcome<F, T, H>, (Crew<F, T, H>, NoMemory)>,
+) -> Result<Transcript<F>, Fail> {
+    match found {
+        Ok(Outcome { transcript, crew }) => {
+            let Crew {
+                archivers: _,
+                pass: _,
+            } = crew;
+            Ok(transcript)
+        }
+        Err((crew, _)) => {
+            let Crew {
+                archivers: _,
+                pass: _,
+            } = crew;
+            Err("memory".into())
+        }
     }
 }
 

@@ -1,5 +1,5 @@
 use Rattle.std.proofs.Common.{◌≡◌, ◌∙◌, ℕ, List, [], All, length, sym, subst}
-use Rattle.fd_core.specs.declared.batch.Listing.{Listing}
+use Rattle.fd_entries.specs.declared.batch.Listing.{Listing}
 use Rattle.fd_archiver.specs.Writing.{Writing}
 use Rattle.fd_lanes.specs.Jobs.{MayBegin}
 use Rattle.fd_lane_tests.proofs.lanes.run_lanes.Goals as goal
