@@ -177,6 +177,16 @@ module _ {D H X Y F : Type 0} (has : D → Option Contents) (kept : H → Option
       sum = few_octets;
     }
 
+    -- memory is wanted
+    pub ended_starved : (Z : Type 0) → EndedThere has kept {Z = Z} rules given p start before (all ++ waits) l ps js parcels faults.NoMemory
+    ended_starved Z = record {
+      all = all;
+      waiting = waits;
+      on = ended_now rules given faults.NoMemory p (all ++ waits) (λ past more. tt);
+      ends = inl (deals_closes has kept start all waits before (datasets_in (all ++ waits)) l ps js parcels g.deals);
+      sum = few_octets;
+    }
+
     pub gone_nowhere : WentOn has kept rules given p p start before (all ++ waits) l ps js parcels
     gone_nowhere = record { all = all; waiting = waits; on = stored_nothing rules given p (all ++ waits); going = g }
 

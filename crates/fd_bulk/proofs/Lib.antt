@@ -38,6 +38,7 @@ pub mod Seats
 pub mod Takings
 pub mod Steps
 pub mod Gone
+pub mod Placing
 pub mod Inputs
 pub mod Readings
 pub mod Settling

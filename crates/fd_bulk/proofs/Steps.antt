@@ -21,14 +21,8 @@ use Rattle.fd_bulk.specs.declared.bulk.BulkFault.{BulkFault}
 use Rattle.fd_bulk.specs.declared.bulk.BulkFault.TheVariants as faults
 use Rattle.fd_bulk.specs.Archived.{refusal_at}
 use Rattle.fd_bulk.specs.Inputs.{BeginsIn, EndedOn, EndsTaken, PlacedAs}
-use Rattle.fd_bulk.specs.Taking.{Measures, StoredOn, StoresOn, behind, taken_from}
+use Rattle.fd_bulk.specs.Taking.{StoredOn, StoresOn, behind, taken_from}
 use Rattle.fd_bulk.proofs.Takings.{behind_both, datasets_both, refused_none, refused_one, refused_there, stored_none, stored_one, stores_more, stores_nothing, stores_same}
-
-pub measured_one : (p q : Progress) (m : Sections) → answer p (first p.rest) ≡ Ok (Some m) → q ≡ progress p (first p.rest) → Measures true p q × (q.fed ≡ p.fed)
-measured_one p q m e goes = let t = takes_so p q m e goes in let fed = t.0.fed in (t.1, omega (arith, fed))
-
-pub measured_none : (p q : Progress) → answer p (first p.rest) ≡ Ok None → q ≡ progress p (first p.rest) → Measures false p q × (q.fed ≡ p.fed)
-measured_none p q e goes = let t = waits_so p q e goes in let fed = t.0.fed in (t.1, omega (arith, fed))
 
 -- ---- where a message is stored
 

@@ -12,5 +12,6 @@ pub mod Halting
 pub mod Crewing
 pub mod Taking
 pub mod Inputs
+pub mod Sheets
 pub mod Columns
 pub mod Ending

@@ -33,11 +33,6 @@ pub record StoredOn (rules : List Rule) (given : List Pair) (p q : Progress) (a 
   pub adds : b ≡ a ++ new
   pub on : StoresOn rules given (datasets_in a) p q new
 
--- one message was gone over, or none is whole
-abbrev pub Measures : Bool → Progress → Progress → Type 0
-Measures true p q = length q.rest < length p.rest
-Measures false p q = IsWaiting q
-
 -- These messages of the octets seen were gone over, and these were stored.
 pub record Seen (rules : List Rule) (given : List Pair) (p : Progress) (all : List Stored) (seen : List ℕ) : Type 0 where
   pub messages : List Sections

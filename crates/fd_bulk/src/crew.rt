@@ -1,4 +1,4 @@
-//! The workers between the rounds: datasets are opened, and messages are dealt.
+//! The workers between their starts: datasets are opened, and messages are dealt.
 ghost use Rattle.std.specs.Prelude.{◌≡◌, ◌==◌, ◌≤◌, ◌<◌, ◌+◌, ◌++◌, ◌∷◌, [], ◌^◌, ℕ, List, Option, Some, All, true, false, is_some, length, slice_get, IfErr, IfOk, IsSome, OnOk};
 ghost use Rattle.fd_bytes.specs.Causes.{Rose};
 ghost use Rattle.fd_disk.specs.Folders.{Holdings, WhereTold};
@@ -18,7 +18,7 @@ use crate::bulk::BulkFault;
 use crate::dealt::dealt;
 use crate::handing::hand_back_all;
 use crate::opener::Opener;
-use crate::round::{Desk, FolderJob, Halt, Job, Parcel, list_round, run_round};
+use crate::round::{Desk, FolderJob, Halt, Job, Parcel, list_round, run_rounds};
 use fd_archiver::FlushFault;
 use fd_bytes::{Bytes, NoMemory};
 use fd_disk::{Disk, Down, Folder, Shelf, Store};
@@ -27,6 +27,7 @@ use fd_library::FolderPass;
 use fd_recovery::OpenFault;
 use fd_schema::Place;
 use fd_segment::Room;
+use fd_sheets::Buffers;
 use std::alloc::Global;
 use std::sync::Wait;
 use std::thread::Threads;
@@ -38,19 +39,55 @@ const ROOM: Room = Room {
 };
 
 /// How many messages a round has, and by how many octets it ends before.
-const MESSAGES: usize = 64;
+const MESSAGES: u32 = 64;
 
 const OCTETS: u64 = 134_217_728;
 
-/// The workers, the passes of the datasets from which theirs are split, by the datasets' numbers, and the messages of the
-/// round that is dealt.
+/// How many messages the rounds have that are stored by one start of the workers' threads, and how many octets are enough for one. A
+/// start takes as long as a worker needs for some twenty small messages.
+const ENOUGH_MESSAGES: usize = 1024;
+
+const ENOUGH_OCTETS: u64 = 4_194_304;
+
+/// The round that is dealt: its number, from 1, and how many messages and octets it has.
+#[derive(Clone, Copy)]
+struct Round {
+    number: u32,
+    messages: u32,
+    octets: u64,
+}
+
+/// The workers, the passes of the datasets from which theirs are split, by the datasets' numbers, the messages of the rounds
+/// that are dealt, and how many octets these have.
 #[derive(Drop)]
 pub(crate) struct Crew<F: Send, S: Store<F>> {
     pub(crate) passes: Vec<FolderPass<F, S::Folder>>,
     pub(crate) jobs: Vec<FolderJob<F, S::Folder>>,
     pub(crate) parcels: Vec<Parcel>,
+    pub(crate) buffers: Buffers,
     octets: u64,
-    round: u32,
+    round: Round,
+}
+
+impl Round {
+    // The round with one message more, or the next one, where this one has its last.
+    fn after(self, octets: u64) -> Round {
+        let messages = self.messages.saturating_add(1);
+        let octets = self.octets.saturating_add(octets);
+        if messages >= MESSAGES || octets >= OCTETS {
+            Round {
+                number: self.number.saturating_add(1),
+                messages: 0,
+                octets: 0,
+            }
+        } else {
+            Round {
+                number: self.number,
+                messages,
+                octets,
+            }
+        }
+    }
 }
 
 impl<F: Send + Drop, S: Store<F>> Crew<F, S> {
@@ -71,8 +108,13 @@ impl<F: Send + Drop, S: Store<F>> Crew<F, S> {
             passes: Vec::new(alloc),
             jobs,
             parcels: Vec::new(alloc),
+            buffers: Buffers::new(alloc),
             octets: 0,
-            round: 1,
+            round: Round {
+                number: 1,
+                messages: 0,
+                octets: 0,
+            },
         })
     }
 
@@ -83,9 +125,10 @@ impl<F: Send + Drop, S: Store<F>> Crew<F, S> {
         self.parcels.is_empty()
     }
 
-    /// The round is full.
+    /// The rounds that are dealt are whole, and enough for one start of the threads.
     pub(crate) fn is_full(&self) -> bool {
-        self.parcels.len() >= MESSAGES || self.octets >= OCTETS
+        self.round.messages == 0
+            && (self.parcels.len() >= ENOUGH_MESSAGES || self.octets >= ENOUGH_OCTETS)
     }
 
     // The number of the dataset with this text, which is opened by the first call.
@@ -177,16 +220,16 @@ impl<F: Send + Drop, S: Store<F>> Crew<F, S> {
         opener: &mut Opener<F, S>,
         store: &mut S,
         place: Place,
-        octets: &[u8],
+        bytes: Bytes,
     ) -> Result<(), BulkFault<X>>
         requires short { length (seen_place place).dataset ≤ 255 }
         requires key { length (file_key (seen_place place)) ≤ 256 }
-        requires bytes { length octets.now ≤ 134217728 }
+        requires bytes { length bytes ≤ 134217728 }
         requires out { OutAre opener.old.library.each (S.out store.old) }
         requires deals { (start : Option Holdings) × ((all : List Stored) × ((waiting : List Stored) × Deals S.Folder.has S.Folder.Shelf.kept start (S.has store.old) all waiting (datasets_in (all ++ waiting)) opener.old.library self.old.passes.items self.old.jobs.items self.old.parcels.items)) }
         ensures out { OutAre opener.new.library.each (S.out store.new) }
         ensures deals { (start : Option Holdings) (all waiting : List Stored) → Deals S.Folder.has S.Folder.Shelf.kept start (S.has store.old) all waiting (datasets_in (all ++ waiting)) opener.old.library self.old.passes.items self.old.jobs.items self.old.parcels.items
-            → DealtAs S.Folder.has S.Folder.Shelf.kept start (S.has store.new) all waiting (message_at (seen_place place) octets.now) result opener.new.library self.new.passes.items self.new.jobs.items self.new.parcels.items }
+            → DealtAs S.Folder.has S.Folder.Shelf.kept start (S.has store.new) all waiting (message_at (seen_place place) bytes) result opener.new.library self.new.passes.items self.new.jobs.items self.new.parcels.items }
         ensures too_many { (start : Option Holdings) (all waiting : List Stored) → Deals S.Folder.has S.Folder.Shelf.kept start (S.has store.old) all waiting (datasets_in (all ++ waiting)) opener.old.library self.old.passes.items self.old.jobs.items self.old.parcels.items
             → TooManyAt (is_too_many (datasets_in (all ++ waiting)) (seen_place place).dataset) result }
         ensures jobs { length self.new.jobs.items ≡ length self.old.jobs.items }
@@ -197,22 +240,22 @@ impl<F: Send + Drop, S: Store<F>> Crew<F, S> {
         let Ok(()) = self.parcels.reserve(1) else {
             return Err(BulkFault::NoMemory);
         };
-        let Ok(bytes) = Bytes::from_slice(alloc, octets) else {
-            return Err(BulkFault::NoMemory);
-        };
         let worker = dealt(self.jobs.len() as u32, &place);
         let dataset = self.opened(alloc, opener, store, place.dataset.as_str())?;
         match self.seated(alloc, opener, store, worker, dataset) {
             Ok(()) => {}
             Err(fault) => return Err(fault),
         }
-        self.octets = self.octets.saturating_add(octets.len() as u64);
+        let octets = bytes.as_slice().len() as u64;
         self.parcels.push_reserved(Parcel {
             worker,
             dataset,
+            round: self.round.number,
             place,
             bytes,
         });
+        self.octets = self.octets.saturating_add(octets);
+        self.round = self.round.after(octets);
         Ok(())
     }
 
@@ -236,18 +279,16 @@ impl<F: Send + Drop, S: Store<F>> Crew<F, S> {
         ensures cause { IfErr result (λ e. OnStore e (Rose (S.faults store.old) (S.faults store.new))) }
         ensures later { S.faults store.old ≤ S.faults store.new }
     {
-        run_round(
+        run_rounds(
             rt,
             alloc,
             gate,
-            self.round,
             opener.datasets(),
             self.parcels.as_slice(),
             self.jobs.as_mut_slice(),
         );
-        self.round = self.round.saturating_add(1);
         self.octets = 0;
-        self.parcels.clear();
+        put_away(&mut self.parcels, &mut self.buffers);
         halted(self.jobs.as_mut_slice(), store)
     }
 
@@ -308,6 +349,15 @@ impl<F: Send + Drop, S: Store<F>> Crew<F, S> {
             let number = self.passes.len() as u32;
             self.end_one(rt, opener, number, pass);
         }
+    }
+}
+
+// Lets go of messages that were stored, and keeps their buffers.
+fn put_away(parcels: &mut Vec<Parcel>, buffers: &mut Buffers)
+    ensures none { parcels.new.items ≡ [] }
+{
+    while let Some(parcel) = parcels.pop() {
+        buffers.keep(parcel.bytes);
     }
 }
 

@@ -1,18 +1,18 @@
 //! An input, whose messages are dealt as they come.
-ghost use Rattle.std.specs.Prelude.{◌≡◌, ◌≤◌, ℕ, List, Option, [], ◌++◌, Some, IfSome, IfOk, IfErr, OnOk, length, is_some, true, false};
+ghost use Rattle.std.specs.Prelude.{◌≡◌, ◌≤◌, ℕ, List, Option, [], ◌++◌, ◌∷◌, Some, IfSome, IfOk, IfErr, OnOk, length, is_some, true, false};
 ghost use Rattle.fd_bytes.specs.Causes.{Rose};
 ghost use Rattle.fd_disk.specs.Folders.{Holdings};
-ghost use Rattle.fd_sections.specs.Message.{message_octets};
-ghost use Rattle.fd_sections.specs.Parts.{IsWhole, sections_of};
+ghost use Rattle.fd_sections.specs.Progress.{Progress};
+ghost use Rattle.fd_key.specs.Pairs.{Pair};
 ghost use Rattle.fd_schema.specs.Grammar.{IsSchema};
-ghost use Rattle.fd_schema.specs.Reading.{seen_place};
-ghost use Rattle.fd_schema.specs.Rules.{IsShort};
+ghost use Rattle.fd_schema.specs.Rules.{Rule};
 ghost use Rattle.fd_library.specs.Open.{OutAre};
 ghost use Rattle.fd_outcome.specs.Archiving.{Stored};
 ghost use Rattle.fd_bulk.specs.Halting.{OnStore};
-ghost use Rattle.fd_bulk.specs.Inputs.{CanGo, EndsOf, Going, GoesOn, InputDealt, InputEnds, PlacedAs, is_calm, is_listed, is_unread};
+ghost use Rattle.fd_bulk.specs.Inputs.{CanGo, EndsOf, Going, GoesOn, InputDealt, InputEnds, is_calm, is_listed, is_unread};
 ghost use Rattle.fd_sections.specs.Joining.{IsWaiting};
-ghost use Rattle.fd_bulk.specs.Taking.{Measures};
+ghost use Rattle.fd_sheets.specs.Sheets.{Placed};
+ghost use Rattle.fd_bulk.specs.Sheets.{CanDeal, IsTold, ToldAs};
 ghost use Rattle.fd_bulk.specs.Crewing.{Deals, Finished, Running};
 
 use crate::bulk::BulkFault;
@@ -20,10 +20,11 @@ use crate::crew::Crew;
 use crate::opener::Opener;
 use fd_disk::{Folder, Store};
 use fd_io::{Gate, Source};
-use fd_key::{Given, KeyFault, key_of};
+use fd_key::Given;
 use fd_outcome::{INPUT_LIMIT, new_buffer, read_piece};
-use fd_schema::{Place, PlaceFault, Schema};
-use fd_sections::{Message, Splitter};
+use fd_schema::Schema;
+use fd_sections::Splitter;
+use fd_sheets::{Sheet, Unplaced, Unsplit, look_up_all, take_sheets};
 use std::alloc::Global;
 use std::sync::Wait;
 use std::thread::Threads;
@@ -56,73 +57,92 @@ fn is_listed<X>(found: &Result<Counts, BulkFault<X>>) -> bool
     }
 }
 
-// The place of a message.
-fn placed<X: Drop>(
-    alloc: Global,
-    schema: &Schema,
-    given: &Given,
-    number: u64,
-    message: &Message<'_>,
-) -> Result<Place, BulkFault<X>>
-where
-    requires schema { IsSchema schema.now }
-    requires whole { IsWhole message.now }
-    ensures placed { PlacedAs schema.now given.now number (sections_of message.now) result }
-    ensures short { IfOk result (λ p. IsShort (seen_place p)) }
+// Why a message has no place, as it is told of the message of this number.
+fn unplaced<X>(reason: Unplaced, number: u64) -> BulkFault<X>
+    ensures { ToldAs number reason result }
 {
-    let key = match key_of(alloc, message, given) {
-        Ok(key) => key,
-        Err(KeyFault::NoMemory) => return Err(BulkFault::NoMemory),
-        Err(fault) => return Err(BulkFault::Key { number, fault }),
-    };
-    match schema.place(alloc, &key) {
-        Ok(place) => Ok(place),
-        Err(PlaceFault::NoRule) => match key.text(alloc) {
-            Ok(key) => Err(BulkFault::NoRule { number, key }),
-            Err(_) => Err(BulkFault::NoMemory),
-        },
-        Err(PlaceFault::NoMemory) => Err(BulkFault::NoMemory),
+    match reason {
+        Unplaced::Key(fault) => BulkFault::Key { number, fault },
+        Unplaced::NoRule(key) => BulkFault::NoRule { number, key },
+        Unplaced::NoMemory => BulkFault::NoMemory,
     }
 }
 
-// Deals the next message, if one is whole, and tells whether one was.
-fn deal_next<F: Send + Drop, X: Drop, S: Store<F>>(
+// Why no message comes, as it is told.
+fn unsplit<X>(end: Result<(), Unsplit>) -> Result<(), BulkFault<X>>
+    ensures { IsTold end result }
+{
+    match end {
+        Ok(()) => Ok(()),
+        Err(Unsplit::Message(at)) => Err(BulkFault::Message(at)),
+        Err(Unsplit::NoMemory) => Err(BulkFault::NoMemory),
+    }
+}
+
+// Deals a message, unless it has no place.
+fn deal_sheet<F: Send + Drop, X: Drop, S: Store<F>>(
     alloc: Global,
-    schema: &Schema,
-    given: &Given,
-    splitter: &mut Splitter,
+    sheet: Sheet,
     crew: &mut Crew<F, S>,
     opener: &mut Opener<F, S>,
     store: &mut S,
-) -> Result<bool, BulkFault<X>>
+) -> Result<(), BulkFault<X>>
 where
-    requires schema { IsSchema schema.now }
     requires out { OutAre opener.old.library.each (S.out store.old) }
-    requires fed { splitter.old.fed ≤ 68719476736 }
-    requires can { CanGo S.Folder.has S.Folder.Shelf.kept (S.has store.old) opener.old.library crew.old.passes.items crew.old.jobs.items crew.old.parcels.items splitter.old }
+    requires can { CanDeal S.Folder.has S.Folder.Shelf.kept (S.has store.old) (sheet ∷ []) opener.old.library crew.old.passes.items crew.old.jobs.items crew.old.parcels.items }
     ensures out { OutAre opener.new.library.each (S.out store.new) }
-    ensures goes { (start : Option Holdings) (all waiting : List Stored) → Going S.Folder.has S.Folder.Shelf.kept start (S.has store.old) all waiting opener.old.library crew.old.passes.items crew.old.jobs.items crew.old.parcels.items splitter.old
-        → GoesOn S.Folder.has S.Folder.Shelf.kept schema.now given.now splitter.old splitter.new start (S.has store.new) (all ++ waiting) opener.new.library crew.new.passes.items crew.new.jobs.items crew.new.parcels.items result }
-    ensures measure { IfOk result (λ some. Measures some splitter.old splitter.new) }
-    ensures fed { IfOk result (λ some. splitter.new.fed ≡ splitter.old.fed) }
+    ensures goes { (rules : List Rule) (given : List Pair) (p q : Progress) (start : Option Holdings) (all waiting : List Stored) → p.fed ≤ 68719476736 → Placed rules given p (sheet ∷ []) q
+        → Going S.Folder.has S.Folder.Shelf.kept start (S.has store.old) all waiting opener.old.library crew.old.passes.items crew.old.jobs.items crew.old.parcels.items p
+        → GoesOn S.Folder.has S.Folder.Shelf.kept rules given p q start (S.has store.new) (all ++ waiting) opener.new.library crew.new.passes.items crew.new.jobs.items crew.new.parcels.items result }
     ensures jobs { length crew.new.jobs.items ≡ length crew.old.jobs.items }
     ensures cause { IfErr result (λ e. OnStore e (Rose (S.faults store.old) (S.faults store.new))) }
     ensures told { is_some (S.has store.new) ≡ is_some (S.has store.old) }
     ensures later { S.faults store.old ≤ S.faults store.new }
 {
-    let number = splitter.given() + 1;
-    match splitter.next() {
-        Ok(None) => Ok(false),
-        Ok(Some(message)) => {
-            let place = placed(alloc, schema, given, number, &message)?;
-            crew.deal(alloc, opener, store, place, message.bytes())?;
-            Ok(true)
-        }
-        Err(at) => Err(BulkFault::Message(at)),
+    let Sheet {
+        number,
+        bytes,
+        found,
+    } = sheet;
+    match found {
+        Some(Ok(place)) => crew.deal(alloc, opener, store, place, bytes),
+        Some(Err(reason)) => Err(unplaced(reason, number)),
+        None => unreachable!(),
     }
 }
 
-// Deals the messages that are whole, and stores each round that is full.
+// Deals messages, and stores the rounds that are enough for a start.
+fn deal_sheets<F: Send + Drop, X: Drop, S: Store<F>, G: Gate, R: Threads + Wait + Sync>(
+    rt: &R,
+    alloc: Global,
+    sheets: Vec<Sheet>,
+    crew: &mut Crew<F, S>,
+    opener: &mut Opener<F, S>,
+    store: &mut S,
+    gate: &G,
+) -> Result<(), BulkFault<X>>
+where
+    requires out { OutAre opener.old.library.each (S.out store.old) }
+    requires can { CanDeal S.Folder.has S.Folder.Shelf.kept (S.has store.old) sheets.items opener.old.library crew.old.passes.items crew.old.jobs.items crew.old.parcels.items }
+    ensures out { OutAre opener.new.library.each (S.out store.new) }
+    ensures goes { (rules : List Rule) (given : List Pair) (p q : Progress) (start : Option Holdings) (all waiting : List Stored) → p.fed ≤ 68719476736 → Placed rules given p sheets.items q
+        → Going S.Folder.has S.Folder.Shelf.kept start (S.has store.old) all waiting opener.old.library crew.old.passes.items crew.old.jobs.items crew.old.parcels.items p
+        → GoesOn S.Folder.has S.Folder.Shelf.kept rules given p q start (S.has store.new) (all ++ waiting) opener.new.library crew.new.passes.items crew.new.jobs.items crew.new.parcels.items result }
+    ensures jobs { length crew.new.jobs.items ≡ length crew.old.jobs.items }
+    ensures cause { IfErr result (λ e. OnStore e (Rose (S.faults store.old) (S.faults store.new))) }
+    ensures told { is_some (S.has store.new) ≡ is_some (S.has store.old) }
+    ensures later { S.faults store.old ≤ S.faults store.new }
+{
+    for sheet in sheets {
+        deal_sheet(alloc, sheet, crew, opener, store)?;
+        if crew.is_full() {
+            crew.run(rt, alloc, opener, store, gate)?;
+        }
+    }
+    Ok(())
+}
+
+// Deals the messages that are whole, whose places are looked for first, and stores the rounds that are enough for a start.
 fn deal_messages<F: Send + Drop, X: Drop, S: Store<F>, G: Gate, R: Threads + Wait + Sync>(
     rt: &R,
     alloc: Global,
@@ -149,13 +169,13 @@ where
     ensures told { is_some (S.has store.new) ≡ is_some (S.has store.old) }
     ensures later { S.faults store.old ≤ S.faults store.new }
 {
-    'messages: loop {
-        if !deal_next(alloc, schema, given, splitter, crew, opener, store)? {
-            return Ok(());
-        }
-        if crew.is_full() {
-            crew.run(rt, alloc, opener, store, gate)?;
-        }
+    let mut sheets = Vec::new(alloc);
+    let end = take_sheets(alloc, splitter, &mut crew.buffers, &mut sheets);
+    let workers = crew.jobs.len();
+    look_up_all(rt, alloc, schema, given, workers, sheets.as_mut_slice());
+    match deal_sheets(rt, alloc, sheets, crew, opener, store, gate) {
+        Ok(()) => unsplit(end),
+        Err(fault) => Err(fault),
     }
 }
 
@@ -171,7 +191,7 @@ fn end_of<X: Drop>(splitter: Splitter) -> Result<Counts, BulkFault<X>>
     }
 }
 
-// Deals the messages of the input, and stores each round that is full.
+// Deals the messages of the input, and stores the rounds that are enough for a start.
 fn deal_input<
     F: Send + Drop,
     X: Drop,
@@ -247,7 +267,7 @@ where
     Err(BulkFault::InputLimit)
 }
 
-// Stores the messages of the input. Where it stops, the round that was dealt is stored first; a refusal of a worker is that
+// Stores the messages of the input. Where it stops, what was dealt is stored first; a refusal of a worker is that
 // of a message before.
 fn archive_input<
     F: Send + Drop,

@@ -1,4 +1,4 @@
-//! A round: each worker stores its share of some messages.
+//! Rounds: each worker stores its share of some messages.
 ghost use Rattle.std.specs.Prelude.{◌≡◌, ◌<◌, ◌≤◌, ℕ, List, All, length, slice_index_or};
 ghost use Rattle.fd_entries.specs.declared.batch.Pair.{Pair};
 ghost use Rattle.fd_bulk.specs.Sharing.{AllWork, CanListAll, CanListAt, CanShare, CanStore, Listed, ListedAt, SameMet, Shared, StoredAt};
@@ -16,11 +16,12 @@ use std::sync::Wait;
 use std::thread;
 use std::thread::Threads;
 
-/// A message that waits to be stored, with its worker, from 0, and the number of its dataset.
+/// A message that waits to be stored, with its worker, from 0, and the numbers of its dataset and of its round.
 #[derive(Drop)]
 pub(crate) struct Parcel {
     pub(crate) worker: u32,
     pub(crate) dataset: u32,
+    pub(crate) round: u32,
     pub(crate) place: Place,
     pub(crate) bytes: Bytes,
 }
@@ -32,7 +33,7 @@ pub(crate) struct Desk<A, P> {
     pub(crate) pass: P,
 }
 
-/// Why a worker stores nothing more, and at which message of its round, from 0.
+/// Why a worker stores nothing more, and at which of the messages that were dealt, from 0.
 #[derive(Drop)]
 pub(crate) struct Halt<E> {
     pub(crate) at: usize,
@@ -85,12 +86,21 @@ where
     )
 }
 
-// The share of a worker, from 0. It stops at the first message that it can't store.
+// The round of the next message. Where it's another than that of the last one, the worker passes the gate first.
+fn entered<G: Gate, R: Wait>(rt: &R, gate: &G, worker: usize, last: u32, next: u32) -> u32
+    requires worker { worker < 8 }
+{
+    if next != last {
+        gate.pass(rt, worker as u32 + 1, next);
+    }
+    next
+}
+
+// The share of a worker, from 0, in each of the rounds. It stops at the first message that it can't store.
 fn run_share<F: Send + Drop, T: Disk<F>, H: Shelf<F>, G: Gate, R: Wait>(
     rt: &R,
     alloc: Global,
     gate: &G,
-    round: u32,
     datasets: &[Dataset<F, T, H::Sealed>],
     parcels: &[Parcel],
     worker: usize,
@@ -101,9 +111,10 @@ where
     requires can { CanShare H.kept datasets.now worker parcels.now job.old }
     ensures shared { Shared H.kept datasets.now worker parcels.now job.old job.new }
 {
-    gate.pass(rt, worker as u32 + 1, round);
+    let mut round = 0;
     for at in 0..parcels.len() {
         let parcel = &parcels[at];
+        round = entered(rt, gate, worker, round, parcel.round);
         if parcel.worker as usize == worker {
             match store_parcel(rt, alloc, datasets, parcel, job) {
                 Ok(()) => {}
@@ -116,12 +127,17 @@ where
     }
 }
 
-/// Each worker's share, in a thread of its own.
-pub(crate) fn run_round<F: Send + Drop, T: Disk<F>, H: Shelf<F>, G: Gate, R: Threads + Wait + Sync>(
+/// Each worker's share of the rounds, in a thread of its own. It passes the gate before its share of each.
+pub(crate) fn run_rounds<
+    F: Send + Drop,
+    T: Disk<F>,
+    H: Shelf<F>,
+    G: Gate,
+    R: Threads + Wait + Sync,
+>(
     rt: &R,
     alloc: Global,
     gate: &G,
-    round: u32,
     datasets: &[Dataset<F, T, H::Sealed>],
     parcels: &[Parcel],
     jobs: &mut [WorkerJob<F, T, H>],
@@ -139,7 +155,7 @@ where
         &|i: usize, job: &mut WorkerJob<F, T, H>|
             requires { (i < 8) × CanShare H.kept datasets.now i parcels.now job.old }
             ensures { Shared H.kept datasets.entry.now i parcels.entry.now job.old job.new }
-        { run_share(rt, alloc, gate, round, datasets, parcels, i, job) },
+        { run_share(rt, alloc, gate, datasets, parcels, i, job) },
     );
 }
 

@@ -1,90 +1,63 @@
-use Rattle.std.proofs.Common.{rules, ◌≡◌, ◌≤◌, ◌∙◌, ◌++◌, ℕ, List, Option, Bool, Err, refl, sym, ap, arith}
-use Rattle.std.specs.Prelude.{is_some}
-use Rattle.fd_disk.specs.Folders.{Holdings}
-use Rattle.fd_bulk.proofs.Gone.{can_run, ended_more, ended_run, gone_more, gone_nowhere, gone_run}
+use Rattle.std.proofs.Common.{rules, ◌≡◌, ◌≤◌, ◌++◌, All, length, sym, subst, arith}
+use Rattle.fd_sheets.specs.Sheets.{IsReadable}
+use Rattle.fd_sheets.proofs.Placing.{staged_fed, staged_readable, took_fed, took_waits}
+use Rattle.fd_bulk.proofs.Placing.{goes_more, placed_written, stays_on, told_ok, told_quiet}
 use Rattle.fd_bulk.proofs.reading.deal_messages.Goals as goal
 
-pub messages-init : goal.messages-init
-messages-init g c = record {
-  fed = refl;
-  out = c.requires.out;
-  told = refl;
-  later = omega arith;
-  jobs = refl;
-  goes = λ start all waiting going. gone_nowhere g.S.Folder.Folder.has g.S.Folder.Shelf.Shelf.kept c.args.schema.now c.args.given.now start (g.S.Store.has c.args.store.now) all waiting c.args.opener.now.library c.args.crew.now.passes.items c.args.crew.now.jobs.items c.args.crew.now.parcels.items c.args.splitter.now c.requires.fed going;
-}
+pub look_up_all-requires-clause-workers : goal.look_up_all-requires-clause-workers
+look_up_all-requires-clause-workers g c κs within =
+    let some = c.requires.can.1.1.1.deals.crewed.some in
+    omega (arith, some)
 
-pub deal_next-requires-clause-can : goal.deal_next-requires-clause-can
-deal_next-requires-clause-can g c κs within =
+pub look_up_all-requires-clause-readable : goal.look_up_all-requires-clause-readable
+look_up_all-requires-clause-readable g c κs within =
+    let t = c.take_sheets-end.ensures in
+    subst (All IsReadable) (sym c.as_mut_slice.ensures.value) (staged_readable c.args.splitter.now t.middle c.take_sheets-end.new.sheets.items t.staged)
+
+pub deal_sheets-requires-clause-can : goal.deal_sheets-requires-clause-can
+deal_sheets-requires-clause-can g c κs within =
+    let t = c.take_sheets-end.ensures in
+    let js = c.take_sheets-end.new.sheets in
+    let is : js.len ≡ length js.items = search rules in
     let r = c.requires.can in
-    let w = c.messages.invariant.goes r.0 r.1.0 r.1.1.0 r.1.1.1 in
-    (r.0, (w.all, (w.waiting, w.going)))
-
-pub returns-in_err-deal_next-clause-goes : goal.returns-in_err-deal_next-clause-goes
-returns-in_err-deal_next-clause-goes g c =
-    let e : c.from_residual.result ≡ Err c.in_err-deal_next.field-0.0 = search rules in
-    λ start all waiting going.
-    let w = c.messages.invariant.goes start all waiting going in
-    rw e (ended_more g.S.Folder.Folder.has g.S.Folder.Shelf.Shelf.kept c.args.schema.now c.args.given.now start (g.S.Store.has c.messages.store) (all ++ waiting) c.messages.opener.library c.messages.crew.passes.items c.messages.crew.jobs.items c.messages.crew.parcels.items c.args.splitter.now c.messages.splitter w (g.S.Store.has c.deal_next.new.store) c.deal_next.new.opener.library c.deal_next.new.crew.passes.items c.deal_next.new.crew.jobs.items c.deal_next.new.crew.parcels.items c.in_err-deal_next.field-0.0
-    (c.in_err-deal_next.ensures.goes start w.all w.waiting w.going))
-
-pub returns-then-not-branch-clause-goes : goal.returns-then-not-branch-clause-goes
-returns-then-not-branch-clause-goes g c = λ start all waiting going.
-    let w = c.messages.invariant.goes start all waiting going in
-    gone_more g.S.Folder.Folder.has g.S.Folder.Shelf.Shelf.kept c.args.schema.now c.args.given.now start (g.S.Store.has c.messages.store) (all ++ waiting) c.messages.opener.library c.messages.crew.passes.items c.messages.crew.jobs.items c.messages.crew.parcels.items c.args.splitter.now c.messages.splitter w (g.S.Store.has c.deal_next.new.store) c.deal_next.new.opener.library c.deal_next.new.crew.passes.items c.deal_next.new.crew.jobs.items c.deal_next.new.crew.parcels.items c.deal_next.new.splitter (c.in_ok-deal_next.ensures.goes start w.all w.waiting w.going)
-
-pub run-requires-clause-can : goal.run-requires-clause-can
-run-requires-clause-can g c κs within =
-    let i = c.messages.invariant in
-    let r = c.requires.can in
-    let w = i.goes r.0 r.1.0 r.1.1.0 r.1.1.1 in
-    let v = c.in_ok-deal_next.ensures.goes r.0 w.all w.waiting w.going in
-    let few : c.deal_next.new.splitter.fed ≤ 68719476736 = omega (arith, c.in_ok-deal_next.ensures.fed, i.fed, c.requires.fed) in
-    can_run g.S.Folder.Folder.has g.S.Folder.Shelf.Shelf.kept c.args.schema.now c.args.given.now r.0 (g.S.Store.has c.deal_next.new.store) v.all v.waiting c.deal_next.new.opener.library c.deal_next.new.crew.passes.items c.deal_next.new.crew.jobs.items c.deal_next.new.crew.parcels.items c.deal_next.new.splitter few v.going
-
-pub messages-preserved-in_ok-run : goal.messages-preserved-in_ok-run
-messages-preserved-in_ok-run g c =
-    let i = c.messages.invariant in
-    let n = c.in_ok-deal_next.ensures in
-    let r = c.in_ok-run.ensures in
-    let few : c.deal_next.new.splitter.fed ≤ 68719476736 = omega (arith, n.fed, i.fed, c.requires.fed) in
     record {
-      fed = n.fed ∙ i.fed;
-      out = λ m is. n.out m (sym (ap (λ (f : List ℕ → Bool). f m) r.out) ∙ is);
-      told = ap (λ (h : Option Holdings). is_some h) r.has ∙ n.told ∙ i.told;
-      later = omega (arith, i.later, n.later, r.later);
-      jobs = r.jobs ∙ n.jobs ∙ i.jobs;
-      goes = λ start all waiting going.
-          let w = i.goes start all waiting going in
-          let v = n.goes start w.all w.waiting w.going in
-          gone_more g.S.Folder.Folder.has g.S.Folder.Shelf.Shelf.kept c.args.schema.now c.args.given.now start (g.S.Store.has c.messages.store) (all ++ waiting) c.messages.opener.library c.messages.crew.passes.items c.messages.crew.jobs.items c.messages.crew.parcels.items c.args.splitter.now c.messages.splitter w (g.S.Store.has c.run.new.store) c.deal_next.new.opener.library c.run.new.self.passes.items c.run.new.self.jobs.items c.run.new.self.parcels.items c.deal_next.new.splitter
-          (gone_run g.S.Folder.Folder.has g.S.Folder.Shelf.Shelf.kept c.args.schema.now c.args.given.now start (g.S.Store.has c.deal_next.new.store) (w.all ++ w.waiting) c.deal_next.new.opener.library c.deal_next.new.crew.passes.items c.deal_next.new.crew.jobs.items c.deal_next.new.crew.parcels.items c.messages.splitter c.deal_next.new.splitter v few (g.S.Store.has c.run.new.store) r.has c.run.new.self.passes.items c.run.new.self.jobs.items c.run.new.self.parcels.items r.none g.row.X.Denot (r.ran start (g.S.Store.has c.deal_next.new.store) 0 v.all v.waiting v.going.deals.crewed v.going.deals.waits));
+      rules = c.args.schema.now;
+      given = c.args.given.now;
+      from = c.args.splitter.now;
+      to = t.middle;
+      few = c.requires.fed;
+      placed = placed_written c.args.schema.now c.args.given.now c.args.splitter.now t.middle js.items c.as_mut_slice.result.now c.look_up_all.new.sheets js.len t.staged is c.as_mut_slice.ensures.value c.look_up_all.ensures.long c.look_up_all.ensures.looked;
+      start = r.0;
+      all = r.1.0;
+      waiting = r.1.1.0;
+      going = r.1.1.1;
     }
 
-pub returns-in_err-run-clause-goes : goal.returns-in_err-run-clause-goes
-returns-in_err-run-clause-goes g c =
-    let i = c.messages.invariant in
-    let n = c.in_ok-deal_next.ensures in
-    let r = c.in_err-run.ensures in
-    let few : c.deal_next.new.splitter.fed ≤ 68719476736 = omega (arith, n.fed, i.fed, c.requires.fed) in
-    let e : c.from_residual-in_err-run.result ≡ Err c.in_err-run.field-0.0 = search rules in
+pub returns-in-Ok-clause-goes : goal.returns-in-Ok-clause-goes
+returns-in-Ok-clause-goes g c =
+    let t = c.take_sheets-end.ensures in
+    let js = c.take_sheets-end.new.sheets in
+    let is : js.len ≡ length js.items = search rules in
+    let placed = placed_written c.args.schema.now c.args.given.now c.args.splitter.now t.middle js.items c.as_mut_slice.result.now c.look_up_all.new.sheets js.len t.staged is c.as_mut_slice.ensures.value c.look_up_all.ensures.long c.look_up_all.ensures.looked in
+    let few : t.middle.fed ≤ 68719476736 = omega (arith, c.requires.fed, staged_fed c.args.splitter.now t.middle js.items t.staged) in
     λ start all waiting going.
-    let w = i.goes start all waiting going in
-    let v = n.goes start w.all w.waiting w.going in
-    rw e (ended_more g.S.Folder.Folder.has g.S.Folder.Shelf.Shelf.kept c.args.schema.now c.args.given.now start (g.S.Store.has c.messages.store) (all ++ waiting) c.messages.opener.library c.messages.crew.passes.items c.messages.crew.jobs.items c.messages.crew.parcels.items c.args.splitter.now c.messages.splitter w (g.S.Store.has c.run.new.store) c.deal_next.new.opener.library c.run.new.self.passes.items c.run.new.self.jobs.items c.run.new.self.parcels.items c.in_err-run.field-0.0
-    (ended_run g.S.Folder.Folder.has g.S.Folder.Shelf.Shelf.kept c.args.schema.now c.args.given.now start (g.S.Store.has c.deal_next.new.store) (w.all ++ w.waiting) c.deal_next.new.opener.library c.deal_next.new.crew.passes.items c.deal_next.new.crew.jobs.items c.deal_next.new.crew.parcels.items c.messages.splitter c.deal_next.new.splitter v few (g.S.Store.has c.run.new.store) r.has c.run.new.self.passes.items c.run.new.self.jobs.items c.run.new.self.parcels.items r.none c.in_err-run.field-0.0 (r.ran start (g.S.Store.has c.deal_next.new.store) 0 v.all v.waiting v.going.deals.crewed v.going.deals.waits)))
+    let w = c.in-Ok.ensures.goes c.args.schema.now c.args.given.now c.args.splitter.now t.middle start all waiting c.requires.fed placed going in
+    goes_more g.S.Folder.Folder.has g.S.Folder.Shelf.Shelf.kept c.args.schema.now c.args.given.now c.args.splitter.now t.middle c.take_sheets-end.new.splitter start (g.S.Store.has c.deal_sheets.new.store) (all ++ waiting) c.deal_sheets.new.opener.library c.deal_sheets.new.crew.passes.items c.deal_sheets.new.crew.jobs.items c.deal_sheets.new.crew.parcels.items w c.unsplit.result
+    (stays_on g.S.Folder.Folder.has g.S.Folder.Shelf.Shelf.kept c.args.schema.now c.args.given.now t.middle c.take_sheets-end.new.splitter start (g.S.Store.has c.deal_sheets.new.store) w.all w.waiting c.deal_sheets.new.opener.library c.deal_sheets.new.crew.passes.items c.deal_sheets.new.crew.jobs.items c.deal_sheets.new.crew.parcels.items few w.going c.take_sheets-end.result c.unsplit.result t.stays c.unsplit.ensures)
 
-pub messages-preserved : goal.messages-preserved
-messages-preserved g c =
-    let i = c.messages.invariant in
-    let n = c.in_ok-deal_next.ensures in
-    record {
-      fed = n.fed ∙ i.fed;
-      out = n.out;
-      told = n.told ∙ i.told;
-      later = omega (arith, i.later, n.later);
-      jobs = n.jobs ∙ i.jobs;
-      goes = λ start all waiting going.
-          let w = i.goes start all waiting going in
-          gone_more g.S.Folder.Folder.has g.S.Folder.Shelf.Shelf.kept c.args.schema.now c.args.given.now start (g.S.Store.has c.messages.store) (all ++ waiting) c.messages.opener.library c.messages.crew.passes.items c.messages.crew.jobs.items c.messages.crew.parcels.items c.args.splitter.now c.messages.splitter w (g.S.Store.has c.deal_next.new.store) c.deal_next.new.opener.library c.deal_next.new.crew.passes.items c.deal_next.new.crew.jobs.items c.deal_next.new.crew.parcels.items c.deal_next.new.splitter (n.goes start w.all w.waiting w.going);
-    }
+pub returns-in-Ok-clause-waits : goal.returns-in-Ok-clause-waits
+returns-in-Ok-clause-waits g c = told_ok _ c.take_sheets-end.result c.unsplit.result c.unsplit.ensures (took_waits c.args.splitter.now c.take_sheets-end.new.splitter c.take_sheets-end.new.sheets.items c.take_sheets-end.result c.take_sheets-end.ensures)
+
+pub returns-in-Ok-clause-fed : goal.returns-in-Ok-clause-fed
+returns-in-Ok-clause-fed g c = told_ok _ c.take_sheets-end.result c.unsplit.result c.unsplit.ensures (took_fed c.args.splitter.now c.take_sheets-end.new.splitter c.take_sheets-end.new.sheets.items c.take_sheets-end.result c.take_sheets-end.ensures)
+
+pub returns-in-Ok-clause-cause : goal.returns-in-Ok-clause-cause
+returns-in-Ok-clause-cause g c = told_quiet _ c.take_sheets-end.result c.unsplit.result c.unsplit.ensures
+
+pub returns-in-Err-clause-goes : goal.returns-in-Err-clause-goes
+returns-in-Err-clause-goes g c =
+    let t = c.take_sheets-end.ensures in
+    let js = c.take_sheets-end.new.sheets in
+    let is : js.len ≡ length js.items = search rules in
+    let placed = placed_written c.args.schema.now c.args.given.now c.args.splitter.now t.middle js.items c.as_mut_slice.result.now c.look_up_all.new.sheets js.len t.staged is c.as_mut_slice.ensures.value c.look_up_all.ensures.long c.look_up_all.ensures.looked in
+    λ start all waiting going. c.in-Err.ensures.goes c.args.schema.now c.args.given.now c.args.splitter.now t.middle start all waiting c.requires.fed placed going

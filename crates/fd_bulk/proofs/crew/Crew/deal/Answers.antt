@@ -1,4 +1,4 @@
-use Rattle.std.proofs.Common.{arith, ◌∙◌, ◌++◌, ◌∷◌, [], List, ℕ, Some, sym, ap, subst, slice_get}
+use Rattle.std.proofs.Common.{arith, ◌∙◌, ◌++◌, ◌∷◌, [], List, ℕ, Some, refl, sym, ap, subst, slice_get}
 use Rattle.fd_schema.specs.Reading.{seen_place}
 use Rattle.fd_outcome.specs.Archiving.{datasets_in, is_too_many}
 use Rattle.fd_bulk.specs.declared.round.Parcel.{Parcel}
@@ -10,14 +10,6 @@ use Rattle.fd_bulk.proofs.crew.Crew.deal.Goals as goal
 
 pub returns-in_default-clause-deals : goal.returns-in_default-clause-deals
 returns-in_default-clause-deals g c = λ start all waiting d.
-    let s = c.args.self.now in
-    let l = c.args.opener.now.library in
-    let now = g.S.Store.has c.args.store.now in
-    subst (λ xs. Closes g.S.Folder.Folder.has g.S.Folder.Shelf.Shelf.kept start now all waiting l s.passes.items s.jobs.items xs) (sym c.reserve.ensures.items)
-    (deals_closes g.S.Folder.Folder.has g.S.Folder.Shelf.Shelf.kept start all waiting now (datasets_in (all ++ waiting)) l s.passes.items s.jobs.items s.parcels.items d)
-
-pub returns-in_default-from_slice-clause-deals : goal.returns-in_default-from_slice-clause-deals
-returns-in_default-from_slice-clause-deals g c = λ start all waiting d.
     let s = c.args.self.now in
     let l = c.args.opener.now.library in
     let now = g.S.Store.has c.args.store.now in
@@ -75,8 +67,8 @@ returns-clause-deals g c = λ start all waiting d.
     let opened = c.in_ok-dataset.ensures.opens start all waiting d1 in
     let seats = c.in-Ok-seated.ensures.seats start all waiting _ opened.0 in
     let met = subst (λ (t : List ℕ). Deals g.S.Folder.Folder.has g.S.Folder.Shelf.Shelf.kept start (g.S.Store.has c.opened.new.store) all waiting (datasets_in (all ++ waiting) ++ t ∷ []) c.seated.new.opener.library c.seated.new.self.passes.items c.seated.new.self.jobs.items c.seated.new.self.parcels.items) c.as_str.ensures.value seats.0 in
-    let p : Parcel = record { worker = c.dealt-worker.result; dataset = c.in_ok-dataset.dataset; place = c.args.place; bytes = c.in-Ok-from_slice.bytes } in
+    let p : Parcel = record { worker = c.dealt-worker.result; dataset = c.in_ok-dataset.dataset; round = c.seated.new.self.round.number; place = c.args.place; bytes = c.args.bytes } in
     let stored = subst (λ o. Deals g.S.Folder.Folder.has g.S.Folder.Shelf.Shelf.kept start o all waiting (datasets_in (all ++ waiting) ++ (seen_place c.args.place).dataset ∷ []) c.seated.new.opener.library c.seated.new.self.passes.items c.seated.new.self.jobs.items c.seated.new.self.parcels.items) (sym c.seated.ensures.has) met in
     let named = ap (λ (ns : List (List ℕ)). slice_get ns c.in_ok-dataset.dataset) c.seated.ensures.names ∙ opened.1 ∙ ap Some c.as_str.ensures.value in
-    subst (λ xs. Deals g.S.Folder.Folder.has g.S.Folder.Shelf.Shelf.kept start (g.S.Store.has c.seated.new.store) all (waiting ++ message_at (seen_place c.args.place) c.args.octets.now ∷ []) (datasets_in (all ++ (waiting ++ message_at (seen_place c.args.place) c.args.octets.now ∷ []))) c.seated.new.opener.library c.seated.new.self.passes.items c.seated.new.self.jobs.items xs) (sym c.push_reserved.ensures.items)
-    (dealt_one g.S.Folder.Folder.has g.S.Folder.Shelf.Shelf.kept start (g.S.Store.has c.seated.new.store) all waiting c.args.octets.now p c.seated.new.opener.library c.seated.new.self.passes.items c.seated.new.self.jobs.items c.seated.new.self.parcels.items c.in-Ok-from_slice.ensures (stored, seats.1) named c.len.result c.dealt-worker.ensures.worker (omega (arith, c.len.ensures, c.args.self.now.jobs.ok.0, c.opened.ensures.jobs, c.seated.ensures.jobs)) c.requires.key c.requires.bytes)
+    subst (λ xs. Deals g.S.Folder.Folder.has g.S.Folder.Shelf.Shelf.kept start (g.S.Store.has c.seated.new.store) all (waiting ++ message_at (seen_place c.args.place) c.args.bytes ∷ []) (datasets_in (all ++ (waiting ++ message_at (seen_place c.args.place) c.args.bytes ∷ []))) c.seated.new.opener.library c.seated.new.self.passes.items c.seated.new.self.jobs.items xs) (sym c.push_reserved.ensures.items)
+    (dealt_one g.S.Folder.Folder.has g.S.Folder.Shelf.Shelf.kept start (g.S.Store.has c.seated.new.store) all waiting c.args.bytes p c.seated.new.opener.library c.seated.new.self.passes.items c.seated.new.self.jobs.items c.seated.new.self.parcels.items refl (stored, seats.1) named c.len.result c.dealt-worker.ensures.worker (omega (arith, c.len.ensures, c.args.self.now.jobs.ok.0, c.opened.ensures.jobs, c.seated.ensures.jobs)) c.requires.key c.requires.bytes)

@@ -6,8 +6,8 @@ use Rattle.fd_bulk.proofs.Ran.{can_share, each_by, ran}
 use Rattle.fd_bulk.proofs.Turns.{written, written_twice}
 use Rattle.fd_bulk.proofs.crew.Crew.run.Goals as goal
 
-pub run_round-requires-clause-can : goal.run_round-requires-clause-can
-run_round-requires-clause-can g c κs within =
+pub run_rounds-requires-clause-can : goal.run_rounds-requires-clause-can
+run_rounds-requires-clause-can g c κs within =
     let s = c.args.self.now in
     let l = c.args.opener.now.library in
     subst (λ xs. (i : ℕ) (e : _) → i < length xs → CanShare g.S.Folder.Shelf.Shelf.kept c.datasets.result.now i c.as_slice.result.now (get_or xs i e)) (sym c.as_mut_slice.ensures.value)
@@ -20,12 +20,12 @@ returns-clause-ran g c =
     let s = c.args.self.now in
     let l = c.args.opener.now.library in
     let js = s.jobs.items in
-    let ks = c.run_round.new.jobs in
+    let ks = c.run_rounds.new.jobs in
     let ms = c.halted.new.jobs in
     let value = c.as_mut_slice.ensures.value in
     let is : c.args.self.now.jobs.len ≡ length c.args.self.now.jobs.items = search rules in
-    let long = c.run_round.ensures.long ∙ ap length value in
-    let one = subst (λ bs. (i : ℕ) (e : _) → i < length c.as_mut_slice.result.now → Shared g.S.Folder.Shelf.Shelf.kept bs i c.as_slice.result.now (get_or c.as_mut_slice.result.now i e) (get_or ks i e)) c.datasets.ensures c.run_round.ensures.shared in
+    let long = c.run_rounds.ensures.long ∙ ap length value in
+    let one = subst (λ bs. (i : ℕ) (e : _) → i < length c.as_mut_slice.result.now → Shared g.S.Folder.Shelf.Shelf.kept bs i c.as_slice.result.now (get_or c.as_mut_slice.result.now i e) (get_or ks i e)) c.datasets.ensures c.run_rounds.ensures.shared in
     let two = subst (λ ps. (i : ℕ) (e : _) → i < length c.as_mut_slice.result.now → Shared g.S.Folder.Shelf.Shelf.kept l.boards i ps (get_or c.as_mut_slice.result.now i e) (get_or ks i e)) c.as_slice.ensures.value one in
     let three = subst (λ xs. (i : ℕ) (e : _) → i < length xs → Shared g.S.Folder.Shelf.Shelf.kept l.boards i s.parcels.items (get_or xs i e) (get_or ks i e)) value two in
     let each = each_by (λ i j k. Shared g.S.Folder.Shelf.Shelf.kept l.boards i s.parcels.items j k) js ks long three in

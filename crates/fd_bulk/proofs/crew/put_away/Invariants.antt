@@ -1,0 +1,5 @@
+use Rattle.std.specs.Prelude.{vec_len}
+use Rattle.fd_bulk.proofs.crew.put_away.Given as goal
+
+abbrev pub decreases-loop-parcel : goal.decreases-loop-parcel
+decreases-loop-parcel l = vec_len l.parcels
