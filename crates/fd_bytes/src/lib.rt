@@ -5,8 +5,6 @@
 mod list;
 mod memory;
 mod numbers;
-#[cfg(test)]
-mod tests;
 
 pub use list::{Bytes, Items};
 pub use memory::NoMemory;

@@ -25,6 +25,3 @@ pub use law::every_run;
 pub use machine::{Answer, NamedFile, Phase, Seen, Step, Took, Writer};
 pub use state::State;
 pub use writers::Writers;
-
-#[cfg(test)]
-mod tests;

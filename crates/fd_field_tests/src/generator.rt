@@ -1,57 +1,62 @@
+//! Messages that are made up.
+use crate::field::{FIELD, SECTION_4, SECTION_7, changed};
 use fd_gen::generated;
 use fd_sections::message;
 use fd_templates::{Ident, Product};
-use std::test::Fail;
+use std::alloc::Global;
 
-/// Message 0.
-const FIRST: [u8; 183] = *b"GRIB\xFF\xFF\x00\x02\x00\x00\x00\x00\x00\x00\x00\xB7\
-\x00\x00\x00\x15\x01\x00\x62\x00\x00\x02\x00\x01\x07\xE8\x01\x01\x00\x00\x00\x00\x01\
-\x00\x00\x00\x48\x03\x00\x00\x00\x00\x04\x00\x00\x00\x00\x06\xFF\xFF\xFF\xFF\xFF\xFF\xFF\xFF\xFF\xFF\
-\xFF\xFF\xFF\xFF\xFF\x00\x00\x00\x02\x00\x00\x00\x02\x00\x00\x00\x00\xFF\xFF\xFF\xFF\x00\x98\x96\x80\x00\x00\x00\x00\
-\x30\x00\x00\x00\x00\x00\x98\x96\x80\x00\x98\x96\x80\x00\x98\x96\x80\x00\
-\x00\x00\x00\x22\x04\x00\x00\x00\x00\x00\x00\x02\x00\x00\x00\x00\x00\x01\x00\x00\x00\x00\
-\x64\x00\x00\x01\x86\xA0\xFF\xFF\xFF\xFF\xFF\xFF\
-\x00\x00\x00\x15\x05\x00\x00\x00\x04\x00\x00\x43\xFA\x00\x00\x80\x01\x00\x01\x08\x00\
-\x00\x00\x00\x06\x06\xFF\
-\x00\x00\x00\x09\x07\x03\x10\x1D\x2A\
-7777";
+/// Tells that the message with this number is these octets.
+fn is_made(alloc: Global, i: u64, octets: &[u8]) -> bool {
+    if i >= 100_000 {
+        return false;
+    }
+    match generated(alloc, i) {
+        Ok(made) => made.as_slice() == octets,
+        Err(_) => false,
+    }
+}
 
 /// Message 0 is as it is written out, and message 13 differs in its step and its values alone.
 #[test]
-fn two_messages(rt: HostRuntime) -> Result<(), Fail> {
-    let first = generated(rt.alloc(), 0)?;
-    assert_eq!(rt; first.as_slice(), FIRST.as_slice());
-    let mut octets = FIRST;
-    octets[130] = 6;
-    octets[175..179].copy_from_slice(b"\x5E\x6B\x78\x85");
-    let next = generated(rt.alloc(), 13)?;
-    assert_eq!(rt; next.as_slice(), octets.as_slice());
-    Ok(())
+fn two_messages(rt: HostRuntime) {
+    let next = changed(&[
+        (SECTION_4 + 21, 6),
+        (SECTION_7 + 5, 0x5E),
+        (SECTION_7 + 6, 0x6B),
+        (SECTION_7 + 7, 0x78),
+        (SECTION_7 + 8, 0x85),
+    ]);
+    assert!(rt; is_made(rt.alloc(), 0, &FIELD) && is_made(rt.alloc(), 13, &next));
 }
 
-/// Dates, parameters, steps and levels of some messages.
-#[test]
-fn numbers_of_messages(rt: HostRuntime) -> Result<(), Fail> {
-    let rows = [
-        (12, (1, 1), (0, 0), 0, 5_000),
-        (779, (1, 2), (0, 0), 54, 5_000),
-        (20_149, (1, 31), (3, 5), 54, 5_000),
-        (20_150, (2, 1), (0, 0), 0, 100_000),
-        (38_350, (2, 29), (0, 0), 0, 100_000),
-        (39_260, (3, 1), (2, 2), 0, 100_000),
-        (99_999, (6, 2), (3, 5), 12, 70_000),
-    ];
-    for (i, date, parameter, hours, level) in rows {
-        assert!(rt; i < 100_000);
-        let octets = generated(rt.alloc(), i)?;
-        let field = message(&octets).ok().ok_or("no message")?;
-        let ident = Ident::read(&field);
-        assert_eq!(rt; ident.year, 2024);
-        assert_eq!(rt; (ident.month, ident.day), date);
-        let product = Product::read(&field).ok().ok_or("no product")?;
-        assert_eq!(rt; (product.category, product.parameter), parameter);
-        assert_eq!(rt; product.forecast_time, hours);
-        assert_eq!(rt; product.first_surface_value, Some(level));
+/// The numbers of messages, and their months, days, parameters, steps and levels.
+const NUMBERS: [(u64, [u8; 4], i32, i32); 7] = [
+    (12, [1, 1, 0, 0], 0, 5_000),
+    (779, [1, 2, 0, 0], 54, 5_000),
+    (20_149, [1, 31, 3, 5], 54, 5_000),
+    (20_150, [2, 1, 0, 0], 0, 100_000),
+    (38_350, [2, 29, 0, 0], 0, 100_000),
+    (39_260, [3, 1, 2, 2], 0, 100_000),
+    (99_999, [6, 2, 3, 5], 12, 70_000),
+];
+
+/// The month, the day and the parameter, the step and the level of the message with this number.
+fn numbers(alloc: Global, i: u64) -> Option<([u8; 4], i32, i32)> {
+    if i >= 100_000 {
+        return None;
     }
-    Ok(())
+    let octets = generated(alloc, i).ok()?;
+    let field = message(&octets).ok()?;
+    let ident = Ident::read(&field);
+    let product = Product::read(&field).ok()?;
+    let day = [ident.month, ident.day, product.category, product.parameter];
+    let level = product.first_surface_value.unwrap_or(0);
+    (ident.year == 2024).then_some((day, product.forecast_time, level))
+}
+
+#[test]
+fn numbers_of_messages(rt: HostRuntime) {
+    for (i, day, hours, level) in NUMBERS {
+        assert!(rt; numbers(rt.alloc(), i) == Some((day, hours, level)), "{i}");
+    }
 }

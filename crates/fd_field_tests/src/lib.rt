@@ -2,6 +2,8 @@
 #![tactic(auto)]
 
 #[cfg(test)]
+mod field;
+#[cfg(test)]
 mod generator;
 #[cfg(test)]
 mod io;
@@ -13,6 +15,8 @@ mod listing;
 mod packing;
 #[cfg(test)]
 mod request;
+#[cfg(test)]
+mod rows;
 #[cfg(test)]
 mod scaled;
 #[cfg(test)]

@@ -1,29 +1,46 @@
+//! Messages, and streams of messages in pieces.
 ghost use Rattle.std.specs.Prelude.{◌<◌};
 
+use crate::field::{FIELD, with};
 use fd_bytes::NoMemory;
 use fd_sections::*;
 use std::alloc::{AllocError, Global};
-use std::process::Abort;
-use std::test::Fail;
-
-/// One message of 183 octets, whose sections begin at 0, 16, 37, 109, 143, 164, 170 and 179.
-const FIELD: [u8; 183] = [
-    0x47, 0x52, 0x49, 0x42, 0xFF, 0xFF, 0, 2, 0, 0, 0, 0, 0, 0, 0, 183, 0, 0, 0, 21, 1, 0, 98, 0,
-    0, 2, 0, 1, 7, 232, 1, 1, 0, 0, 0, 0, 1, 0, 0, 0, 72, 3, 0, 0, 0, 0, 4, 0, 0, 0, 0, 6, 255,
-    255, 255, 255, 255, 255, 255, 255, 255, 255, 255, 255, 255, 255, 255, 0, 0, 0, 2, 0, 0, 0, 2,
-    0, 0, 0, 0, 255, 255, 255, 255, 0, 152, 150, 128, 0, 0, 0, 0, 48, 0, 0, 0, 0, 0, 152, 150, 128,
-    0, 152, 150, 128, 0, 152, 150, 128, 0, 0, 0, 0, 34, 4, 0, 0, 0, 0, 0, 0, 2, 0, 0, 0, 0, 0, 1,
-    0, 0, 0, 0, 100, 0, 0, 1, 134, 160, 255, 255, 255, 255, 255, 255, 0, 0, 0, 21, 5, 0, 0, 0, 4,
-    0, 0, 67, 250, 0, 0, 128, 1, 0, 1, 8, 0, 0, 0, 0, 6, 6, 255, 0, 0, 0, 9, 7, 3, 16, 29, 42, 55,
-    55, 55, 55,
-];
 
 /// How a stream ended: the number of messages, and the skipped octets, the refusal or the cut.
-#[derive(Clone, Copy, Debug, PartialEq, Eq)]
+#[derive(Clone, Copy, PartialEq, Eq)]
 enum Ending {
     Whole(u64, u64),
     Bad(BadAt),
     Cut(Truncated),
+}
+
+/// Gives the messages that are whole: the refusal, if there is one.
+fn give(splitter: &mut Splitter, most: usize) -> Option<BadAt> {
+    for _ in 0..=most {
+        match splitter.next() {
+            Ok(Some(_)) => {}
+            Ok(None) => return None,
+            Err(at) => return Some(at),
+        }
+    }
+    None
+}
+
+/// Feeds the stream in pieces of this many octets: the refusal, if there is one.
+fn feed(splitter: &mut Splitter, stream: &[u8], piece: usize) -> Result<Option<BadAt>, NoMemory>
+    requires { 0 < piece }
+{
+    for part in stream.chunks(piece) {
+        if splitter.fed() > 1_000_000 || part.len() > 1_000_000 {
+            return Err(NoMemory);
+        }
+        splitter.feed(part)?;
+        let bad = give(splitter, part.len());
+        if bad.is_some() {
+            return Ok(bad);
+        }
+    }
+    Ok(None)
 }
 
 /// Splits the stream, fed in pieces of this many octets.
@@ -31,20 +48,10 @@ fn split(alloc: Global, stream: &[u8], piece: usize) -> Result<Ending, NoMemory>
     requires { 0 < piece }
 {
     let mut splitter = Splitter::new(alloc)?;
-    for part in stream.chunks(piece) {
-        if splitter.fed() > 1_000_000 || part.len() > 1_000_000 {
-            return Err(NoMemory);
-        }
-        splitter.feed(part)?;
-        for _ in 0..=part.len() {
-            match splitter.next() {
-                Ok(Some(_)) => {}
-                Ok(None) => break,
-                Err(at) => return Ok(Ending::Bad(at)),
-            }
-        }
+    match feed(&mut splitter, stream, piece)? {
+        Some(at) => Ok(Ending::Bad(at)),
+        None => ended(splitter),
     }
-    ended(splitter)
 }
 
 /// Ends the stream.
@@ -60,6 +67,16 @@ fn ended(mut splitter: Splitter) -> Result<Ending, NoMemory> {
     }
 }
 
+/// Tells that a stream ends like this in whatever pieces it comes.
+fn ends_as(alloc: Global, stream: &[u8], want: Ending) -> bool {
+    for piece in [1, 2, 3, 7, 200, 65_536] {
+        if split(alloc, stream, piece) != Ok(want) {
+            return false;
+        }
+    }
+    true
+}
+
 /// These octets one after the other.
 fn joined(alloc: Global, parts: &[&[u8]]) -> Result<Vec<u8>, AllocError> {
     let mut all = Vec::new(alloc);
@@ -69,173 +86,146 @@ fn joined(alloc: Global, parts: &[&[u8]]) -> Result<Vec<u8>, AllocError> {
     Ok(all)
 }
 
-/// The message with another octet at a place.
-fn patched(alloc: Global, place: usize, octet: u8) -> Result<Vec<u8>, AllocError>
-    requires { place < 183 }
-{
-    let mut field = FIELD;
-    field[place] = octet;
-    Vec::from_slice(alloc, &field)
-}
-
-/// A stream ends like this in whatever pieces it comes.
-fn check(rt: &impl Abort, alloc: Global, stream: &[u8], want: Ending) -> Result<(), Fail> {
-    for piece in [1, 2, 3, 7, 200, 65_536] {
-        let found = split(alloc, stream, piece).or(Err("no memory"))?;
-        assert_eq!(rt; found, want, "in pieces of {piece}");
+/// Tells that a stream of these parts ends like this.
+fn ends_joined(alloc: Global, parts: &[&[u8]], want: Ending) -> bool {
+    match joined(alloc, parts) {
+        Ok(stream) => ends_as(alloc, &stream, want),
+        Err(_) => false,
     }
-    Ok(())
 }
 
-fn bad(number: u64, bad: Bad) -> Ending {
-    Ending::Bad(BadAt { number, bad })
-}
-
-fn cut(number: u64, have: u64, want: u64) -> Ending {
+const fn cut(number: u64, have: u64, want: u64) -> Ending {
     Ending::Cut(Truncated { number, have, want })
 }
 
 #[test]
-fn streams_in_pieces(rt: HostRuntime) -> Result<(), Fail> {
-    let alloc = rt.alloc();
-    let (ten, rest) = FIELD.split_at(10);
-    let (front, _) = rest.split_at(165);
-    check(&rt, alloc, b"", Ending::Whole(0, 0))?;
-    check(&rt, alloc, b"0123456789", Ending::Whole(0, 10))?;
-    check(
-        &rt,
-        alloc,
-        &joined(alloc, &[b"0123456789ab", &FIELD, b"GRI"])?,
-        Ending::Whole(1, 15),
-    )?;
-    check(
-        &rt,
-        alloc,
-        &joined(alloc, &[&FIELD, b"xx", &FIELD])?,
-        Ending::Whole(2, 2),
-    )?;
-    check(
-        &rt,
-        alloc,
-        &joined(alloc, &[b"GRI", &FIELD])?,
-        Ending::Whole(1, 3),
-    )?;
-    check(&rt, alloc, &joined(alloc, &[&FIELD, ten])?, cut(2, 10, 16))?;
-    check(&rt, alloc, &joined(alloc, &[ten, front])?, cut(1, 175, 183))?;
-    Ok(())
-}
-
-#[test]
-fn refused_streams_in_pieces(rt: HostRuntime) -> Result<(), Fail> {
-    let alloc = rt.alloc();
-    check(&rt, alloc, &patched(alloc, 7, 1)?, bad(1, Bad::Edition(1)))?;
-    check(
-        &rt,
-        alloc,
-        &patched(alloc, 12, 8)?,
-        bad(1, Bad::TooLong { len: 134_217_911 }),
-    )?;
-    check(
-        &rt,
-        alloc,
-        &patched(alloc, 15, 182)?,
-        bad(1, Bad::NoEnd { at: 179 }),
-    )?;
-    check(
-        &rt,
-        alloc,
-        &patched(alloc, 15, 5)?,
-        bad(1, Bad::Length { said: 5, found: 16 }),
-    )?;
-    Ok(())
-}
-
-#[test]
-fn one_message(rt: HostRuntime) -> Result<(), Fail> {
-    for (total, found) in [(184, 183), (182, 183)] {
-        let octets = patched(rt.alloc(), 15, total)?;
-        let said = u64::from(total);
-        assert_eq!(rt; message(&octets).err(), Some(Bad::Length { said, found }));
+fn streams_in_pieces(rt: HostRuntime) {
+    let (ten, _) = FIELD.split_at(10);
+    let (front, _) = FIELD.split_at(175);
+    let rows: [(&[&[u8]], Ending); 7] = [
+        (&[], Ending::Whole(0, 0)),
+        (&[b"0123456789"], Ending::Whole(0, 10)),
+        (&[b"0123456789ab", &FIELD, b"GRI"], Ending::Whole(1, 15)),
+        (&[&FIELD, b"xx", &FIELD], Ending::Whole(2, 2)),
+        (&[b"GRI", &FIELD], Ending::Whole(1, 3)),
+        (&[&FIELD, ten], cut(2, 10, 16)),
+        (&[front], cut(1, 175, 183)),
+    ];
+    for (i, (parts, want)) in rows.iter().enumerate() {
+        assert!(rt; ends_joined(rt.alloc(), parts, *want), "row {i}");
     }
-    let Ok(whole) = message(&FIELD) else {
-        return Err("refused")?;
-    };
-    assert_eq!(rt; whole.bytes().len(), 183);
-    let lengths = [16, 21, 0, 72, 34, 21, 6, 9, 4];
+}
+
+#[test]
+fn refused_streams_in_pieces(rt: HostRuntime) {
+    for (place, octet, bad) in [
+        (7, 1, Bad::Edition(1)),
+        (12, 8, Bad::TooLong { len: 134_217_911 }),
+        (15, 182, Bad::NoEnd { at: 179 }),
+        (15, 5, Bad::Length { said: 5, found: 16 }),
+    ] {
+        let want = Ending::Bad(BadAt { number: 1, bad });
+        assert!(rt;
+            ends_as(rt.alloc(), &with(place, &[octet]), want),
+            "{bad:?}"
+        );
+    }
+}
+
+/// Tells that the sections have these lengths, 0 where there is none.
+fn has_lengths(whole: &Message, lengths: [usize; 9]) -> bool {
     for n in 0..9u8 {
         let length = whole.section(n).map_or(0, |section| section.len());
-        assert_eq!(rt; length, lengths[n as usize], "section {n}");
-    }
-    let parts = [
-        whole.indicator(),
-        whole.identification(),
-        whole.grid(),
-        whole.product(),
-    ];
-    let more = [whole.representation(), whole.bit_map(), whole.values()];
-    let sizes = parts.iter().chain(more.iter()).map(|part| part.len());
-    assert!(rt; sizes.eq([16, 21, 72, 34, 21, 6, 9]));
-    every_stream();
-    Ok(())
-}
-
-/// The first octets of the message, with others from a place on.
-fn changed(alloc: Global, keep: usize, place: usize, octets: &[u8]) -> Result<Vec<u8>, AllocError> {
-    let mut field = FIELD;
-    let mut at = place;
-    for octet in octets {
-        if let Some(old) = field.get_mut(at) {
-            *old = *octet;
+        if length != lengths[n as usize] {
+            return false;
         }
-        at = at.saturating_add(1);
     }
-    let (kept, _) = field.split_at(keep.min(183));
-    Vec::from_slice(alloc, kept)
-}
-
-/// The message with its sections 4 to 7 twice.
-fn doubled(alloc: Global) -> Result<Vec<u8>, AllocError> {
-    let (_, sections) = FIELD.split_at(109);
-    let mut octets = changed(alloc, 179, 15, b"\xFD")?;
-    octets.extend_from_slice(sections)?;
-    Ok(octets)
-}
-
-/// A section that is shorter than its least length.
-const fn short(section: u8, len: u64) -> Bad {
-    Bad::Short { section, len }
+    true
 }
 
 #[test]
-fn refused_messages(rt: HostRuntime) -> Result<(), Fail> {
-    let alloc = rt.alloc();
-    let long = Bad::TooLong { len: 134_217_729 };
-    let other = Bad::Section { want: 3, found: 4 };
+fn one_message(rt: HostRuntime) {
+    every_stream();
+    let is_whole = match message(&FIELD) {
+        Ok(whole) => whole.bytes().len() == 183
+            && has_lengths(&whole, [16, 21, 0, 72, 34, 21, 6, 9, 4]),
+        Err(_) => false,
+    };
+    assert!(rt; is_whole);
+}
+
+/// Why so many octets of the message are refused, with others from a place on.
+fn refusal(keep: usize, place: usize, octets: &[u8]) -> Option<Bad> {
+    let field = with(place, octets);
+    let (kept, _) = field.split_at(keep.min(183));
+    message(kept).err()
+}
+
+/// Why the message is refused with its sections 4 to 7 twice.
+fn refusal_of_two_fields(alloc: Global) -> Option<Bad> {
+    let field = with(15, b"\xFD");
+    let (front, _) = field.split_at(179);
+    let (_, sections) = FIELD.split_at(109);
+    let octets = joined(alloc, &[front, sections]).ok()?;
+    message(&octets).err()
+}
+
+#[test]
+fn refused_messages(rt: HostRuntime) {
     let over = Bad::Over {
         section: 7,
         said: 14,
         left: 13,
     };
-    for (keep, place, octets, want) in [
-        (15, 0, b"G".as_slice(), short(0, 15)),
-        (183, 0, b"\0".as_slice(), Bad::NoStart),
-        (183, 7, b"\x01".as_slice(), Bad::Edition(1)),
-        (183, 12, b"\x08\0\0\x01".as_slice(), long),
-        (183, 19, b"\x14".as_slice(), short(1, 20)),
-        (183, 41, b"\x04".as_slice(), other),
-        (183, 173, b"\x0E".as_slice(), over),
-        (183, 173, b"\x08".as_slice(), Bad::NoEnd { at: 178 }),
-        (172, 15, b"\xAC".as_slice(), short(7, 2)),
-        (179, 15, b"\xB3".as_slice(), Bad::NoEnd { at: 179 }),
-    ] {
-        let message_octets = changed(alloc, keep, place, octets)?;
-        assert_eq!(rt;
-            message(&message_octets).err(),
-            Some(want),
-            "{keep} {place}"
-        );
+    let rows: [(usize, usize, &[u8], Bad); 12] = [
+        (
+            15,
+            0,
+            b"G",
+            Bad::Short {
+                section: 0,
+                len: 15,
+            },
+        ),
+        (183, 0, b"\0", Bad::NoStart),
+        (183, 7, b"\x01", Bad::Edition(1)),
+        (183, 12, b"\x08\0\0\x01", Bad::TooLong { len: 134_217_729 }),
+        (
+            183,
+            15,
+            b"\xB8",
+            Bad::Length {
+                said: 184,
+                found: 183,
+            },
+        ),
+        (
+            183,
+            15,
+            b"\xB6",
+            Bad::Length {
+                said: 182,
+                found: 183,
+            },
+        ),
+        (
+            183,
+            19,
+            b"\x14",
+            Bad::Short {
+                section: 1,
+                len: 20,
+            },
+        ),
+        (183, 41, b"\x04", Bad::Section { want: 3, found: 4 }),
+        (183, 173, b"\x0E", over),
+        (183, 173, b"\x08", Bad::NoEnd { at: 178 }),
+        (172, 15, b"\xAC", Bad::Short { section: 7, len: 2 }),
+        (179, 15, b"\xB3", Bad::NoEnd { at: 179 }),
+    ];
+    for (keep, place, octets, want) in rows {
+        assert!(rt; refusal(keep, place, octets) == Some(want), "{want:?}");
     }
-    let several = Bad::MultiField { section: 4 };
-    assert_eq!(rt; message(&doubled(alloc)?).err(), Some(several));
-    Ok(())
+    let two = Bad::MultiField { section: 4 };
+    assert!(rt; refusal_of_two_fields(rt.alloc()) == Some(two));
 }

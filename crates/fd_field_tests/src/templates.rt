@@ -1,27 +1,8 @@
-use fd_bytes::NoMemory;
+//! The numbers of a message's sections.
+use crate::field::{FIELD, SECTION_3, SECTION_4, SECTION_5, changed, with};
 use fd_sections::message;
 use fd_templates::{Ident, LatLon, Product, Simple, TemplateFault};
 use std::alloc::Global;
-use std::test::Fail;
-
-/// A message of one field of four points: its sections, one a line, and their places.
-const FIELD: [u8; 183] = *b"GRIB\xFF\xFF\x00\x02\x00\x00\x00\x00\x00\x00\x00\xB7\
-\x00\x00\x00\x15\x01\x00\x62\x00\x00\x02\x00\x01\x07\xE8\x01\x01\x00\x00\x00\x00\x01\
-\x00\x00\x00\x48\x03\x00\x00\x00\x00\x04\x00\x00\x00\x00\x06\xFF\xFF\xFF\xFF\xFF\xFF\xFF\xFF\xFF\xFF\
-\xFF\xFF\xFF\xFF\xFF\x00\x00\x00\x02\x00\x00\x00\x02\x00\x00\x00\x00\xFF\xFF\xFF\xFF\x00\x98\x96\x80\x00\x00\x00\x00\
-\x30\x00\x00\x00\x00\x00\x98\x96\x80\x00\x98\x96\x80\x00\x98\x96\x80\x00\
-\x00\x00\x00\x22\x04\x00\x00\x00\x00\x00\x00\x02\x00\x00\x00\x00\x00\x01\x00\x00\x00\x00\
-\x64\x00\x00\x01\x86\xA0\xFF\xFF\xFF\xFF\xFF\xFF\
-\x00\x00\x00\x15\x05\x00\x00\x00\x04\x00\x00\x43\xFA\x00\x00\x80\x01\x00\x01\x08\x00\
-\x00\x00\x00\x06\x06\xFF\
-\x00\x00\x00\x09\x07\x03\x10\x1D\x2A\
-7777";
-
-const GRID_AT: usize = 37;
-
-const PRODUCT_AT: usize = 109;
-
-const PACKING_AT: usize = 143;
 
 const IDENT: Ident = Ident {
     centre: 98,
@@ -91,74 +72,101 @@ const SIMPLE: Simple = Simple {
 };
 
 /// The sections from identification to packing.
-fn sections(alloc: Global) -> Result<Vec<u8>, NoMemory> {
+fn sections(alloc: Global) -> Option<Vec<u8>> {
     let mut out = Vec::new(alloc);
-    IDENT.write(&mut out)?;
-    GRID.write(&mut out)?;
-    PRODUCT.write(&mut out)?;
-    SIMPLE.write(&mut out)?;
-    Ok(out)
+    IDENT.write(&mut out).ok()?;
+    GRID.write(&mut out).ok()?;
+    PRODUCT.write(&mut out).ok()?;
+    SIMPLE.write(&mut out).ok()?;
+    Some(out)
+}
+
+/// What the four templates of a message read as.
+type Numbers = (
+    Ident,
+    Result<LatLon, TemplateFault>,
+    Result<Product, TemplateFault>,
+    Result<Simple, TemplateFault>,
+);
+
+fn numbers(octets: &[u8]) -> Option<Numbers> {
+    let field = message(octets).ok()?;
+    Some((
+        Ident::read(&field),
+        LatLon::read(&field),
+        Product::read(&field),
+        Simple::read(&field),
+    ))
 }
 
 /// The field's numbers are read, and its sections are written from them.
 #[test]
-fn numbers_of_a_field(rt: HostRuntime) -> Result<(), Fail> {
-    let field = message(&FIELD).ok().ok_or("no message")?;
-    assert_eq!(rt; Ident::read(&field), IDENT);
-    assert_eq!(rt; LatLon::read(&field), Ok(GRID));
-    assert_eq!(rt; Product::read(&field), Ok(PRODUCT));
-    assert_eq!(rt; Simple::read(&field), Ok(SIMPLE));
-    let written = sections(rt.alloc())?;
-    assert_eq!(rt; written.as_slice(), &FIELD[16..164]);
-    Ok(())
+fn numbers_of_a_field(rt: HostRuntime) {
+    let read = numbers(&FIELD);
+    assert!(rt; read == Some((IDENT, Ok(GRID), Ok(PRODUCT), Ok(SIMPLE))));
+    let is_written = match sections(rt.alloc()) {
+        Some(out) => out.as_slice() == &FIELD[16..164],
+        None => false,
+    };
+    assert!(rt; is_written);
 }
 
-/// Other templates, signs, and numbers that are missing.
+/// Signs, numbers that are missing, and other templates.
 #[test]
-fn changed_octets(rt: HostRuntime) -> Result<(), Fail> {
-    let mut octets = FIELD;
-    octets[PRODUCT_AT + 23] = 0x82;
-    octets[PRODUCT_AT + 24] = 0x80;
-    octets[PRODUCT_AT + 18] = 0x80;
-    octets[PRODUCT_AT + 21] = 6;
-    octets[GRID_AT + 15] = 0x7F;
-    octets[GRID_AT + 46] = 0x80;
-    octets[PACKING_AT + 15] = 0xFF;
-    octets[PACKING_AT + 16] = 0xFF;
-    let field = message(&octets).ok().ok_or("no message")?;
-    let product = Product::read(&field).ok().ok_or("no product")?;
-    assert_eq!(rt; product.first_surface_factor, Some(-2));
-    assert_eq!(rt; product.first_surface_value, Some(-100_000));
-    assert_eq!(rt; product.forecast_time, -6);
-    let grid = LatLon::read(&field).ok().ok_or("no grid")?;
-    assert_eq!(rt; grid.radius_factor, Some(127));
-    assert_eq!(rt; grid.la1, -10_000_000);
-    let simple = Simple::read(&field).ok().ok_or("no packing")?;
-    assert_eq!(rt; simple.binary_scale, -32767);
+fn changed_octets(rt: HostRuntime) {
+    let signs = [
+        (SECTION_4 + 23, 0x82),
+        (SECTION_4 + 24, 0x80),
+        (SECTION_4 + 18, 0x80),
+        (SECTION_4 + 21, 6),
+        (SECTION_3 + 15, 0x7F),
+        (SECTION_3 + 46, 0x80),
+        (SECTION_5 + 15, 0xFF),
+        (SECTION_5 + 16, 0xFF),
+    ];
+    let grid = LatLon {
+        radius_factor: Some(127),
+        la1: -10_000_000,
+        ..GRID
+    };
+    let product = Product {
+        first_surface_factor: Some(-2),
+        first_surface_value: Some(-100_000),
+        forecast_time: -6,
+        ..PRODUCT
+    };
+    let simple = Simple {
+        binary_scale: -32767,
+        ..SIMPLE
+    };
+    let read = numbers(&changed(&signs));
+    assert!(rt; read == Some((IDENT, Ok(grid), Ok(product), Ok(simple))));
+    let others = [
+        (SECTION_3 + 13, 40),
+        (SECTION_4 + 7, 1),
+        (SECTION_5 + 10, 3),
+    ];
+    let other = |number| TemplateFault::Other(number);
+    let read = numbers(&changed(&others));
+    assert!(rt; read == Some((IDENT, Err(other(40)), Err(other(256)), Err(other(3)))));
+}
 
-    octets[GRID_AT + 13] = 40;
-    octets[PRODUCT_AT + 7] = 1;
-    octets[PACKING_AT + 10] = 3;
-    let field = message(&octets).ok().ok_or("no message")?;
-    assert_eq!(rt; LatLon::read(&field), Err(TemplateFault::Other(40)));
-    assert_eq!(rt; Product::read(&field), Err(TemplateFault::Other(256)));
-    assert_eq!(rt; Simple::read(&field), Err(TemplateFault::Other(3)));
-    Ok(())
+/// What the packing of a message reads as whose section 5 has 20 octets.
+fn short_packing(alloc: Global) -> Option<Result<Simple, TemplateFault>> {
+    let field = with(15, &[182]);
+    let (front, rest) = field.split_at(SECTION_5 + 3);
+    let (section, back) = rest.split_at(18);
+    let mut octets = Vec::from_slice(alloc, front).ok()?;
+    octets.push(20).ok()?;
+    octets.extend_from_slice(section.get(1..17)?).ok()?;
+    octets.extend_from_slice(back).ok()?;
+    let message = message(&octets).ok()?;
+    Some(Simple::read(&message))
 }
 
 /// A section of 20 octets is too short for simple packing.
 #[test]
-fn short_section(rt: HostRuntime) -> Result<(), Fail> {
-    let mut octets = Vec::from_slice(rt.alloc(), &FIELD[..15])?;
-    octets.push(182)?;
-    octets.extend_from_slice(&FIELD[16..146])?;
-    octets.push(20)?;
-    octets.extend_from_slice(&FIELD[147..163])?;
-    octets.extend_from_slice(&FIELD[164..])?;
-    let field = message(&octets).ok().ok_or("no message")?;
-    assert_eq!(rt;
-        Simple::read(&field),
-        Err(TemplateFault::BadLength { said: 20 })
-    );
-    Ok(())
+fn short_section(rt: HostRuntime) {
+    let fault = TemplateFault::BadLength { said: 20 };
+    assert!(rt; short_packing(rt.alloc()) == Some(Err(fault)));
 }

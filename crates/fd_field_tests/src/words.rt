@@ -1,147 +1,137 @@
-// The words of the command line, read.
+//! The words of the command line, read.
+use crate::rows::agreed;
 use fd_words::{Command, read_command};
 use std::alloc::Global;
-use std::process::Abort;
-use std::test::Fail;
 
-/// What the words ask for, as a text: a command's name and its root, and how many pairs it has.
-fn said<'a>(alloc: Global, words: &'a [&'a str]) -> Result<String, Fail> {
-    match read_command(alloc, words)? {
-        None => Ok(String::from_str(alloc, "none")?),
-        Some(Command::Pick(_)) => Ok(String::from_str(alloc, "pick")?),
-        Some(Command::Describe) => Ok(String::from_str(alloc, "describe")?),
-        Some(Command::Values(None)) => Ok(String::from_str(alloc, "values")?),
-        Some(Command::Values(Some(decimals))) => Ok(format!(in alloc; "values {decimals}")?),
-        Some(Command::Generate(count)) => Ok(format!(in alloc; "generate {count}")?),
-        Some(Command::Create(root)) => rooted(alloc, "create", root.as_str()),
-        Some(Command::Archive(root, given, workers)) => {
-            let count = given.len();
-            let root = root.as_str();
-            Ok(format!(in alloc; "archive {root} {count} {workers}")?)
+/// A command's name, its root, how many decimals, messages or pairs it has (of `pick`: of levels), and how many workers.
+type Told<'a> = (&'static str, &'a str, u32, u32);
+
+/// What a command asks for.
+fn told(command: &Command) -> Told<'_> {
+    match command {
+        Command::Pick(wanted) => ("pick", "", u32::from(wanted.has("levelist")), 0),
+        Command::Describe => ("describe", "", 0, 0),
+        Command::Values(decimals) => ("values", "", decimals.map_or(99, u32::from), 0),
+        Command::Generate(count) => ("generate", "", *count, 0),
+        Command::Create(root) => ("create", root.as_str(), 0, 0),
+        Command::Archive(root, given, workers) => {
+            ("archive", root.as_str(), given.len(), *workers)
         }
-        Some(Command::Retrieve(root, workers)) => {
-            let root = root.as_str();
-            Ok(format!(in alloc; "retrieve {root} {workers}")?)
-        }
-        Some(Command::List(root)) => rooted(alloc, "list", root.as_str()),
-        Some(Command::Axes(root)) => rooted(alloc, "axes", root.as_str()),
-        Some(Command::Stats(root)) => rooted(alloc, "stats", root.as_str()),
-        Some(Command::Session(root)) => rooted(alloc, "session", root.as_str()),
-        Some(Command::Trial(root, count, workers)) => {
-            let root = root.as_str();
-            Ok(format!(in alloc; "trial {root} {count} {workers}")?)
-        }
+        Command::Retrieve(root, workers) => ("retrieve", root.as_str(), 0, *workers),
+        Command::List(root) => ("list", root.as_str(), 0, 0),
+        Command::Axes(root) => ("axes", root.as_str(), 0, 0),
+        Command::Stats(root) => ("stats", root.as_str(), 0, 0),
+        Command::Session(root) => ("session", root.as_str(), 0, 0),
+        Command::Trial(root, count, workers) => ("trial", root.as_str(), *count, *workers),
     }
 }
 
-fn rooted(alloc: Global, name: &str, root: &str) -> Result<String, Fail> {
-    Ok(format!(in alloc; "{name} {root}")?)
+/// The words of a row, with commas between them.
+fn words(alloc: Global, row: &str) -> Option<Vec<&str>> {
+    let mut words = Vec::new(alloc);
+    let mut rest = row;
+    for _ in 0..10 {
+        let Some((word, more)) = rest.split_once(',') else {
+            break;
+        };
+        words.push(word).ok()?;
+        rest = more;
+    }
+    words.push(rest).ok()?;
+    Some(words)
 }
 
-fn check<'a>(rt: &impl Abort, alloc: Global, words: &'a [&'a str], want: &str) -> Result<(), Fail> {
-    let found = said(alloc, words)?;
-    assert_eq!(rt; found.as_str(), want);
-    Ok(())
+/// Tells that the command is told so.
+fn is_told(alloc: Global, command: &Command, want: &str) -> bool {
+    let (name, root, count, workers) = told(command);
+    match format!(in alloc; "{name},{root},{count},{workers}") {
+        Ok(told) => told.as_str() == want,
+        Err(_) => false,
+    }
+}
+
+/// Tells that the words ask for this, or for nothing.
+fn asks_for(alloc: Global, words: &[&str], want: &str) -> bool {
+    match read_command(alloc, words) {
+        Ok(Some(command)) => is_told(alloc, &command, want),
+        Ok(None) => want.is_empty(),
+        Err(_) => false,
+    }
+}
+
+/// The same of a row of a table.
+fn is_row(alloc: Global, row: &str, want: &str) -> bool {
+    match words(alloc, row) {
+        Some(words) => asks_for(alloc, &words, want),
+        None => false,
+    }
+}
+
+/// Words that ask for a command, and what it is told as.
+const READ: &str = "\
+pick,step=0,LEVELIST=850.0|pick,,1,0\n\
+describe|describe,,0,0\n\
+values|values,,99,0\n\
+values,--decimals=01|values,,1,0\n\
+values,--decimals,30|values,,30,0\n\
+generate,000100000|generate,,100000,0\n\
+create,s|create,s,0,0\n\
+archive,s|archive,s,0,1\n\
+archive,--with=class=od,--workers=8,s|archive,s,1,8\n\
+retrieve,a b|retrieve,a b,0,1\n\
+retrieve,s,--workers,8|retrieve,s,0,8\n\
+retrieve,--workers=04,s|retrieve,s,0,4\n\
+list,s|list,s,0,0\n\
+axes,s|axes,s,0,0\n\
+stats,s|stats,s,0,0\n\
+session,s|session,s,0,0\n\
+trial,s,--workers,4,400|trial,s,400,4\n\
+trial,s,1|trial,s,1,1\n";
+
+/// Words that have no form.
+const REFUSED: &str = "\
+help|\n\
+--version|\n\
+Stats,s|\n\
+pick|\n\
+pick,--,step=0|\n\
+pick,step=0,STEP=0|\n\
+describe,s|\n\
+values,1|\n\
+values,--decimals,31|\n\
+values,--decimals=1,--decimals=1|\n\
+generate,0|\n\
+generate,100001|\n\
+generate,1,2|\n\
+list,s,t|\n\
+axes,--with=class=od,s|\n\
+create|\n\
+create,|\n\
+create,-|\n\
+create,s,t|\n\
+archive,s,--with,step=0|\n\
+archive,s,--with|\n\
+archive,s,--workers,9|\n\
+trial,s|\n\
+trial,400,s|\n\
+trial,s,0|\n\
+trial,s,100001|\n\
+trial,-s,1|\n\
+trial,s,1,2|\n\
+trial,s,1,--workers=0|\n\
+retrieve,s,--workers,0|\n\
+retrieve,s,--workers=9|\n\
+retrieve,s,--workers|\n\
+stats,--help|\n\
+stats,s,--|\n";
+
+#[test]
+fn reads_words(rt: HostRuntime) {
+    assert_eq!(rt; agreed(rt.alloc(), READ, is_row), 18);
 }
 
 #[test]
-fn reads_words(rt: HostRuntime) -> Result<(), Fail> {
-    let alloc = rt.alloc();
-    check(&rt, alloc, &["pick", "step=0", "LEVELIST=850.0"], "pick")?;
-    check(&rt, alloc, &["describe"], "describe")?;
-    check(&rt, alloc, &["values"], "values")?;
-    check(&rt, alloc, &["values", "--decimals=01"], "values 1")?;
-    check(&rt, alloc, &["values", "--decimals", "30"], "values 30")?;
-    check(&rt, alloc, &["generate", "000100000"], "generate 100000")?;
-    Ok(())
-}
-
-#[test]
-fn reads_words_of_a_store(rt: HostRuntime) -> Result<(), Fail> {
-    let alloc = rt.alloc();
-    check(&rt, alloc, &["create", "s"], "create s")?;
-    check(&rt, alloc, &["archive", "s"], "archive s 0 1")?;
-    check(
-        &rt,
-        alloc,
-        &["archive", "--with=class=od", "--workers=8", "s"],
-        "archive s 1 8",
-    )?;
-    check(&rt, alloc, &["retrieve", "a b"], "retrieve a b 1")?;
-    check(
-        &rt,
-        alloc,
-        &["retrieve", "s", "--workers", "8"],
-        "retrieve s 8",
-    )?;
-    check(
-        &rt,
-        alloc,
-        &["retrieve", "--workers=04", "s"],
-        "retrieve s 4",
-    )?;
-    check(&rt, alloc, &["list", "s"], "list s")?;
-    check(&rt, alloc, &["axes", "s"], "axes s")?;
-    check(&rt, alloc, &["stats", "s"], "stats s")?;
-    check(&rt, alloc, &["session", "s"], "session s")?;
-    check(
-        &rt,
-        alloc,
-        &["trial", "s", "--workers", "4", "400"],
-        "trial s 400 4",
-    )?;
-    check(&rt, alloc, &["trial", "s", "1"], "trial s 1 1")?;
-    Ok(())
-}
-
-#[test]
-fn refuses_words(rt: HostRuntime) -> Result<(), Fail> {
-    let alloc = rt.alloc();
-    check(&rt, alloc, &[], "none")?;
-    check(&rt, alloc, &["help"], "none")?;
-    check(&rt, alloc, &["--version"], "none")?;
-    check(&rt, alloc, &["Stats", "s"], "none")?;
-    check(&rt, alloc, &["pick"], "none")?;
-    check(&rt, alloc, &["pick", "--", "step=0"], "none")?;
-    check(&rt, alloc, &["pick", "step=0", "STEP=0"], "none")?;
-    check(&rt, alloc, &["describe", "s"], "none")?;
-    check(&rt, alloc, &["values", "1"], "none")?;
-    check(&rt, alloc, &["values", "--decimals", "31"], "none")?;
-    check(&rt, alloc, &["generate", "0"], "none")?;
-    check(&rt, alloc, &["generate", "100001"], "none")?;
-    check(&rt, alloc, &["generate", "1", "2"], "none")?;
-    check(
-        &rt,
-        alloc,
-        &["values", "--decimals=1", "--decimals=1"],
-        "none",
-    )?;
-    Ok(())
-}
-
-#[test]
-fn refuses_words_of_a_store(rt: HostRuntime) -> Result<(), Fail> {
-    let alloc = rt.alloc();
-    check(&rt, alloc, &["list", "s", "t"], "none")?;
-    check(&rt, alloc, &["axes", "--with=class=od", "s"], "none")?;
-    check(&rt, alloc, &["create"], "none")?;
-    check(&rt, alloc, &["create", ""], "none")?;
-    check(&rt, alloc, &["create", "-"], "none")?;
-    check(&rt, alloc, &["create", "s", "t"], "none")?;
-    check(&rt, alloc, &["archive", "s", "--with", "step=0"], "none")?;
-    check(&rt, alloc, &["archive", "s", "--with"], "none")?;
-    check(&rt, alloc, &["archive", "s", "--workers", "9"], "none")?;
-    check(&rt, alloc, &["trial", "s"], "none")?;
-    check(&rt, alloc, &["trial", "400", "s"], "none")?;
-    check(&rt, alloc, &["trial", "s", "0"], "none")?;
-    check(&rt, alloc, &["trial", "s", "100001"], "none")?;
-    check(&rt, alloc, &["trial", "-s", "1"], "none")?;
-    check(&rt, alloc, &["trial", "s", "1", "2"], "none")?;
-    check(&rt, alloc, &["trial", "s", "1", "--workers=0"], "none")?;
-    check(&rt, alloc, &["retrieve", "s", "--workers", "0"], "none")?;
-    check(&rt, alloc, &["retrieve", "s", "--workers=9"], "none")?;
-    check(&rt, alloc, &["retrieve", "s", "--workers"], "none")?;
-    check(&rt, alloc, &["stats", "--help"], "none")?;
-    check(&rt, alloc, &["stats", "s", "--"], "none")?;
-    Ok(())
+fn refuses_words(rt: HostRuntime) {
+    assert_eq!(rt; agreed(rt.alloc(), REFUSED, is_row), 34);
+    assert!(rt; asks_for(rt.alloc(), &[], ""));
 }

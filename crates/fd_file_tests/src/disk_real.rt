@@ -1,11 +1,16 @@
 //! A dataset on the real disk, in the folder where the test runs.
+ghost use Rattle.std.specs.Prelude.{◌≡◌, ◌≤◌, ◌<◌, ◌+◌, ◌^◌, length, true, false, None, IfSome};
+ghost use Rattle.fd_disk.specs.declared.folders.FileKind.TheVariants.{Fields, Index};
+ghost use Rattle.fd_disk.specs.Names.{name_of};
+
 use fd_disk::{Disk, FileKind, FileName, Folder, Reader, Sealed, Shelf, Store};
 use fd_disk_real::*;
-use std::alloc::{AllocError, Global};
+use std::alloc::Global;
 use std::fs;
-use std::test::Fail;
 
 const ROOT: &str = "root/below";
+
+const SCHEMA: &[u8] = b"[a[b[c]]]";
 
 const DATASET: &str = "class=od";
 
@@ -15,145 +20,294 @@ const FIELDS: FileName = FileName {
     kind: FileKind::Fields,
 };
 
-#[test]
-fn holds_a_schema(rt: HostRuntime) -> Result<(), Fail> {
-    let mut store = RealStore::new(rt.alloc(), rt)?;
-    assert!(rt; store.enter(rt.alloc(), "").is_err());
-    assert!(rt; store.enter(rt.alloc(), ROOT).is_ok());
-    assert!(rt; matches!(store.schema(rt.alloc()), Ok(None)));
-    assert!(rt; matches!(store.names(rt.alloc()), Ok(names) if names.is_empty()));
-    assert!(rt; store.plant(rt.alloc(), b"[a[b[c]]]").is_ok());
-    let Ok(Some(text)) = store.schema(rt.alloc()) else {
-        panic!(rt; "no schema")
+/// Tells that nothing stands in the store.
+fn is_empty<R: Host + Send + Sync>(alloc: Global, store: &mut RealStore<R>) -> bool {
+    let has_names = match store.names(alloc) {
+        Ok(names) => !names.is_empty(),
+        Err(_) => true,
     };
-    assert_eq!(rt; text.as_slice(), b"[a[b[c]]]".as_slice());
-    assert!(rt; !fs::exists(&rt, "root/below/schema.new")?);
-    assert!(rt; store.folder(rt.alloc(), "..").is_err());
-    assert!(rt; store.folder(rt.alloc(), "a/b").is_err());
-    Ok(())
+    matches!(store.schema(alloc), Ok(None)) && !has_names
+}
+
+/// Tells that the store takes a schema, and gives it back.
+fn takes_schema<R: Host + Send + Sync>(alloc: Global, store: &mut RealStore<R>) -> bool {
+    if store.plant(alloc, SCHEMA).is_err() {
+        return false;
+    }
+    match store.schema(alloc) {
+        Ok(Some(text)) => text.as_slice() == SCHEMA,
+        _ => false,
+    }
+}
+
+/// Tells that a store in a root of its own is empty, keeps a schema, and has no folder outside.
+fn keeps_schema<R: Host + Send + Sync>(alloc: Global, host: R) -> bool {
+    let Ok(mut store) = RealStore::new(alloc, host) else {
+        return false;
+    };
+    store.enter(alloc, "").is_err()
+        && store.enter(alloc, ROOT).is_ok()
+        && is_empty(alloc, &mut store)
+        && takes_schema(alloc, &mut store)
+        && store.folder(alloc, "..").is_err()
+        && store.folder(alloc, "a/b").is_err()
 }
 
 #[test]
-fn keeps_a_table(rt: HostRuntime) -> Result<(), Fail> {
-    let mut store = RealStore::new(rt.alloc(), rt)?;
-    let Ok(mut folder) = store.folder(rt.alloc(), DATASET) else {
-        panic!(rt; "no folder")
+fn holds_a_schema(rt: HostRuntime) {
+    assert!(rt; keeps_schema(rt.alloc(), rt));
+    assert!(rt; matches!(fs::exists(&rt, "root/below/schema.new"), Ok(false)));
+}
+
+/// Writes behind the end of a table and into it, each with a sync.
+fn write_table<F: Send + Drop, T: Disk<F>>(table: &mut T) -> bool
+where
+    ensures name { T.name table.new ≡ T.name table.old }
+{
+    table.write_at(5, b"!!").is_ok()
+        && table.sync().is_ok()
+        && table.write_at(1, b"A").is_ok()
+        && table.sync().is_ok()
+}
+
+/// Tells that a folder without a table founds one, which is written.
+fn keeps_table<F: Send + Drop, D: Folder<F>>(alloc: Global, folder: &mut D) -> bool
+where
+    requires untold { D.has folder.old ≡ None }
+    requires back { D.table_out folder.old ≡ false }
+    requires short { length (D.name folder.old) ≤ 255 }
+{
+    let Ok(None) = folder.table(alloc) else {
+        return false;
     };
-    assert!(rt; matches!(folder.table(rt.alloc()), Ok(None)));
-    assert!(rt; folder.found(rt.alloc(), b"table").is_ok());
-    let Ok(Some(mut table)) = folder.table(rt.alloc()) else {
-        panic!(rt; "no table")
+    if folder.found(alloc, b"table").is_err() {
+        return false;
+    }
+    let Ok(Some(mut table)) = folder.table(alloc) else {
+        return false;
     };
-    assert!(rt; table.write_at(5, b"!!").is_ok());
-    assert!(rt; table.sync().is_ok());
-    assert!(rt; table.write_at(1, b"A").is_ok());
-    assert!(rt; table.sync().is_ok());
+    let is_written = write_table(&mut table);
     folder.give_table(table);
-    assert_eq!(rt;
-        fs::read(&rt, "class=od/toc")?.as_slice(),
-        b"tAble!!".as_slice()
-    );
-    store.give_folder(folder);
-    let Ok(names) = store.names(rt.alloc()) else {
-        panic!(rt; "no names")
-    };
-    assert!(rt; names.iter().any(|name| name.as_str() == DATASET));
-    Ok(())
+    is_written
+}
+
+/// Tells that the store has the dataset.
+fn has_dataset<R: Host + Send + Sync>(alloc: Global, store: &mut RealStore<R>) -> bool {
+    match store.names(alloc) {
+        Ok(names) => names.iter().any(|name| name.as_str() == DATASET),
+        Err(_) => false,
+    }
+}
+
+/// A folder of the store.
+fn folder<R: Host + Send + Sync>(alloc: Global, host: R, name: &str) -> Option<RealFolder<R>>
+    ensures writer { IfSome result (λ d. ⟦<RealFolder<R> as Folder<RealFault>>⟧.last_writer d ≡ 0) }
+    ensures back { IfSome result (λ d. ⟦<RealFolder<R> as Folder<RealFault>>⟧.table_out d ≡ false) }
+    ensures name { IfSome result (λ d. ⟦<RealFolder<R> as Folder<RealFault>>⟧.name d ≡ name.now) }
+{
+    let mut store = RealStore::new(alloc, host).ok()?;
+    store.folder(alloc, name).ok()
+}
+
+/// Tells that a dataset of the store keeps a table.
+fn dataset_keeps_table(rt: HostRuntime) -> bool {
+    match folder(rt.alloc(), rt, DATASET) {
+        Some(mut folder) => keeps_table(rt.alloc(), &mut folder),
+        None => false,
+    }
+}
+
+/// Tells that a store names the dataset.
+fn names_dataset<R: Host + Send + Sync>(alloc: Global, host: R) -> bool {
+    match RealStore::new(alloc, host) {
+        Ok(mut store) => has_dataset(alloc, &mut store),
+        Err(_) => false,
+    }
 }
 
 #[test]
-fn keeps_sealed_files(rt: HostRuntime) -> Result<(), Fail> {
-    let mut store = RealStore::new(rt.alloc(), rt)?;
-    let Ok(mut folder) = store.folder(rt.alloc(), "class=xd") else {
-        panic!(rt; "no folder")
+fn keeps_a_table(rt: HostRuntime) {
+    assert!(rt; dataset_keeps_table(rt) && names_dataset(rt.alloc(), rt));
+    let is_written = match fs::read(&rt, "class=od/toc") {
+        Ok(bytes) => bytes.as_slice() == b"tAble!!".as_slice(),
+        Err(_) => false,
     };
-    let Ok(mut shelf) = folder.shelf(rt.alloc(), 7) else {
-        panic!(rt; "no shelf")
+    assert!(rt; is_written);
+}
+
+/// The file of the fields of batch 1, or that of its index.
+fn create<F: Send + Drop, H: Shelf<F>>(
+    alloc: Global,
+    shelf: &mut H,
+    kind: FileKind,
+) -> Option<H::File>
+where
+    requires created { H.created shelf.old (name_of (H.writer shelf.old) 1 kind) ≡ false }
+    ensures name { H.name shelf.new ≡ H.name shelf.old }
+    ensures writer { H.writer shelf.new ≡ H.writer shelf.old }
+{
+    shelf.create(alloc, 1, kind).ok()
+}
+
+/// Writes the bytes into a file, and seals it.
+fn sealed<F: Send + Drop, T: Disk<F>>(mut file: T, bytes: &[u8]) -> Option<T::Sealed>
+where
+    requires sum { length bytes.now < 2 ^ 63 }
+{
+    let Ok(()) = file.write_at(0, bytes) else {
+        return None;
     };
-    let (Ok(mut fields), Ok(index)) = (
-        shelf.create(rt.alloc(), 1, FileKind::Fields),
-        shelf.create(rt.alloc(), 1, FileKind::Index),
-    ) else {
-        panic!(rt; "no files")
+    let Ok(()) = file.sync() else {
+        return None;
     };
-    drop(index);
-    assert!(rt; fields.write_at(0, b"GRIB").is_ok());
-    assert!(rt; fields.sync().is_ok());
-    assert_eq!(rt; fields.seal().len(), 4);
+    Some(file.seal())
+}
+
+/// Writes the fields of a batch: their length.
+fn written<F: Send + Drop, H: Shelf<F>>(alloc: Global, shelf: &mut H) -> Option<u64>
+where
+    requires created { H.created shelf.old (name_of (H.writer shelf.old) 1 Fields) ≡ false }
+    ensures name { H.name shelf.new ≡ H.name shelf.old }
+{
+    let file = create(alloc, shelf, FileKind::Fields)?;
+    let sealed = sealed(file, b"GRIB")?;
+    Some(sealed.len())
+}
+
+/// Writes the fields of a batch, and puts their shelf back: their length.
+fn write_batch<F: Send + Drop, D: Folder<F>>(alloc: Global, folder: &mut D) -> Option<u64>
+where
+    requires writer { D.last_writer folder.old ≡ 0 }
+{
+    let mut shelf = folder.shelf(alloc, 7).ok()?;
+    let len = written(alloc, &mut shelf);
     folder.give_shelf(shelf);
-    let Ok(Some(sealed)) = folder.sealed(rt.alloc(), FIELDS) else {
-        panic!(rt; "no sealed file")
+    len
+}
+
+/// What reads the fields of that batch.
+fn reader_of<F: Send + Drop, D: Folder<F>>(
+    alloc: Global,
+    folder: &mut D,
+) -> Option<<D::Sealed as Sealed<F>>::Reader> {
+    let Ok(Some(sealed)) = folder.sealed(alloc, FIELDS) else {
+        return None;
     };
-    let Ok(mut reader) = sealed.reader(rt.alloc()) else {
+    sealed.reader(alloc).ok()
+}
+
+/// What reads the fields of a batch of a dataset.
+fn batch_reader(rt: HostRuntime) -> Option<RealReader<HostRuntime>> {
+    let mut folder = folder(rt.alloc(), rt, "class=xd")?;
+    if write_batch(rt.alloc(), &mut folder) != Some(4) {
+        return None;
+    }
+    reader_of(rt.alloc(), &mut folder)
+}
+
+/// Reads behind the first octet.
+fn read<F: Send + Drop, R: Reader<F>>(reader: &mut R) -> Option<(usize, [u8; 8])> {
+    let mut bytes = [0u8; 8];
+    let n = reader.read_at(1, &mut bytes).ok()?;
+    Some((n, bytes))
+}
+
+#[test]
+fn keeps_sealed_files(rt: HostRuntime) {
+    let Some(mut reader) = batch_reader(rt) else {
         panic!(rt; "no reader")
     };
-    let mut bytes = [0u8; 8];
-    assert!(rt; matches!(reader.read_at(1, &mut bytes), Ok(3)));
-    assert_eq!(rt; bytes, *b"RIB\0\0\0\0\0");
-    fs::write(&rt, "class=xd/7-1.fields", b"G".as_slice())?;
-    assert!(rt; reader.read_at(1, &mut bytes).is_err());
-    store.give_folder(folder);
-    Ok(())
-}
-
-/// The byte of a field at a place.
-fn byte_at(place: usize) -> u8 {
-    (place % 251) as u8
+    let before = read(&mut reader);
+    let is_cut = fs::write(&rt, "class=xd/7-1.fields", b"G".as_slice()).is_ok();
+    let after = read(&mut reader);
+    let is_right = before == Some((3, *b"RIB\0\0\0\0\0")) && is_cut && after.is_none();
+    assert!(rt; is_right);
 }
 
 /// The bytes of a field of 200,000 octets.
-fn many_bytes(alloc: Global) -> Result<Vec<u8>, AllocError> {
+fn many_bytes(alloc: Global) -> Option<Vec<u8>> {
     let mut all = Vec::new(alloc);
     for place in 0..200_000usize {
-        all.push(byte_at(place))?;
+        all.push((place % 251) as u8).ok()?;
     }
-    Ok(all)
+    Some(all)
 }
 
-#[test]
-fn gathers_writes_and_reads_ahead(rt: HostRuntime) -> Result<(), Fail> {
-    let mut store = RealStore::new(rt.alloc(), rt)?;
-    let Ok(mut folder) = store.folder(rt.alloc(), "class=rd") else {
-        panic!(rt; "no folder")
-    };
-    let Ok(mut shelf) = folder.shelf(rt.alloc(), 7) else {
-        panic!(rt; "no shelf")
-    };
-    let Ok(mut fields) = shelf.create(rt.alloc(), 1, FileKind::Fields) else {
-        panic!(rt; "no file")
-    };
-    let all = many_bytes(rt.alloc())?;
-    let mut at = 0usize;
+/// Writes the front of these bytes in a thousand pieces, other bytes before each: how many were written.
+fn write_pieces<F: Send + Drop, T: Disk<F>>(file: &mut T, all: &[u8]) -> Option<u64> {
+    let mut rest = all;
+    let mut at = 0u64;
     for turn in 0..1000usize {
         let n = if turn % 90 == 89 {
             10_000
         } else {
             1 + turn % 97
         };
-        assert!(rt; at <= 190_000 && at <= all.len());
-        assert!(rt; n <= 10_000 && n <= all.len() - at);
-        assert!(rt; fields.write_at(at as u64, b"wrong").is_ok());
-        assert!(rt; fields.write_at(at as u64, &all[at..at + n]).is_ok());
-        at += n;
+        let (piece, more) = rest.split_at_checked(n)?;
+        if at > 1_000_000 || piece.len() > 10_000 {
+            return None;
+        }
+        if file.write_at(at, b"wrong").is_err() || file.write_at(at, piece).is_err() {
+            return None;
+        }
+        at += piece.len() as u64;
+        rest = more;
     }
+    Some(at)
+}
+
+/// Tells that the front of the bytes is read, and that an end is written and made firm.
+fn ends<F: Send + Drop, T: Disk<F>>(file: &mut T, at: u64) -> bool
+where
+    requires sum { at + 3 < 2 ^ 63 }
+{
     let mut front = [0u8; 8];
-    assert!(rt; matches!(fields.read_at(1, &mut front), Ok(8)));
-    assert_eq!(rt; front, [1, 2, 3, 4, 5, 6, 7, 8]);
-    assert!(rt; at <= 200_000);
-    assert!(rt; fields.write_at(at as u64, b"end").is_ok());
-    assert!(rt; fields.sync().is_ok());
-    let bytes = fs::read(&rt, "class=rd/7-1.fields")?;
-    assert_eq!(rt; bytes.len(), at + 3);
-    assert!(rt; at <= all.len() && at <= bytes.len());
-    assert_eq!(rt; &bytes[..at], &all[..at]);
-    let sealed = fields.seal();
-    let Ok(mut reader) = sealed.reader(rt.alloc()) else {
-        panic!(rt; "no reader")
-    };
-    for start in [0usize, 1, 70_000, 3] {
-        assert!(rt; reads_as(&mut reader, start, &bytes));
+    let is_read = matches!(file.read_at(1, &mut front), Ok(8)) && front == [1, 2, 3, 4, 5, 6, 7, 8];
+    is_read && file.write_at(at, b"end").is_ok()
+}
+
+/// Writes the bytes in pieces and an end: what reads the sealed file, and how many of the bytes there are.
+fn gathered<F: Send + Drop, T: Disk<F>>(
+    alloc: Global,
+    mut file: T,
+    all: &[u8],
+) -> Option<(u64, <T::Sealed as Sealed<F>>::Reader)> {
+    let at = write_pieces(&mut file, all)?;
+    if at > 1_000_000 || !ends(&mut file, at) {
+        return None;
     }
-    Ok(())
+    let Ok(()) = file.sync() else {
+        return None;
+    };
+    let reader = file.seal().reader(alloc).ok()?;
+    Some((at, reader))
+}
+
+/// A file of the fields of a batch.
+fn file_in<F: Send + Drop, D: Folder<F>>(
+    alloc: Global,
+    folder: &mut D,
+) -> Option<<D::Shelf as Shelf<F>>::File>
+where
+    requires writer { D.last_writer folder.old ≡ 0 }
+{
+    let mut shelf = folder.shelf(alloc, 7).ok()?;
+    create(alloc, &mut shelf, FileKind::Fields)
+}
+
+/// The same of a file of a dataset.
+fn gathered_in_dataset(rt: HostRuntime, all: &[u8]) -> Option<(u64, RealReader<HostRuntime>)> {
+    let mut folder = folder(rt.alloc(), rt, "class=rd")?;
+    let file = file_in(rt.alloc(), &mut folder)?;
+    gathered(rt.alloc(), file, all)
+}
+
+/// Tells that the file has the first so many of these bytes, and the end.
+fn is_whole(file: &[u8], all: &[u8], at: u64) -> bool {
+    match file.split_last_chunk::<3>() {
+        Some((front, end)) => front.len() as u64 == at && all.starts_with(front) && end == b"end",
+        None => false,
+    }
 }
 
 /// Tells that twenty pieces from a place on are read as these bytes.
@@ -179,4 +333,34 @@ fn reads_as<F: Send + Drop, R: Reader<F>>(reader: &mut R, start: usize, bytes: &
         place = place.saturating_add(n as u64);
     }
     true
+}
+
+/// Tells that these bytes are read from several places on.
+fn reads_ahead<F: Send + Drop, R: Reader<F>>(reader: &mut R, bytes: &[u8]) -> bool {
+    for start in [0, 1, 70_000, 3] {
+        if !reads_as(reader, start, bytes) {
+            return false;
+        }
+    }
+    true
+}
+
+/// Tells that a file of a dataset is read as its bytes were written, and stands so under its path.
+fn is_read_ahead(rt: HostRuntime, all: &[u8]) -> bool {
+    let Some((at, mut reader)) = gathered_in_dataset(rt, all) else {
+        return false;
+    };
+    match fs::read(&rt, "class=rd/7-1.fields") {
+        Ok(bytes) => is_whole(&bytes, all, at) && reads_ahead(&mut reader, &bytes),
+        Err(_) => false,
+    }
+}
+
+#[test]
+fn gathers_writes_and_reads_ahead(rt: HostRuntime) {
+    let is_right = match many_bytes(rt.alloc()) {
+        Some(all) => is_read_ahead(rt, &all),
+        None => false,
+    };
+    assert!(rt; is_right);
 }

@@ -2,10 +2,10 @@
 #![tactic(auto)]
 
 #[cfg(test)]
-mod disk_mem;
-#[cfg(test)]
 mod disk_real;
 #[cfg(test)]
 mod index;
+#[cfg(test)]
+mod machine;
 #[cfg(test)]
 mod segment;

@@ -6,12 +6,11 @@ ghost use Rattle.fd_segment.specs.Filling.{IsOf};
 ghost use Rattle.fd_disk.specs.Names.{name_of};
 
 use fd_disk::{Disk, FileKind, FileName, Folder, Reader, Sealed, Shelf, Store};
-use fd_disk_mem::{MemFolder, MemStore, Op};
+use fd_disk_mem::{MemFault, MemFolder, MemShelf, MemStore, Op};
 use fd_entries::Entry;
 use fd_io::{MemSink, Sink};
 use fd_segment::*;
 use std::alloc::Global;
-use std::test::Fail;
 
 const FIRST: &[u8] = &[1; 183];
 
@@ -29,13 +28,48 @@ enum Went {
 
 use Went::{Again, AtOnce, Never};
 
-/// The worse of the two.
-fn worse(a: Went, b: Went) -> Went {
-    match (a, b) {
-        (Never, _) | (_, Never) => Never,
-        (Again, _) | (_, Again) => Again,
-        (AtOnce, AtOnce) => AtOnce,
+/// How steps went, by the worst of them.
+fn worst(steps: [Went; 3]) -> Went {
+    if steps.contains(&Never) {
+        Never
+    } else if steps.contains(&Again) {
+        Again
+    } else {
+        AtOnce
     }
+}
+
+/// The call of a file that fails: its number among those of its kind.
+type Fails = (&'static str, Op, u32);
+
+/// A call that no run makes.
+const NOTHING: Fails = ("a=1/2-1.index", Op::Sync, 1);
+
+/// A folder of a store in which this call fails, and all calls after so many.
+fn folder_in(alloc: Global, store: &mut MemStore, fails: Fails, calls: u64) -> Option<MemFolder>
+    ensures new { IfSome result (λ d. ⟦<MemFolder as Folder<MemFault>>⟧.last_writer d ≡ 0) }
+{
+    let (file, op, nth) = fails;
+    store.fail(alloc, file, op, nth).ok()?;
+    store.fuse(calls);
+    store.folder(alloc, "a=1").ok()
+}
+
+/// The same of a store of its own.
+fn folder(alloc: Global, fails: Fails, calls: u64) -> Option<MemFolder>
+    ensures new { IfSome result (λ d. ⟦<MemFolder as Folder<MemFault>>⟧.last_writer d ≡ 0) }
+{
+    let mut store = MemStore::new(alloc, 65_536, 256).ok()?;
+    folder_in(alloc, &mut store, fails, calls)
+}
+
+/// The shelf of writer 1 in such a folder.
+fn shelf(alloc: Global, fails: Fails, calls: u64) -> Option<MemShelf>
+    ensures writer { IfSome result (λ s. ⟦<MemShelf as Shelf<MemFault>>⟧.writer s ≡ 1) }
+    ensures new { IfSome result (λ s. (n : FileName) → ⟦<MemShelf as Shelf<MemFault>>⟧.created s n ≡ false) }
+{
+    let mut folder = folder(alloc, fails, calls)?;
+    folder.shelf(alloc, 1).ok()
 }
 
 fn put<F: Send + Drop, H: Shelf<F>>(draft: &mut Draft<F, H>, key: &[u8], bytes: &[u8]) -> Went
@@ -64,7 +98,7 @@ where
     let first = put(draft, b"i|a", FIRST);
     let second = put(draft, b"i|b", SECOND);
     let third = put(draft, b"i|a", THIRD);
-    worse(first, worse(second, third))
+    worst([first, second, third])
 }
 
 fn seal<F: Send + Drop, H: Shelf<F>>(
@@ -87,15 +121,16 @@ where
     }
 }
 
-/// Copies the bytes of `i|a` into the sink.
+/// Copies bytes of the batch into the sink.
 fn copy<F: Send + Drop, R: Reader<F>, X: Drop, K: Sink<X>>(
-    alloc: Global,
     lens: &mut Lens<F, R>,
+    place: (u64, u64),
     sink: &mut K,
-) -> Went {
-    let Ok(Some((at, len))) = lens.find(alloc, b"i|a") else {
-        return Never;
-    };
+) -> Went
+where
+    requires inside { place.0 + place.1 ≤ lens.old.files.entry.fields_len }
+{
+    let (at, len) = place;
     if lens.copy_to(at, len, sink).is_ok() {
         return AtOnce;
     }
@@ -111,9 +146,12 @@ fn read<F: Send + Drop, Z: Sealed<F>, X: Drop, K: Sink<X>>(
     segment: &Segment<F, Z>,
     sink: &mut K,
 ) -> (Went, Went) {
-    match segment.lens(alloc) {
-        Ok(mut lens) => (AtOnce, copy(alloc, &mut lens, sink)),
-        Err(_) => (Never, Never),
+    let Ok(mut lens) = segment.lens(alloc) else {
+        return (Never, Never);
+    };
+    match lens.find(alloc, b"i|a") {
+        Ok(Some(place)) => (AtOnce, copy(&mut lens, place, sink)),
+        _ => (AtOnce, Never),
     }
 }
 
@@ -122,111 +160,99 @@ fn live<F: Send + Drop, H: Shelf<F>, X: Drop, K: Sink<X>>(
     alloc: Global,
     shelf: &mut H,
     sink: &mut K,
-) -> Result<[Went; 5], Fail>
+) -> [Went; 5]
 where
     requires writer { H.writer shelf.old ≡ 1 }
     requires fields { H.created shelf.old (name_of 1 1 Fields) ≡ false }
     requires index { H.created shelf.old (name_of 1 1 Index) ≡ false }
-    ensures name { H.name shelf.new ≡ H.name shelf.old }
 {
     let room = Room { keys: 2, bytes: 6 };
     let Ok(mut draft) = Draft::new(alloc, shelf, 1, 1, room) else {
-        return Ok([Never; 5]);
+        return [Never; 5];
     };
     let put = puts(&mut draft);
     let (sealed, Some(segment)) = seal(alloc, draft) else {
-        return Ok([AtOnce, put, Never, Never, Never]);
+        return [AtOnce, put, Never, Never, Never];
     };
-    segment.keep(alloc, shelf)?;
+    if segment.keep(alloc, shelf).is_err() {
+        return [Never; 5];
+    }
     let (opened, copied) = read(alloc, &segment, sink);
-    Ok([AtOnce, put, sealed, opened, copied])
+    [AtOnce, put, sealed, opened, copied]
 }
 
-/// The life of a batch in a store in which this call fails, and all calls after so many.
-fn run(
-    alloc: Global,
-    (file, op, nth): (&str, Op, u32),
-    calls: u64,
-    sink: &mut MemSink,
-) -> Result<[Went; 5], Fail> {
-    let mut store = MemStore::new(alloc, 65_536, 256)?;
-    store.fail(alloc, file, op, nth)?;
-    store.fuse(calls);
-    let mut folder = store.folder(alloc, "a=1").ok().ok_or("folder")?;
-    let mut shelf = folder.shelf(alloc, 1).ok().ok_or("shelf")?;
-    live(alloc, &mut shelf, sink)
+/// The life of a batch in a store in which this call fails, and all calls after so many, and these writes of the sink:
+/// how it went, and whether the sink has the bytes.
+fn run(alloc: Global, fails: Fails, calls: u64, writes: &[u32]) -> Option<([Went; 5], bool)> {
+    let mut shelf = shelf(alloc, fails, calls)?;
+    let mut sink = MemSink::new(alloc, 1024, writes).ok()?;
+    let went = live(alloc, &mut shelf, &mut sink);
+    Some((went, sink.taken() == THIRD))
 }
 
-/// A call that no run makes.
-const NEVER: (&str, Op, u32) = ("a=1/2-1.index", Op::Sync, 1);
+const UNMADE: [Went; 5] = [Never; 5];
+
+const PUT_AGAIN: [Went; 5] = [AtOnce, Again, AtOnce, AtOnce, AtOnce];
+
+const SEALED_AGAIN: [Went; 5] = [AtOnce, AtOnce, Again, AtOnce, AtOnce];
+
+const UNOPENED: [Went; 5] = [AtOnce, AtOnce, AtOnce, Never, Never];
+
+const UNCOPIED: [Went; 5] = [AtOnce, AtOnce, AtOnce, AtOnce, Never];
+
+const COPIED_AGAIN: [Went; 5] = [AtOnce, AtOnce, AtOnce, AtOnce, Again];
+
+/// The one call that fails, and how the life of the batch goes.
+const ONE_FAILS: [(Fails, [Went; 5]); 13] = [
+    (NOTHING, [AtOnce; 5]),
+    (("a=1/1-1.fields", Op::Create, 1), UNMADE),
+    (("a=1/1-1.index", Op::Create, 1), UNMADE),
+    (("a=1/1-1.fields", Op::Write, 1), PUT_AGAIN),
+    (("a=1/1-1.fields", Op::Write, 2), PUT_AGAIN),
+    (("a=1/1-1.fields", Op::Write, 3), PUT_AGAIN),
+    (("a=1/1-1.fields", Op::Sync, 1), SEALED_AGAIN),
+    (("a=1/1-1.index", Op::Write, 1), SEALED_AGAIN),
+    (("a=1/1-1.index", Op::Sync, 1), SEALED_AGAIN),
+    (("a=1/1-1.index", Op::Read, 1), UNOPENED),
+    (("a=1/1-1.index", Op::Read, 2), UNOPENED),
+    (("a=1/1-1.index", Op::Read, 3), UNCOPIED),
+    (("a=1/1-1.fields", Op::Read, 1), COPIED_AGAIN),
+];
 
 #[test]
-fn each_call_fails_in_turn(rt: HostRuntime) -> Result<(), Fail> {
-    let alloc = rt.alloc();
-    let unmade = [Never; 5];
-    let put_again = [AtOnce, Again, AtOnce, AtOnce, AtOnce];
-    let sealed_again = [AtOnce, AtOnce, Again, AtOnce, AtOnce];
-    let unopened = [AtOnce, AtOnce, AtOnce, Never, Never];
-    let unfound = [AtOnce, AtOnce, AtOnce, AtOnce, Never];
-    let copied_again = [AtOnce, AtOnce, AtOnce, AtOnce, Again];
-    for (fails, want) in [
-        (NEVER, [AtOnce; 5]),
-        (("a=1/1-1.fields", Op::Create, 1), unmade),
-        (("a=1/1-1.index", Op::Create, 1), unmade),
-        (("a=1/1-1.fields", Op::Write, 1), put_again),
-        (("a=1/1-1.fields", Op::Write, 2), put_again),
-        (("a=1/1-1.fields", Op::Write, 3), put_again),
-        (("a=1/1-1.fields", Op::Sync, 1), sealed_again),
-        (("a=1/1-1.index", Op::Write, 1), sealed_again),
-        (("a=1/1-1.index", Op::Sync, 1), sealed_again),
-        (("a=1/1-1.index", Op::Read, 1), unopened),
-        (("a=1/1-1.index", Op::Read, 2), unopened),
-        (("a=1/1-1.index", Op::Read, 3), unfound),
-        (("a=1/1-1.fields", Op::Read, 1), copied_again),
-    ] {
-        let mut sink = MemSink::new(alloc, 1024, &[])?;
-        let seen = run(alloc, fails, u64::MAX, &mut sink)?;
-        assert_eq!(rt; seen, want, "{fails:?}");
-        let is_copied = seen[4] != Never;
-        assert_eq!(rt;
-            sink.taken(),
-            if is_copied { THIRD } else { &[] },
-            "{fails:?}"
-        );
+fn each_call_fails_in_turn(rt: HostRuntime) {
+    for (fails, want) in ONE_FAILS {
+        let is_copied = want[4] != Never;
+        let went = run(rt.alloc(), fails, u64::MAX, &[]);
+        assert!(rt; went == Some((want, is_copied)), "{fails:?}");
     }
-    let mut sink = MemSink::new(alloc, 1024, &[1])?;
-    assert_eq!(rt; run(alloc, NEVER, u64::MAX, &mut sink)?, copied_again);
-    assert_eq!(rt; sink.taken(), THIRD);
-    Ok(())
+    assert!(rt; run(rt.alloc(), NOTHING, u64::MAX, &[1]) == Some((COPIED_AGAIN, true)));
 }
 
+/// How the life of the batch goes where all calls after so many fail, from none to twelve.
+const REST_FAILS: [[Went; 5]; 13] = [
+    UNMADE,
+    UNMADE,
+    [AtOnce, Never, Never, Never, Never],
+    [AtOnce, Never, Never, Never, Never],
+    [AtOnce, Never, Never, Never, Never],
+    [AtOnce, AtOnce, Never, Never, Never],
+    [AtOnce, AtOnce, Never, Never, Never],
+    [AtOnce, AtOnce, Never, Never, Never],
+    UNOPENED,
+    UNOPENED,
+    UNCOPIED,
+    UNCOPIED,
+    [AtOnce; 5],
+];
+
 #[test]
-fn all_calls_after_one_fail(rt: HostRuntime) -> Result<(), Fail> {
-    let unmade = [Never; 5];
-    let unput = [AtOnce, Never, Never, Never, Never];
-    let unsealed = [AtOnce, AtOnce, Never, Never, Never];
-    let unopened = [AtOnce, AtOnce, AtOnce, Never, Never];
-    let uncopied = [AtOnce, AtOnce, AtOnce, AtOnce, Never];
-    for (calls, want) in [
-        (0, unmade),
-        (1, unmade),
-        (2, unput),
-        (3, unput),
-        (4, unput),
-        (5, unsealed),
-        (6, unsealed),
-        (7, unsealed),
-        (8, unopened),
-        (9, unopened),
-        (10, uncopied),
-        (11, uncopied),
-        (12, [AtOnce; 5]),
-    ] {
-        let mut sink = MemSink::new(rt.alloc(), 1024, &[])?;
-        let seen = run(rt.alloc(), NEVER, calls, &mut sink)?;
-        assert_eq!(rt; seen, want, "{calls}");
+fn all_calls_after_one_fail(rt: HostRuntime) {
+    for (calls, want) in REST_FAILS.iter().enumerate() {
+        let is_copied = want[4] != Never;
+        let went = run(rt.alloc(), NOTHING, calls as u64, &[]);
+        assert!(rt; went == Some((*want, is_copied)), "{calls}");
     }
-    Ok(())
 }
 
 /// A file of a batch with these bytes.
@@ -235,41 +261,40 @@ fn file_of<F: Send + Drop, H: Shelf<F>>(
     shelf: &mut H,
     kind: FileKind,
     bytes: &[u8],
-) -> Result<H::Sealed, Fail>
+) -> Option<H::Sealed>
 where
     requires created { H.created shelf.old (name_of (H.writer shelf.old) 1 kind) ≡ false }
     requires sum { length bytes.now < 2 ^ 63 }
     ensures created { (n : FileName) → H.created shelf.new n ≡ true → (H.created shelf.old n ≡ true) ⊎ (n ≡ name_of (H.writer shelf.old) 1 kind) }
     ensures writer { H.writer shelf.new ≡ H.writer shelf.old }
     ensures name { H.name shelf.new ≡ H.name shelf.old }
-    ensures file_name { IfOk result (λ z. H.Sealed.name z ≡ H.name shelf.old) }
+    ensures file_name { IfSome result (λ z. H.Sealed.name z ≡ H.name shelf.old) }
 {
     let Ok(mut file) = shelf.create(alloc, 1, kind) else {
-        return Err("create".into());
+        return None;
     };
     let Ok(()) = file.write_at(0, bytes) else {
-        return Err("write".into());
+        return None;
     };
     let Ok(()) = file.sync() else {
-        return Err("sync".into());
+        return None;
     };
-    Ok(file.seal())
+    Some(file.seal())
 }
 
 /// What is wrong with a segment, when it is opened or asked for a key.
 fn damage_in<F: Send + Drop, Z: Sealed<F>>(
     alloc: Global,
     segment: &Segment<F, Z>,
-) -> Result<Option<Damage>, Fail> {
+) -> Option<Damage> {
     let mut lens = match segment.lens(alloc) {
         Ok(lens) => lens,
-        Err(LensFault::Damaged(damage)) => return Ok(Some(damage)),
-        Err(_) => return Err("lens".into()),
+        Err(LensFault::Damaged(damage)) => return Some(damage),
+        Err(_) => return None,
     };
     match lens.find(alloc, b"i|a") {
-        Ok(_) => Ok(None),
-        Err(LensFault::Damaged(damage)) => Ok(Some(damage)),
-        Err(_) => Err("find".into()),
+        Err(LensFault::Damaged(damage)) => Some(damage),
+        _ => None,
     }
 }
 
@@ -278,7 +303,7 @@ fn damage_of<F: Send + Drop, H: Shelf<F>>(
     alloc: Global,
     shelf: &mut H,
     index: &[u8],
-) -> Result<Option<Damage>, Fail>
+) -> Option<Damage>
 where
     requires fields { H.created shelf.old (name_of (H.writer shelf.old) 1 Fields) ≡ false }
     requires index { H.created shelf.old (name_of (H.writer shelf.old) 1 Index) ≡ false }
@@ -287,121 +312,75 @@ where
     let field_file = file_of(alloc, shelf, FileKind::Fields, FIRST)?;
     let index_file = file_of(alloc, shelf, FileKind::Index, index)?;
     if field_file.len() < 183 || index_file.len() < 4120 {
-        return Err("short".into());
+        return None;
     }
     let segment = Segment::new(1, 1, 1, 4120, 183, field_file, index_file);
     damage_in(alloc, &segment)
 }
 
 /// The index file of the key `i|a` at 0, with 183 bytes, in which one octet is another.
-fn index_with(alloc: Global, place: usize, octet: u8) -> Result<Vec<u8>, Fail>
-    ensures short { IfOk result (λ v. length v.items ≡ 4120) }
+fn index_with(alloc: Global, place: usize, octet: u8) -> Option<Vec<u8>>
+    ensures short { IfSome result (λ v. length v.items ≡ 4120) }
 {
-    let mut bytes = b"FDIDX001\0\x01\0\x03i|a".to_vec(alloc)?;
-    bytes.resize(30, 0)?;
-    bytes.push(0xB7)?;
-    bytes.resize(4104, 0)?;
-    bytes.extend_from_slice(b"\0\0\0\0\0\0\0\x01\0\0\0\x01FEND")?;
-    bytes.resize(4120, 0)?;
+    let mut bytes = b"FDIDX001\0\x01\0\x03i|a".to_vec(alloc).ok()?;
+    bytes.resize(30, 0).ok()?;
+    bytes.push(0xB7).ok()?;
+    bytes.resize(4104, 0).ok()?;
+    bytes
+        .extend_from_slice(b"\0\0\0\0\0\0\0\x01\0\0\0\x01FEND")
+        .ok()?;
+    bytes.resize(4120, 0).ok()?;
     if let Some(byte) = bytes.get_mut(place) {
         *byte = octet;
     }
-    Ok(bytes)
+    Some(bytes)
 }
 
 /// What is wrong with a batch of one field in whose index file this octet is another.
-fn damage_at(alloc: Global, place: usize, octet: u8) -> Result<Option<Damage>, Fail> {
+fn damage_at(alloc: Global, place: usize, octet: u8) -> Option<Damage> {
     let index = index_with(alloc, place, octet)?;
-    let mut store = MemStore::new(alloc, 65_536, 256)?;
-    let mut folder = store.folder(alloc, "a=1").ok().ok_or("folder")?;
-    let mut shelf = folder.shelf(alloc, 1).ok().ok_or("shelf")?;
+    let mut shelf = shelf(alloc, NOTHING, u64::MAX)?;
     damage_of(alloc, &mut shelf, &index)
 }
 
-#[test]
-fn damages(rt: HostRuntime) -> Result<(), Fail> {
-    let name = |kind| FileName {
+/// Changed octets of an index file, and the place of the index that is wrong then.
+const DAMAGES: [(usize, u8, u64); 5] = [
+    (7, b'2', 0),
+    (4119, b'd', 4116),
+    (4115, 2, 4112),
+    (10, 2, 10),
+    (100, 1, 100),
+];
+
+/// A name of a file of batch 1.
+fn name(kind: FileKind) -> FileName {
+    FileName {
         writer: 1,
         seq: 1,
         kind,
-    };
-    let index = |at| {
-        Some(Damage::Index {
-            file: name(FileKind::Index),
-            at,
-        })
-    };
-    let beyond = Some(Damage::Beyond {
+    }
+}
+
+#[test]
+fn damages(rt: HostRuntime) {
+    let file = name(FileKind::Index);
+    for (place, octet, at) in DAMAGES {
+        let damage = damage_at(rt.alloc(), place, octet);
+        assert!(rt; damage == Some(Damage::Index { file, at }), "{place}");
+    }
+    let beyond = Damage::Beyond {
         file: name(FileKind::Fields),
         end: 184,
         len: 183,
-    });
-    for (place, octet, want) in [
-        (4103, 0, None),
-        (7, b'2', index(0)),
-        (4119, b'd', index(4116)),
-        (4115, 2, index(4112)),
-        (4111, 2, None),
-        (10, 2, index(10)),
-        (100, 1, index(100)),
-        (30, 0xB8, beyond),
-    ] {
-        let damage = damage_at(rt.alloc(), place, octet)?;
-        assert_eq!(rt; damage, want, "{place}");
-    }
-    Ok(())
-}
-
-/// Whether a draft was empty before three puts of two keys, what it answered to a third key, and how many keys it has.
-fn fill<F: Send + Drop, H: Shelf<F>>(draft: &mut Draft<F, H>) -> (bool, Option<(u32, u32)>, u32)
-where
-    requires empty { draft.old.end ≡ 0 }
-{
-    let was_empty = draft.is_empty();
-    let _ = puts(draft);
-    let full = match draft.put(b"i|c", FIRST) {
-        Err(PutFault::Full { keys, left }) => Some((keys, left)),
-        _ => None,
     };
-    (was_empty, full, draft.len())
+    assert!(rt; damage_at(rt.alloc(), 30, 0xB8) == Some(beyond));
 }
 
-/// The places of `i|a` and of `i|c`.
-fn places<F: Send + Drop, Z: Sealed<F>>(
+/// A batch of three puts of two keys.
+fn sealed<F: Send + Drop, H: Shelf<F>>(
     alloc: Global,
-    segment: &Segment<F, Z>,
-) -> Result<[Option<(u64, u64)>; 2], Fail> {
-    let Ok(mut lens) = segment.lens(alloc) else {
-        return Err("lens".into());
-    };
-    match (lens.find(alloc, b"i|a"), lens.find(alloc, b"i|c")) {
-        (Ok(first), Ok(other)) => Ok([first, other]),
-        _ => Err("find".into()),
-    }
-}
-
-fn records<F: Send + Drop, Z: Sealed<F>>(
-    alloc: Global,
-    segment: &Segment<F, Z>,
-) -> Result<fd_index::Index, Fail> {
-    let Ok(mut lens) = segment.lens(alloc) else {
-        return Err("lens".into());
-    };
-    match lens.records(alloc) {
-        Ok(index) => Ok(index),
-        Err(_) => Err("records".into()),
-    }
-}
-
-/// What is said of a batch of three puts of two keys: its draft, its entry, the places of keys, and its index.
-type Said = (
-    (bool, Option<(u32, u32)>, u32),
-    Entry,
-    [Option<(u64, u64)>; 2],
-    fd_index::Index,
-);
-
-fn say<F: Send + Drop, H: Shelf<F>>(alloc: Global, shelf: &mut H) -> Result<Said, Fail>
+    shelf: &mut H,
+) -> Option<Segment<F, H::Sealed>>
 where
     requires writer { H.writer shelf.old ≡ 1 }
     requires fields { H.created shelf.old (name_of 1 1 Fields) ≡ false }
@@ -409,45 +388,43 @@ where
 {
     let room = Room { keys: 2, bytes: 6 };
     let Ok(mut draft) = Draft::new(alloc, shelf, 1, 1, room) else {
-        return Err("draft".into());
+        return None;
     };
-    let filled = fill(&mut draft);
-    let (_, Some(segment)) = seal(alloc, draft) else {
-        return Err("seal".into());
-    };
-    let places = places(alloc, &segment)?;
-    let index = records(alloc, &segment)?;
-    Ok((filled, segment.entry(), places, index))
+    let _ = puts(&mut draft);
+    let (_, segment) = seal(alloc, draft);
+    segment
 }
 
-fn said(alloc: Global) -> Result<Said, Fail> {
-    let mut store = MemStore::new(alloc, 65_536, 256)?;
-    let mut folder = store.folder(alloc, "a=1").ok().ok_or("folder")?;
-    let mut shelf = folder.shelf(alloc, 1).ok().ok_or("shelf")?;
-    say(alloc, &mut shelf)
+/// The places of `i|a` and of `i|c`, and the number of records.
+fn places<F: Send + Drop, Z: Sealed<F>>(
+    alloc: Global,
+    segment: &Segment<F, Z>,
+) -> Option<([Option<(u64, u64)>; 2], u32)> {
+    let mut lens = segment.lens(alloc).ok()?;
+    let first = lens.find(alloc, b"i|a").ok()?;
+    let other = lens.find(alloc, b"i|c").ok()?;
+    let index = lens.records(alloc).ok()?;
+    Some(([first, other], index.len()))
+}
+
+/// The entry of that batch, the places of keys, and the number of records.
+fn told(alloc: Global) -> Option<(Entry, [Option<(u64, u64)>; 2], u32)> {
+    let mut shelf = shelf(alloc, NOTHING, u64::MAX)?;
+    let segment = sealed(alloc, &mut shelf)?;
+    let (places, count) = places(alloc, &segment)?;
+    Some((segment.entry(), places, count))
 }
 
 #[test]
-fn three_puts_of_two_keys(rt: HostRuntime) -> Result<(), Fail> {
-    let (filled, entry, places, index) = said(rt.alloc())?;
-    assert_eq!(rt; filled, (true, Some((2, 0)), 2));
-    let want = Entry {
+fn three_puts_of_two_keys(rt: HostRuntime) {
+    let entry = Entry {
         writer: 1,
         seq: 1,
         fields: 2,
         index_len: 4120,
         fields_len: 549,
     };
-    assert_eq!(rt; entry, want);
-    assert_eq!(rt; places, [Some((366, 183)), None]);
-    assert_eq!(rt; index.len(), 2);
-    let (key, at, len) = index.record(0);
-    assert_eq!(rt; key, b"i|a".as_slice());
-    assert_eq!(rt; (at, len), (366, 183));
-    let (key, at, len) = index.record(1);
-    assert_eq!(rt; key, b"i|b".as_slice());
-    assert_eq!(rt; (at, len), (183, 183));
-    Ok(())
+    assert!(rt; told(rt.alloc()) == Some((entry, [Some((366, 183)), None], 2)));
 }
 
 fn shared<T: Send + Sync>(_: &T) {}
