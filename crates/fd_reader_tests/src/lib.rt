@@ -1,13 +1,11 @@
-//! Tests of the reader of a dataset, by its public calls.
+//! Tests of the writer and the reader of a dataset, by their public calls.
 #![tactic(auto)]
 
 #[cfg(test)]
-mod finding;
-#[cfg(test)]
 mod full;
 #[cfg(test)]
-mod reopened;
+mod reading;
 #[cfg(test)]
-mod retriever;
+mod stores;
 #[cfg(test)]
-mod stopped;
+mod writing;

@@ -1,5 +1,5 @@
 -- Listings of which no batch is told, for the small lists of the tests.
-use Rattle.std.specs.Prelude.{List, map, Option, None, Some}
+use Rattle.std.specs.Prelude.{List, map, None}
 use Rattle.fd_entries.specs.declared.table.Entry.{Entry}
 use Rattle.fd_entries.specs.declared.batch.Listing.{Listing}
 
@@ -8,7 +8,3 @@ untold e = record { entry = e; batch = None }
 
 abbrev pub all_untold : List Entry → List Listing
 all_untold es = map untold es
-
-abbrev pub untold_doubt : Option Entry → Option Listing
-untold_doubt None = None
-untold_doubt (Some e) = Some (untold e)

@@ -1,0 +1,223 @@
+//! What one writer does in a dataset.
+ghost use Rattle.std.specs.Prelude.{◌≡◌, ◌≤◌, ◌<◌, length, false, IfOk, OnSome, codes};
+ghost use Rattle.fd_disk.specs.declared.folders.FileName.{FileName};
+ghost use Rattle.fd_schema.specs.Rules.{file_key};
+ghost use Rattle.fd_schema.specs.Reading.{seen_place};
+ghost use Rattle.fd_turn.specs.declared.view.Lock.TheVariants.{Free};
+ghost use Rattle.fd_turn.specs.Passes.{view, IsOf};
+ghost use Rattle.fd_turn.specs.Views.{all_parts};
+
+use crate::reading::opened;
+use fd_archiver::{Archiver, Flush, FlushFault};
+use fd_dataset::{Dataset, DatasetPass};
+use fd_disk::{Disk, Folder, Shelf};
+use fd_schema::Place;
+use fd_segment::Room;
+use std::alloc::{AllocError, Global};
+use std::sync::Wait;
+
+/// The number of bytes of each message.
+pub(crate) const SIZE: usize = 183;
+
+/// A key of the dataset `a=1`.
+#[derive(Clone, Copy)]
+pub(crate) enum Key {
+    A,
+    B,
+    C,
+}
+
+/// The datum text of a key.
+fn datum(key: Key) -> &'static str
+    ensures { length result.now ≤ 8 }
+{
+    match key {
+        Key::A => "a",
+        Key::B => "b",
+        Key::C => "c",
+    }
+}
+
+/// The place of a key.
+pub(crate) fn place(alloc: Global, key: Key) -> Result<Place, AllocError>
+    ensures dataset { IfOk result (λ p. (seen_place p).dataset ≡ codes "a=1") }
+    ensures key { IfOk result (λ p. length (file_key (seen_place p)) ≤ 256) }
+{
+    Ok(Place {
+        rule: 0,
+        dataset: String::from_str(alloc, "a=1")?,
+        index: String::from_str(alloc, "i")?,
+        datum: String::from_str(alloc, datum(key))?,
+    })
+}
+
+/// A message that is put: its key, and the byte that it consists of.
+pub(crate) type Message = (Key, u8);
+
+/// Two messages, in a batch each where they are apart.
+#[derive(Clone, Copy)]
+pub(crate) struct Two {
+    pub(crate) first: Message,
+    pub(crate) second: Message,
+    pub(crate) apart: bool,
+}
+
+/// How the listing of a batch went: at once, by a second flush, or not, with the number of entries where the table is full.
+#[derive(Clone, Copy, Debug, PartialEq, Eq)]
+pub(crate) enum Went {
+    AtOnce,
+    Again,
+    Full(u32),
+    Never,
+}
+
+/// Puts a message, and tells whether it did.
+fn put<F: Send + Drop, H: Shelf<F>>(
+    alloc: Global,
+    archiver: &mut Archiver<F, H>,
+    message: Message,
+) -> bool
+where
+    requires dataset { archiver.old.dataset ≡ codes "a=1" }
+    ensures same { archiver.new.dataset ≡ archiver.old.dataset }
+{
+    let Ok(place) = place(alloc, message.0) else {
+        return false;
+    };
+    archiver.size() <= 1000 && archiver.archive(&place, &[message.1; SIZE]).is_ok()
+}
+
+/// Flushes, where the writer may, and tells what was answered.
+fn flush_once<F: Send + Drop, T: Disk<F>, H: Shelf<F>, R: Wait>(
+    rt: &R,
+    alloc: Global,
+    archiver: &mut Archiver<F, H>,
+    dataset: &Dataset<F, T, H::Sealed>,
+    pass: &mut DatasetPass<F, T, H::Sealed>,
+) -> Went
+where
+    requires own { IsOf dataset.now pass.old }
+    requires pass { ((view pass.old).subject ≡ codes "a=1") × ((view pass.old).lock ≡ Free) × ((view pass.old).parts ≡ all_parts) }
+    requires dataset { archiver.old.dataset ≡ codes "a=1" }
+    ensures own { IsOf dataset.now pass.new }
+    ensures pass { ((view pass.new).subject ≡ codes "a=1") × ((view pass.new).lock ≡ Free) × ((view pass.new).parts ≡ all_parts) }
+    ensures same { archiver.new.dataset ≡ archiver.old.dataset }
+{
+    if archiver.writer() > 65_536 || archiver.flushes_left() == 0 {
+        return Went::Never;
+    }
+    match archiver.flush(rt, alloc, dataset, pass) {
+        Ok(Flush::Listed(_)) => Went::AtOnce,
+        Err(FlushFault::TableFull { count }) => Went::Full(count),
+        _ => Went::Never,
+    }
+}
+
+/// Flushes, and again where that was refused.
+fn flush<F: Send + Drop, T: Disk<F>, H: Shelf<F>, R: Wait>(
+    rt: &R,
+    alloc: Global,
+    archiver: &mut Archiver<F, H>,
+    dataset: &Dataset<F, T, H::Sealed>,
+    pass: &mut DatasetPass<F, T, H::Sealed>,
+) -> Went
+where
+    requires own { IsOf dataset.now pass.old }
+    requires pass { ((view pass.old).subject ≡ codes "a=1") × ((view pass.old).lock ≡ Free) × ((view pass.old).parts ≡ all_parts) }
+    requires dataset { archiver.old.dataset ≡ codes "a=1" }
+    ensures own { IsOf dataset.now pass.new }
+    ensures pass { ((view pass.new).subject ≡ codes "a=1") × ((view pass.new).lock ≡ Free) × ((view pass.new).parts ≡ all_parts) }
+    ensures same { archiver.new.dataset ≡ archiver.old.dataset }
+{
+    match flush_once(rt, alloc, archiver, dataset, pass) {
+        Went::Never => {}
+        went => return went,
+    }
+    match flush_once(rt, alloc, archiver, dataset, pass) {
+        Went::AtOnce => Went::Again,
+        went => went,
+    }
+}
+
+/// Puts two messages, and tells how the listing of the second went.
+fn write<F: Send + Drop, T: Disk<F>, H: Shelf<F>, R: Wait>(
+    rt: &R,
+    alloc: Global,
+    archiver: &mut Archiver<F, H>,
+    dataset: &Dataset<F, T, H::Sealed>,
+    pass: &mut DatasetPass<F, T, H::Sealed>,
+    two: Two,
+) -> Went
+where
+    requires own { IsOf dataset.now pass.old }
+    requires pass { ((view pass.old).subject ≡ codes "a=1") × ((view pass.old).lock ≡ Free) × ((view pass.old).parts ≡ all_parts) }
+    requires dataset { archiver.old.dataset ≡ codes "a=1" }
+    ensures own { IsOf dataset.now pass.new }
+    ensures pass { ((view pass.new).subject ≡ codes "a=1") × ((view pass.new).lock ≡ Free) × ((view pass.new).parts ≡ all_parts) }
+    ensures same { archiver.new.dataset ≡ archiver.old.dataset }
+{
+    if !put(alloc, archiver, two.first) {
+        return Went::Never;
+    }
+    if two.apart {
+        flush(rt, alloc, archiver, dataset, pass);
+    }
+    if !put(alloc, archiver, two.second) {
+        return Went::Never;
+    }
+    flush(rt, alloc, archiver, dataset, pass)
+}
+
+/// Has a writer of this shelf put two messages, and gives the shelf back.
+fn written<F: Send + Drop, T: Disk<F>, H: Shelf<F>, R: Wait>(
+    rt: &R,
+    alloc: Global,
+    shelf: H,
+    writer: u32,
+    dataset: &Dataset<F, T, H::Sealed>,
+    pass: &mut DatasetPass<F, T, H::Sealed>,
+    two: Two,
+) -> (H, Went)
+where
+    requires own { IsOf dataset.now pass.old }
+    requires pass { ((view pass.old).subject ≡ codes "a=1") × ((view pass.old).lock ≡ Free) × ((view pass.old).parts ≡ all_parts) }
+    requires shelf { (H.name shelf ≡ codes "a=1") × (H.writer shelf ≡ writer) }
+    requires new { (n : FileName) → H.created shelf n ≡ false }
+    ensures own { IsOf dataset.now pass.new }
+    ensures pass { ((view pass.new).subject ≡ codes "a=1") × ((view pass.new).lock ≡ Free) × ((view pass.new).parts ≡ all_parts) }
+    ensures shelf { H.name result.0 ≡ codes "a=1" }
+{
+    let room = Room { keys: 2, bytes: 6 };
+    let mut archiver = match Archiver::new(alloc, shelf, writer, room) {
+        Ok(archiver) => archiver,
+        Err((shelf, _)) => return (shelf, Went::Never),
+    };
+    let went = write(rt, alloc, &mut archiver, dataset, pass, two);
+    (archiver.close(), went)
+}
+
+/// Opens the dataset of a folder, has a writer put two messages, and gives all back: how the listing of the second went.
+pub(crate) fn archive<F: Send + Drop, D: Folder<F>, R: Wait>(
+    rt: &R,
+    alloc: Global,
+    folder: &mut D,
+    writer: u32,
+    two: Two,
+) -> Option<Went>
+where
+    requires back { D.table_out folder.old ≡ false }
+    requires name { D.name folder.old ≡ codes "a=1" }
+    requires writer { D.last_writer folder.old < writer }
+    ensures back { OnSome result (D.table_out folder.new ≡ false) }
+{
+    let Ok(shelf) = folder.shelf(alloc, writer) else {
+        return None;
+    };
+    let Some((dataset, mut pass)) = opened(alloc, folder) else {
+        return None;
+    };
+    let (shelf, went) = written(rt, alloc, shelf, writer, &dataset, &mut pass, two);
+    folder.give_shelf(shelf);
+    folder.give_table(dataset.close(pass).into_table());
+    Some(went)
+}
