@@ -1,11 +1,7 @@
-//! Tests of the crates that run a session's lanes, by their public calls.
+//! Tests of the texts of a session's lanes, by the public calls of their crates. Lanes are run by the tests of `fd_program`.
 #![tactic(auto)]
 
 #[cfg(test)]
 mod casting;
-#[cfg(test)]
-mod lanes;
-#[cfg(test)]
-mod messages;
 #[cfg(test)]
 mod transcript;

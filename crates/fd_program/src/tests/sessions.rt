@@ -1,26 +1,38 @@
 //! Sessions over a store in memory.
-use super::{CREATE, CREATED, FIELD, NEVER, Row, SCHEMA, STATS, check_failing, check_rows, told};
-use fd_disk_mem::{MemStore, Op};
-use fd_outcome::Status;
-use std::alloc::{AllocError, Global};
-use std::process::Abort;
-use std::sync::Wait;
-use std::test::Fail;
-use std::thread::Threads;
+use super::cases::{CASE, Case, Hold, ROW, Row, first_wrong};
+use super::octets::{FIELD, Part};
+use super::stores::{CREATED, EMPTY, ONE_FIELD};
+use fd_disk_mem::Op;
 
-pub(super) const SESSION: [&str; 2] = ["session", "s"];
+/// The table of the dataset of the scripts.
+pub(super) const TABLE: &str = "class=od,expver=0001,date=20240101,time=0000/toc";
+
+/// A session, whose script and messages come in its input.
+pub(super) const SESSION: Row = Row {
+    words: &["session", "s"],
+    ..ROW
+};
+
+/// The field of the level 92500 in place of 100000.
+pub(super) const UPPER: Part = Part::Field(&[(135, 0x69), (136, 0x54)]);
 
 /// One lane, which gets a field before it lists it, and after.
-const SCRIPT: &str = "dataset class=od,expver=0001,date=20240101,time=0000
+const SCRIPT: Part = Part::Text(
+    "dataset class=od,expver=0001,date=20240101,time=0000
 lane a class=od,expver=0001
 put 1
 get retrieve,class=od,expver=0001,date=20240101,time=00,centre=98,type=1,levtype=100,param=0.0.0,step=0,levelist=100000
 flush
 get retrieve,class=od,expver=0001,date=20240101,time=00,centre=98,type=1,levtype=100,param=0.0.0,step=0,levelist=100000
 messages
-";
+",
+);
 
-const TRANSCRIPT: &str = "before 0
+/// What it does.
+const LISTED: Row = Row {
+    input: &[SCRIPT, Part::Field(&[])],
+    output: FIELD,
+    report: "before 0
 history a.1
 a 1 put ok
 a 2 get 0
@@ -28,75 +40,412 @@ miss
 a 3 flush 1
 a 4 get 1
 found 183
-";
+",
+    ..SESSION
+};
 
 /// A lane that puts a second message.
-const SECOND: &str = "dataset class=od,expver=0001,date=20240101,time=0000
+const SECOND: &[Part] = &[
+    Part::Text(
+        "dataset class=od,expver=0001,date=20240101,time=0000
 lane a class=od,expver=0001
 put 2
 messages
-";
+",
+    ),
+    Part::Field(&[]),
+];
 
-pub(super) const TABLE: &str = "class=od,expver=0001,date=20240101,time=0000/toc";
-
-const LISTED: &[u8] =
-    b"class=od,expver=0001,date=20240101,time=0000 entries 1 fields 1 keys 1 bytes 183\n";
-
-/// The script, and the one field behind it.
-pub(super) fn with_field(alloc: Global, script: &str) -> Result<Vec<u8>, AllocError> {
-    let mut input = Vec::from_slice(alloc, script.as_bytes())?;
-    input.extend_from_slice(&FIELD)?;
-    Ok(input)
-}
-
-/// A run that ends with this status, and writes this on the output and the report.
-pub(super) fn ended<'a>(
-    words: &'a [&'a str],
-    input: &'a [u8],
-    status: Status,
-    output: &'a [u8],
-    report: &'a str,
-) -> Row<'a> {
-    Row {
-        words,
-        input,
-        status,
-        output,
-        report,
-    }
-}
+const SEEING: &[Case] = &[Case {
+    rows: &[
+        Row {
+            output: &[],
+            report: "refused SchemaMissing\n",
+            status: 3,
+            ..LISTED
+        },
+        CREATED,
+        Row {
+            input: &[Part::Text("flush\n")],
+            report: "refused script 1 Dataset\n",
+            status: 3,
+            ..SESSION
+        },
+        Row {
+            input: SECOND,
+            report: "refused script 3 Message\n",
+            status: 3,
+            ..SESSION
+        },
+        EMPTY,
+        LISTED,
+        ONE_FIELD,
+    ],
+    ..CASE
+}];
 
 /// A lane sees what it has listed, and not before; what is refused founds no table.
 #[test]
-fn a_lane_sees_what_it_has_listed(rt: HostRuntime) -> Result<(), Fail> {
-    let alloc = rt.alloc();
-    let input = with_field(alloc, SCRIPT)?;
-    let second = with_field(alloc, SECOND)?;
-    let missing = "refused SchemaMissing\n";
-    let rows = [
-        told(&SESSION, &input, Status::Refused, missing),
-        told(&CREATE, SCHEMA, Status::Done, CREATED),
-        told(
-            &SESSION,
-            b"flush\n",
-            Status::Refused,
-            "refused script 1 Dataset\n",
-        ),
-        told(
-            &SESSION,
-            &second,
-            Status::Refused,
-            "refused script 3 Message\n",
-        ),
-        told(&STATS, b"", Status::Done, ""),
-        ended(&SESSION, &input, Status::Done, &FIELD, TRANSCRIPT),
-        ended(&STATS, b"", Status::Done, LISTED, ""),
-    ];
-    check_failing(&rt, alloc, NEVER, &rows)
+fn a_lane_sees_what_it_has_listed(rt: HostRuntime) {
+    assert_eq!(rt; first_wrong(&rt, rt.alloc(), SEEING), None);
 }
 
-/// The transcript of the same lane over a table whose listing fails.
-const UNLISTED: &str = "before 0
+/// Two lanes that wait for one another.
+const TWO: &[Part] = &[
+    Part::Text(
+        "dataset class=od,expver=0001,date=20240101,time=0000
+lane a class=od,expver=0001
+put 1
+get retrieve,class=od,expver=0001,date=20240101,time=00,centre=98,type=1,levtype=100,param=0.0.0,step=0,levelist=92500
+flush
+lane b class=od,expver=0001
+put 2
+flush
+get retrieve,class=od,expver=0001,date=20240101,time=00,centre=98,type=1,levtype=100,param=0.0.0,step=0,levelist=100000/92500
+messages
+",
+    ),
+    Part::Field(&[]),
+    UPPER,
+];
+
+/// The second lane begins after the first has put, and the first gets after the second has ended.
+const BY_TURNS: Row = Row {
+    input: TWO,
+    output: &[UPPER, UPPER],
+    report: "before 0
+history b.1 a.1
+a 1 put ok
+a 2 get 1
+found 183
+a 3 flush 2
+b 1 put ok
+b 2 flush 1
+b 3 get 1
+miss
+found 183
+",
+    holds: &[
+        Hold {
+            lane: 2,
+            step: 1,
+            until: 2,
+        },
+        Hold {
+            lane: 1,
+            step: 2,
+            until: 4,
+        },
+    ],
+    ..SESSION
+};
+
+/// A lane that lists two batches, and one that only reads.
+const READ: &[Part] = &[
+    Part::Text(
+        "dataset class=od,expver=0001,date=20240101,time=0000
+lane a class=od,expver=0001
+put 1
+flush
+put 2
+flush
+lane r class=od,expver=0001
+get retrieve,class=od,expver=0001,date=20240101,time=00,centre=98,type=1,levtype=100,param=0.0.0,step=0,levelist=100000/92500
+get retrieve,class=od,expver=0001,date=20240101,time=00,centre=98,type=1,levtype=100,param=0.0.0,step=0,levelist=100000/92500
+get retrieve,class=od,expver=0001,date=20240101,time=00,centre=98,type=1,levtype=100,param=0.0.0,step=0,levelist=100000/92500
+messages
+",
+    ),
+    Part::Field(&[]),
+    UPPER,
+];
+
+/// The second lane gets before the first flush, between the two, and behind the second.
+const READING: Row = Row {
+    input: READ,
+    output: &[Part::Field(&[]), Part::Field(&[]), UPPER],
+    report: "before 0
+history a.1 a.2
+a 1 put ok
+a 2 flush 1
+a 3 put ok
+a 4 flush 2
+r 1 get 0
+miss
+miss
+r 2 get 1
+found 183
+miss
+r 3 get 2
+found 183
+found 183
+",
+    holds: &[
+        Hold {
+            lane: 1,
+            step: 1,
+            until: 2,
+        },
+        Hold {
+            lane: 2,
+            step: 2,
+            until: 3,
+        },
+        Hold {
+            lane: 1,
+            step: 3,
+            until: 3,
+        },
+        Hold {
+            lane: 2,
+            step: 3,
+            until: 5,
+        },
+    ],
+    ..SESSION
+};
+
+/// The lane of the script above, beside one without a step.
+const IDLE: &[Part] = &[
+    Part::Text(
+        "dataset class=od,expver=0001,date=20240101,time=0000
+lane a class=od,expver=0001
+put 1
+get retrieve,class=od,expver=0001,date=20240101,time=00,centre=98,type=1,levtype=100,param=0.0.0,step=0,levelist=100000
+flush
+get retrieve,class=od,expver=0001,date=20240101,time=00,centre=98,type=1,levtype=100,param=0.0.0,step=0,levelist=100000
+lane b class=od,expver=0001
+messages
+",
+    ),
+    Part::Field(&[]),
+    UPPER,
+];
+
+const LANES: &[Case] = &[
+    Case {
+        rows: &[
+            CREATED,
+            Row {
+                input: IDLE,
+                ..LISTED
+            },
+        ],
+        ..CASE
+    },
+    Case {
+        rows: &[CREATED, BY_TURNS],
+        ..CASE
+    },
+    Case {
+        rows: &[CREATED, READING],
+        ..CASE
+    },
+];
+
+/// Lanes that wait for one another see what the other has listed; one that only reads sees each batch once it is listed.
+#[test]
+fn lanes_see_what_is_listed(rt: HostRuntime) {
+    assert_eq!(rt; first_wrong(&rt, rt.alloc(), LANES), None);
+}
+
+/// The first line of a script, and the last.
+const DATASET: Part = Part::Text("dataset class=od,expver=0001,date=20240101,time=0000\n");
+
+const MESSAGES: Part = Part::Text("messages\n");
+
+/// Two messages that have keys, and one that has none.
+const FIRST: Part = Part::Field(&[]);
+
+const OTHER: Part = Part::Field(&[(136, 0xA1)]);
+
+const KEYLESS: Part = Part::Field(&[(117, 1)]);
+
+const MISCAST: Row = Row {
+    status: 3,
+    ..SESSION
+};
+
+const CASTING: &[Case] = &[Case {
+    rows: &[
+        Row {
+            input: &[Part::Text(
+                "[class=od/ei, expver, date, time [centre, type, levtype [param, step, levelist?]]]",
+            )],
+            ..CREATED
+        },
+        Row {
+            input: &[
+                DATASET,
+                Part::Text("lane a \nflush\nput 4\n"),
+                MESSAGES,
+                FIRST,
+                OTHER,
+                KEYLESS,
+            ],
+            report: "refused script 4 Message\n",
+            ..MISCAST
+        },
+        Row {
+            input: &[
+                DATASET,
+                Part::Text("lane a class=od,expver=0001\nput 1\n\nput 3\nput 4\n"),
+                MESSAGES,
+                FIRST,
+                OTHER,
+                KEYLESS,
+            ],
+            report: "refused script 5 Key Product 1\n",
+            ..MISCAST
+        },
+        Row {
+            input: &[
+                DATASET,
+                Part::Text("lane a expver=0001\nput 1\n"),
+                MESSAGES,
+                FIRST,
+                OTHER,
+                KEYLESS,
+            ],
+            report: "refused script 3 NoRule\n",
+            ..MISCAST
+        },
+        Row {
+            input: &[
+                DATASET,
+                Part::Text("lane a class=od,expver=0002\nput 1\n"),
+                MESSAGES,
+                FIRST,
+                OTHER,
+                KEYLESS,
+            ],
+            report: "refused script 3 OtherDataset\n",
+            ..MISCAST
+        },
+        Row {
+            input: &[
+                DATASET,
+                Part::Text(
+                    "lane a class=od,expver=0001\nget retrieve,class=od/rd,expver=0002,date=20240101,time=00,centre=98,type=1,levtype=100,param=0.0.0,step=0\n",
+                ),
+                MESSAGES,
+                FIRST,
+                OTHER,
+                KEYLESS,
+            ],
+            report: "refused script 3 NoRule\n",
+            ..MISCAST
+        },
+        Row {
+            input: &[
+                DATASET,
+                Part::Text(
+                    "lane a class=od,expver=0001\nput 1\nget retrieve,class=od,expver=0001/0002,date=20240101,time=00,centre=98,type=1,levtype=100,param=0.0.0,step=0\nput 9\n",
+                ),
+                MESSAGES,
+                FIRST,
+                OTHER,
+                KEYLESS,
+            ],
+            report: "refused script 4 OtherDataset\n",
+            ..MISCAST
+        },
+        Row {
+            input: &[
+                DATASET,
+                Part::Text(
+                    "lane a class=od,expver=0001\nlane b class=od,expver=0002\nput 2\nlane c \nput 9\n",
+                ),
+                MESSAGES,
+                FIRST,
+                OTHER,
+                KEYLESS,
+            ],
+            report: "refused script 4 OtherDataset\n",
+            ..MISCAST
+        },
+        EMPTY,
+        Row {
+            input: &[
+                DATASET,
+                Part::Text("lane a \n"),
+                MESSAGES,
+                FIRST,
+                OTHER,
+                KEYLESS,
+            ],
+            report: "before 0\nhistory\n",
+            ..SESSION
+        },
+        Row {
+            input: &[DATASET, MESSAGES],
+            report: "before 0\nhistory\n",
+            ..SESSION
+        },
+        Row {
+            input: &[
+                DATASET,
+                Part::Text(
+                    "lane a class=od,expver=0001\nput 1\nflush\nget retrieve,class=od,expver=0001,date=20240101,time=00,centre=98,type=1,levtype=100,param=0.0.0,step=0,levelist=1/2\nlane b class=od,expver=0001\nput 2\nput 1\n",
+                ),
+                MESSAGES,
+                FIRST,
+                OTHER,
+                KEYLESS,
+            ],
+            report: "before 0
+history a.1
+a 1 put ok
+a 2 flush 1
+a 3 get 1
+miss
+miss
+b 1 put ok
+b 2 put ok
+",
+            ..SESSION
+        },
+        Row {
+            input: &[
+                DATASET,
+                Part::Text("lane b class=od,expver=0001\nput 2\nput 1\nflush\n"),
+                MESSAGES,
+                FIRST,
+                OTHER,
+                KEYLESS,
+            ],
+            report: "before 1
+history b.1
+b 1 put ok
+b 2 put ok
+b 3 flush 2
+",
+            ..SESSION
+        },
+        Row {
+            words: &["list", "s"],
+            input: &[Part::Text("list,param=0.0.0")],
+            output: &[Part::Text(
+                "class=od,expver=0001,date=20240101,time=0000 centre=98,type=1,levtype=100 param=0.0.0,step=0,levelist=100000 183 2
+class=od,expver=0001,date=20240101,time=0000 centre=98,type=1,levtype=100 param=0.0.0,step=0,levelist=100001 183 2
+",
+            )],
+            ..ROW
+        },
+    ],
+    ..CASE
+}];
+
+/// A script is refused at its first line that can't be done, and founds no table; else its puts go to their places.
+#[test]
+fn scripts_are_refused_at_their_first_line_that_fails(rt: HostRuntime) {
+    assert_eq!(rt; first_wrong(&rt, rt.alloc(), CASTING), None);
+}
+
+/// The same lane over a table whose listing fails.
+const UNLISTED: Row = Row {
+    output: &[],
+    report: "before 0
 history
 a 1 put ok
 a 2 get 0
@@ -105,10 +454,15 @@ a 3 flush fault
 a 4 get 0
 miss
 disk failed
-";
+",
+    status: 6,
+    ..LISTED
+};
 
 /// One lane that flushes again where its first flush has failed.
-const AGAIN: &str = "dataset class=od,expver=0001,date=20240101,time=0000
+const AGAIN: &[Part] = &[
+    Part::Text(
+        "dataset class=od,expver=0001,date=20240101,time=0000
 lane a class=od,expver=0001
 put 1
 get retrieve,class=od,expver=0001,date=20240101,time=00,centre=98,type=1,levtype=100,param=0.0.0,step=0,levelist=100000
@@ -116,10 +470,16 @@ flush
 flush
 get retrieve,class=od,expver=0001,date=20240101,time=00,centre=98,type=1,levtype=100,param=0.0.0,step=0,levelist=100000
 messages
-";
+",
+    ),
+    Part::Field(&[]),
+];
 
-/// The transcript of that lane, where the sync of the entry's body fails.
-const RELISTED: &str = "before 0
+/// What it does where the sync of the entry's body fails.
+const RELISTED: Row = Row {
+    input: AGAIN,
+    output: FIELD,
+    report: "before 0
 history a.1
 a 1 put ok
 a 2 get 0
@@ -129,31 +489,26 @@ a 4 flush 1
 a 5 get 1
 found 183
 disk failed
-";
+",
+    status: 6,
+    ..SESSION
+};
 
-/// A session in which this sync of the table fails ends so.
-fn check_fault<R: Abort + Threads + Wait + Sync>(
-    rt: &R,
-    alloc: Global,
-    sync: u32,
-    script: &str,
-    output: &[u8],
-    report: &str,
-) -> Result<(), Fail> {
-    let input = with_field(alloc, script)?;
-    let mut store = MemStore::new(alloc, 65_536, 256)?;
-    store.fail(alloc, TABLE, Op::Sync, sync)?;
-    let rows = [
-        told(&CREATE, SCHEMA, Status::Done, CREATED),
-        ended(&SESSION, &input, Status::DiskFault, output, report),
-    ];
-    check_rows(rt, alloc, &mut store, &rows)
-}
+const FAILING: &[Case] = &[
+    Case {
+        fails: Some((TABLE, Op::Sync, 3)),
+        rows: &[CREATED, UNLISTED],
+        ..CASE
+    },
+    Case {
+        fails: Some((TABLE, Op::Sync, 2)),
+        rows: &[CREATED, RELISTED],
+        ..CASE
+    },
+];
 
 /// After a fault a lane goes on with its next step, and what it has pending is listed by its next flush.
 #[test]
-fn a_lane_goes_on_after_a_fault(rt: HostRuntime) -> Result<(), Fail> {
-    let alloc = rt.alloc();
-    check_fault(&rt, alloc, 3, SCRIPT, b"", UNLISTED)?;
-    check_fault(&rt, alloc, 2, AGAIN, &FIELD, RELISTED)
+fn a_lane_goes_on_after_a_fault(rt: HostRuntime) {
+    assert_eq!(rt; first_wrong(&rt, rt.alloc(), FAILING), None);
 }

@@ -1,55 +1,72 @@
 //! The command `trial`, over stores in memory.
-use super::{ARCHIVE, CREATE, CREATED, FIELD, ONE_ARCHIVED, SCHEMA, STATS, check_rows, told};
-use fd_disk_mem::MemStore;
-use fd_outcome::Status;
-use std::test::Fail;
+use super::cases::{CASE, Case, ROW, Row, first_wrong};
+use super::octets::Part;
+use super::stores::{ARCHIVED, CREATED, EMPTY};
 
-const FOUR_HUNDRED: [&str; 5] = ["trial", "s", "400", "--workers", "4"];
+/// Four workers store 400 messages, and each is found.
+const ALL_FOUND: Row = Row {
+    words: &["trial", "s", "400", "--workers", "4"],
+    report: "trial 400 found 400 bytes 73200 missed 0\n",
+    ..ROW
+};
 
-const FEW: [&str; 3] = ["trial", "s", "3"];
+const FEW_FOUND: Row = Row {
+    words: &["trial", "s", "3"],
+    report: "trial 3 found 3 bytes 549 missed 0\n",
+    ..ROW
+};
 
-/// Each of 400 messages that four workers store is found, also where they are stored again.
+const TRYING: &[Case] = &[
+    // Each message is found, also where all are stored again, and the store was founded.
+    Case {
+        rows: &[
+            ALL_FOUND,
+            ALL_FOUND,
+            Row {
+                report: "refused SchemaPresent\n",
+                status: 3,
+                ..CREATED
+            },
+        ],
+        ..CASE
+    },
+    // A schema of the same rules in other words is gone by, and the messages are stored again.
+    Case {
+        rows: &[
+            Row {
+                input: &[Part::Text(
+                    "[class,expver,date,time[centre,type,levtype[param,step,levelist?]]] # the same\n",
+                )],
+                ..CREATED
+            },
+            FEW_FOUND,
+            ARCHIVED,
+            FEW_FOUND,
+        ],
+        ..CASE
+    },
+    // A schema of other rules is refused, and nothing is stored.
+    Case {
+        rows: &[
+            Row {
+                input: &[Part::Text(
+                    "[class, expver, date [centre, type, levtype [param, step, levelist?]]]",
+                )],
+                ..CREATED
+            },
+            Row {
+                report: "refused SchemaDifferent\n",
+                status: 3,
+                ..FEW_FOUND
+            },
+            EMPTY,
+        ],
+        ..CASE
+    },
+];
+
+/// A trial finds what it stores, by the schema that is there or by its own, and goes by no other rules.
 #[test]
-fn finds_what_it_stores(rt: HostRuntime) -> Result<(), Fail> {
-    let alloc = rt.alloc();
-    let mut store = MemStore::new(alloc, 131_072, 2048)?;
-    let all = "trial 400 found 400 bytes 73200 missed 0\n";
-    let rows = [
-        told(&FOUR_HUNDRED, b"", Status::Done, all),
-        told(&FOUR_HUNDRED, b"", Status::Done, all),
-        told(&CREATE, SCHEMA, Status::Refused, "refused SchemaPresent\n"),
-    ];
-    check_rows(&rt, alloc, &mut store, &rows)
-}
-
-/// A schema of the same rules in other words is gone by, and a trial stores its messages again.
-#[test]
-fn goes_by_the_same_rules(rt: HostRuntime) -> Result<(), Fail> {
-    let alloc = rt.alloc();
-    let mut store = MemStore::new(alloc, 65_536, 256)?;
-    let spaced =
-        b"[class,expver,date,time[centre,type,levtype[param,step,levelist?]]] # the same\n";
-    let few = "trial 3 found 3 bytes 549 missed 0\n";
-    let rows = [
-        told(&CREATE, spaced, Status::Done, CREATED),
-        told(&FEW, b"", Status::Done, few),
-        told(&ARCHIVE, &FIELD, Status::Done, ONE_ARCHIVED),
-        told(&FEW, b"", Status::Done, few),
-    ];
-    check_rows(&rt, alloc, &mut store, &rows)
-}
-
-/// A schema of other rules is refused, and nothing is stored.
-#[test]
-fn refuses_other_rules(rt: HostRuntime) -> Result<(), Fail> {
-    let alloc = rt.alloc();
-    let mut store = MemStore::new(alloc, 65_536, 256)?;
-    let shorter = b"[class, expver, date [centre, type, levtype [param, step, levelist?]]]";
-    let different = "refused SchemaDifferent\n";
-    let rows = [
-        told(&CREATE, shorter, Status::Done, CREATED),
-        told(&FEW, b"", Status::Refused, different),
-        told(&STATS, b"", Status::Done, ""),
-    ];
-    check_rows(&rt, alloc, &mut store, &rows)
+fn tries(rt: HostRuntime) {
+    assert_eq!(rt; first_wrong(&rt, rt.alloc(), TRYING), None);
 }

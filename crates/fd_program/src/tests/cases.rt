@@ -1,0 +1,375 @@
+//! Rows of the top call, and cases of rows over a store.
+ghost use Rattle.std.specs.Prelude.{◌≡◌, List, ℕ, false};
+
+use super::octets::{Part, are, push_parts};
+use crate::top::fdb;
+use fd_disk::Store;
+use fd_disk_mem::{MemStore, Op};
+use fd_io::{Gate, MemSink, MemSource, Sink, Source};
+use std::alloc::Global;
+use std::sync::Wait;
+use std::sync::atomic::{AtomicU64, Ordering};
+use std::thread::Threads;
+
+/// Holds the step of one of the first two lanes or workers until the other has asked for so many steps.
+#[derive(Clone, Copy)]
+pub(super) struct Hold {
+    pub(super) lane: u32,
+    pub(super) step: u32,
+    pub(super) until: u64,
+}
+
+/// A run of the top call: its words and its input, and the output, the report and the status that it ends with.
+#[derive(Clone, Copy)]
+pub(super) struct Row {
+    pub(super) words: &'static [&'static str],
+    pub(super) input: &'static [Part],
+    pub(super) output: &'static [Part],
+    pub(super) report: &'static str,
+    pub(super) status: u8,
+    /// The reads of the input that fail, by their numbers from 1.
+    pub(super) reads: &'static [u32],
+    /// The writes of the output that fail.
+    pub(super) writes: &'static [u32],
+    /// The writes of the report that fail.
+    pub(super) tellings: &'static [u32],
+    /// What is held at the gate. Each hold is come to once, and ends.
+    pub(super) holds: &'static [Hold],
+}
+
+/// A run over no input that ends with 0 and writes nothing, where no call fails and nobody is held.
+pub(super) const ROW: Row = Row {
+    words: &[],
+    input: &[],
+    output: &[],
+    report: "",
+    status: 0,
+    reads: &[],
+    writes: &[],
+    tellings: &[],
+    holds: &[],
+};
+
+/// What befalls a store from outside.
+#[derive(Clone, Copy)]
+pub(super) enum Event {
+    /// Nothing.
+    Nothing,
+    /// A crash, with this choice of what is left.
+    Crash(u64),
+    /// A file has the octets of these parts and those.
+    Replaced(&'static str, &'static [Part], &'static [Part]),
+    /// A file is away.
+    Removed(&'static str),
+}
+
+/// Rows over one new store, of which a call may be planned to fail, an event, and rows behind it.
+#[derive(Clone, Copy)]
+pub(super) struct Case {
+    /// How many octets a read of the input gives at most.
+    pub(super) piece: u32,
+    /// The call of a file that fails.
+    pub(super) fails: Option<(&'static str, Op, u32)>,
+    pub(super) rows: &'static [Row],
+    pub(super) event: Event,
+    pub(super) after: &'static [Row],
+}
+
+/// No rows, and no failing call.
+pub(super) const CASE: Case = Case {
+    piece: 100,
+    fails: None,
+    rows: &[],
+    event: Event::Nothing,
+    after: &[],
+};
+
+/// The gate of a row: how many steps the first two lanes have asked for, how many of these were held, and how many in vain.
+#[derive(Drop)]
+struct Turns {
+    first: AtomicU64,
+    second: AtomicU64,
+    held: AtomicU64,
+    vain: AtomicU64,
+    holds: &'static [Hold],
+}
+
+/// Waits until so many steps were asked for, and tells whether they were.
+fn waited(asked: &AtomicU64, until: u64) -> bool {
+    for _ in 0..100_000_000u32 {
+        if asked.load(Ordering::SeqCst) >= until {
+            return true;
+        }
+    }
+    false
+}
+
+impl Turns {
+    /// A gate that nobody has passed.
+    fn new(holds: &'static [Hold]) -> Turns {
+        Turns {
+            first: AtomicU64::new(0),
+            second: AtomicU64::new(0),
+            held: AtomicU64::new(0),
+            vain: AtomicU64::new(0),
+            holds,
+        }
+    }
+
+    /// Tells whether each hold was come to once, and has ended.
+    fn are_met(&self) -> bool {
+        let held = self.held.load(Ordering::SeqCst);
+        let vain = self.vain.load(Ordering::SeqCst);
+        held == self.holds.len() as u64 && vain == 0
+    }
+
+    /// Holds this step until the other lane has asked for as many as it is to wait for.
+    fn hold(&self, lane: u32, step: u32, other: &AtomicU64) {
+        for hold in self.holds {
+            if hold.lane == lane && hold.step == step {
+                self.held.fetch_add(1, Ordering::SeqCst);
+                if !waited(other, hold.until) {
+                    self.vain.fetch_add(1, Ordering::SeqCst);
+                }
+            }
+        }
+    }
+}
+
+impl Gate for Turns {
+    fn pass<R: Wait>(&self, _rt: &R, lane: u32, step: u32) {
+        match lane {
+            1 => {
+                self.first.fetch_add(1, Ordering::SeqCst);
+                self.hold(lane, step, &self.second);
+            }
+            2 => {
+                self.second.fetch_add(1, Ordering::SeqCst);
+                self.hold(lane, step, &self.first);
+            }
+            _ => {}
+        }
+    }
+}
+
+/// What a row reads and writes.
+#[derive(Drop)]
+struct Streams {
+    input: MemSource,
+    output: MemSink,
+    report: MemSink,
+}
+
+/// The input of a row, in pieces of so many octets.
+fn source_of(alloc: Global, row: &Row, piece: u32) -> Option<MemSource> {
+    let mut octets = Vec::new(alloc);
+    if push_parts(alloc, &mut octets, row.input) {
+        MemSource::new(alloc, &octets, piece.max(1), row.reads).ok()
+    } else {
+        None
+    }
+}
+
+/// What a row reads, and empty sinks.
+fn streams_of(alloc: Global, row: &Row, piece: u32) -> Option<Streams> {
+    let input = source_of(alloc, row, piece)?;
+    let output = MemSink::new(alloc, 80_000, row.writes).ok()?;
+    let report = MemSink::new(alloc, 1000, row.tellings).ok()?;
+    Some(Streams {
+        input,
+        output,
+        report,
+    })
+}
+
+/// The exit status of a run of the top call.
+fn status_of<
+    F: Send + Drop,
+    X: Drop,
+    S: Store<F>,
+    I: Source<X>,
+    K: Sink<X>,
+    R: Threads + Wait + Sync,
+>(
+    rt: &R,
+    alloc: Global,
+    row: &Row,
+    store: &mut S,
+    input: &mut I,
+    output: &mut K,
+    report: &mut K,
+    gate: &Turns,
+) -> u8
+where
+    requires home { (name : List ℕ) → S.out store.old name ≡ false }
+    ensures home { (name : List ℕ) → S.out store.new name ≡ false }
+{
+    fdb(rt, alloc, row.words, store, input, output, report, gate).code()
+}
+
+/// Tells whether a run with this status has written what its row says, and met what its gate holds.
+fn is_right(alloc: Global, row: &Row, streams: &Streams, status: u8, gate: &Turns) -> bool {
+    status == row.status
+        && gate.are_met()
+        && streams.report.taken() == row.report.as_bytes()
+        && are(alloc, streams.output.taken(), row.output)
+}
+
+/// Runs a row over this store, and tells whether it ends as it says.
+fn ends_so<F: Send + Drop, S: Store<F>, R: Threads + Wait + Sync>(
+    rt: &R,
+    alloc: Global,
+    store: &mut S,
+    row: &Row,
+    piece: u32,
+) -> bool
+where
+    requires home { (name : List ℕ) → S.out store.old name ≡ false }
+    ensures home { (name : List ℕ) → S.out store.new name ≡ false }
+{
+    let Some(mut streams) = streams_of(alloc, row, piece) else {
+        return false;
+    };
+    let gate = Turns::new(row.holds);
+    let status = status_of(
+        rt,
+        alloc,
+        row,
+        store,
+        &mut streams.input,
+        &mut streams.output,
+        &mut streams.report,
+        &gate,
+    );
+    is_right(alloc, row, &streams, status, &gate)
+}
+
+/// Runs rows over this store, one after the other, and tells whether each ends as it says.
+pub(super) fn all_end_so<F: Send + Drop, S: Store<F>, R: Threads + Wait + Sync>(
+    rt: &R,
+    alloc: Global,
+    store: &mut S,
+    rows: &[Row],
+    piece: u32,
+) -> bool
+where
+    requires home { (name : List ℕ) → S.out store.old name ≡ false }
+    ensures home { (name : List ℕ) → S.out store.new name ≡ false }
+{
+    for row in rows {
+        if !ends_so(rt, alloc, store, row, piece) {
+            return false;
+        }
+    }
+    true
+}
+
+/// The same, over a store in memory.
+fn all_end_in_memory<R: Threads + Wait + Sync>(
+    rt: &R,
+    alloc: Global,
+    store: &mut MemStore,
+    rows: &[Row],
+    piece: u32,
+) -> bool {
+    all_end_so(rt, alloc, store, rows, piece)
+}
+
+/// Plans the call that is to fail, and tells whether there was memory for it.
+fn plan(alloc: Global, store: &mut MemStore, fails: Option<(&str, Op, u32)>) -> bool {
+    match fails {
+        Some((file, op, number)) => store.fail(alloc, file, op, number).is_ok(),
+        None => true,
+    }
+}
+
+/// An empty store, of which a call may be planned to fail.
+fn store_of(alloc: Global, case: &Case) -> Option<MemStore> {
+    match MemStore::new(alloc, 131_072, 2048) {
+        Ok(mut store) => {
+            if plan(alloc, &mut store, case.fails) {
+                Some(store)
+            } else {
+                None
+            }
+        }
+        Err(_) => None,
+    }
+}
+
+/// Has a file be of these octets, or be away, and tells whether there was memory for it.
+fn replace(alloc: Global, store: &mut MemStore, file: &str, octets: Option<&[u8]>) -> bool {
+    file.len() <= 259 && store.replace(alloc, file, octets).is_ok()
+}
+
+/// Has a file be of the octets of these parts and those.
+fn damage(
+    alloc: Global,
+    store: &mut MemStore,
+    file: &str,
+    whole: &[Part],
+    changes: &[Part],
+) -> bool {
+    let mut octets = Vec::new(alloc);
+    push_parts(alloc, &mut octets, whole)
+        && push_parts(alloc, &mut octets, changes)
+        && replace(alloc, store, file, Some(&octets))
+}
+
+/// The store after a crash.
+fn crashed(alloc: Global, store: MemStore, choice: u64) -> Option<MemStore> {
+    match store.crash(alloc, choice) {
+        Ok(store) => Some(store),
+        Err(_) => None,
+    }
+}
+
+/// Has an event other than a crash befall the store, and tells whether there was memory for it.
+fn befalls(alloc: Global, store: &mut MemStore, event: &Event) -> bool {
+    match event {
+        Event::Replaced(file, whole, changes) => damage(alloc, store, file, whole, changes),
+        Event::Removed(file) => replace(alloc, store, file, None),
+        Event::Nothing => true,
+        Event::Crash(_) => false,
+    }
+}
+
+/// The store after an event.
+fn after(alloc: Global, mut store: MemStore, event: &Event) -> Option<MemStore> {
+    if let Event::Crash(choice) = event {
+        return crashed(alloc, store, *choice);
+    }
+    if befalls(alloc, &mut store, event) {
+        Some(store)
+    } else {
+        None
+    }
+}
+
+/// Runs the rows of a case, and tells whether each ends as it says.
+fn holds<R: Threads + Wait + Sync>(rt: &R, alloc: Global, case: &Case) -> bool {
+    let Some(mut store) = store_of(alloc, case) else {
+        return false;
+    };
+    let before = all_end_in_memory(rt, alloc, &mut store, case.rows, case.piece);
+    match after(alloc, store, &case.event) {
+        Some(mut store) => {
+            all_end_in_memory(rt, alloc, &mut store, case.after, case.piece) && before
+        }
+        None => false,
+    }
+}
+
+/// The number of the first case that doesn't hold, from 0.
+pub(super) fn first_wrong<R: Threads + Wait + Sync>(
+    rt: &R,
+    alloc: Global,
+    cases: &[Case],
+) -> Option<usize> {
+    for (number, case) in cases.iter().enumerate() {
+        if !holds(rt, alloc, case) {
+            return Some(number);
+        }
+    }
+    None
+}

@@ -1,0 +1,264 @@
+//! The commands over a store in memory, and once over real files.
+use super::cases::{CASE, Case, ROW, Row, all_end_so, first_wrong};
+use super::octets::{FIELD, NEWER, Part};
+use fd_disk_mem::Op;
+use fd_disk_real::RealStore;
+
+pub(super) const SCHEMA: &[Part] = &[Part::Text(
+    "[class, expver, date, time [centre, type, levtype [param, step, levelist?]]]",
+)];
+
+/// The founding of the store.
+pub(super) const CREATED: Row = Row {
+    words: &["create", "s"],
+    input: SCHEMA,
+    report: "created\n",
+    ..ROW
+};
+
+const PRESENT: Row = Row {
+    report: "refused SchemaPresent\n",
+    status: 3,
+    ..CREATED
+};
+
+const CREATING: &[Case] = &[Case {
+    fails: Some(("schema", Op::Read, 2)),
+    rows: &[
+        Row {
+            input: &[Part::Text("[class [param]]")],
+            report: "refused schema 1 Depth\n",
+            status: 3,
+            ..CREATED
+        },
+        Row {
+            report: "disk failed\n",
+            status: 6,
+            ..CREATED
+        },
+        CREATED,
+        PRESENT,
+    ],
+    ..CASE
+}];
+
+/// A store is founded once, and its schema is read each time.
+#[test]
+fn creates(rt: HostRuntime) {
+    assert_eq!(rt; first_wrong(&rt, rt.alloc(), CREATING), None);
+}
+
+/// The archiving of the field.
+pub(super) const ARCHIVED: Row = Row {
+    words: &["archive", "s", "--with=class=od,expver=0001"],
+    input: FIELD,
+    report: "archived 1 datasets 1 junk 0\n",
+    ..ROW
+};
+
+/// A request of the field, which finds it.
+pub(super) const RETRIEVED: Row = Row {
+    words: &["retrieve", "s"],
+    input: &[Part::Text(
+        "retrieve,class=od,expver=0001,date=20240101,time=00,centre=98,type=1,levtype=100,param=0.0.0,step=0,levelist=100000",
+    )],
+    output: FIELD,
+    report: "found 1 missed 0\n",
+    ..ROW
+};
+
+/// A request of a level that no field has.
+const MISSED: Row = Row {
+    words: &["retrieve", "s"],
+    input: &[Part::Text(
+        "retrieve,class=od,expver=0001,date=20240101,time=00,centre=98,type=1,levtype=100,param=0.0.0,step=0,levelist=5",
+    )],
+    report: "miss class=od,expver=0001,date=20240101,time=0000,centre=98,type=1,levtype=100,param=0.0.0,step=0,levelist=5
+found 0 missed 1
+",
+    status: 1,
+    ..ROW
+};
+
+/// What a store tells of itself that has no field.
+pub(super) const EMPTY: Row = Row {
+    words: &["stats", "s"],
+    ..ROW
+};
+
+const BEGINNING: &[Case] = &[Case {
+    fails: Some(("schema", Op::Read, 7)),
+    rows: &[
+        Row {
+            report: "refused SchemaMissing\n",
+            status: 3,
+            ..ARCHIVED
+        },
+        Row {
+            report: "refused SchemaMissing\n",
+            status: 3,
+            ..MISSED
+        },
+        CREATED,
+        MISSED,
+        Row {
+            input: &[],
+            report: "archived 0 datasets 0 junk 0\n",
+            ..ARCHIVED
+        },
+        EMPTY,
+        Row {
+            report: "disk failed\n",
+            status: 6,
+            ..EMPTY
+        },
+    ],
+    ..CASE
+}];
+
+/// What a store has before an archive and after an empty one: no field and no dataset.
+#[test]
+fn begins_empty(rt: HostRuntime) {
+    assert_eq!(rt; first_wrong(&rt, rt.alloc(), BEGINNING), None);
+}
+
+const BY_TWO: &[&str] = &["retrieve", "--workers", "2", "s"];
+
+const ARCHIVING: &[Case] = &[Case {
+    rows: &[
+        CREATED,
+        ARCHIVED,
+        RETRIEVED,
+        Row {
+            words: BY_TWO,
+            ..RETRIEVED
+        },
+        Row {
+            words: BY_TWO,
+            ..MISSED
+        },
+        Row {
+            input: NEWER,
+            ..ARCHIVED
+        },
+        Row {
+            output: NEWER,
+            ..RETRIEVED
+        },
+    ],
+    ..CASE
+}];
+
+/// A field that is archived is found, and no other.
+#[test]
+fn archives(rt: HostRuntime) {
+    assert_eq!(rt; first_wrong(&rt, rt.alloc(), ARCHIVING), None);
+}
+
+/// What a store of the one field lists.
+pub(super) const LISTED: Row = Row {
+    words: &["list", "s"],
+    input: &[Part::Text("list,param=0.0.0")],
+    output: &[Part::Text(
+        "class=od,expver=0001,date=20240101,time=0000 centre=98,type=1,levtype=100 param=0.0.0,step=0,levelist=100000 183 1\n",
+    )],
+    ..ROW
+};
+
+/// What it tells of itself.
+pub(super) const ONE_FIELD: Row = Row {
+    output: &[Part::Text(
+        "class=od,expver=0001,date=20240101,time=0000 entries 1 fields 1 keys 1 bytes 183\n",
+    )],
+    ..EMPTY
+};
+
+const TELLING: &[Case] = &[Case {
+    rows: &[
+        CREATED,
+        ARCHIVED,
+        LISTED,
+        Row {
+            words: &["axes", "s"],
+            output: &[Part::Text(
+                "class=od,expver=0001,date=20240101,time=0000 centre=98,type=1,levtype=100 levelist=100000
+class=od,expver=0001,date=20240101,time=0000 centre=98,type=1,levtype=100 param=0.0.0
+class=od,expver=0001,date=20240101,time=0000 centre=98,type=1,levtype=100 step=0
+",
+            )],
+            ..LISTED
+        },
+        ONE_FIELD,
+        Row {
+            input: NEWER,
+            ..ARCHIVED
+        },
+        Row {
+            output: &[Part::Text(
+                "class=od,expver=0001,date=20240101,time=0000 centre=98,type=1,levtype=100 param=0.0.0,step=0,levelist=100000 183 2\n",
+            )],
+            ..LISTED
+        },
+        Row {
+            output: &[Part::Text(
+                "class=od,expver=0001,date=20240101,time=0000 entries 2 fields 2 keys 1 bytes 366\n",
+            )],
+            ..EMPTY
+        },
+        Row {
+            input: &[Part::Text("list,param")],
+            output: &[],
+            report: "refused request 10 Pair\n",
+            status: 3,
+            ..LISTED
+        },
+    ],
+    ..CASE
+}];
+
+/// What a store tells of itself after one field, and after a newer field of its key in an entry of its own.
+#[test]
+fn tells_contents(rt: HostRuntime) {
+    assert_eq!(rt; first_wrong(&rt, rt.alloc(), TELLING), None);
+}
+
+const MASKING: &[Case] = &[Case {
+    rows: &[
+        CREATED,
+        Row {
+            input: &[Part::Field(&[]), Part::Field(&[(178, 43)])],
+            report: "archived 2 datasets 1 junk 0\n",
+            ..ARCHIVED
+        },
+        Row {
+            output: NEWER,
+            ..RETRIEVED
+        },
+        LISTED,
+        Row {
+            output: &[Part::Text(
+                "class=od,expver=0001,date=20240101,time=0000 entries 1 fields 1 keys 1 bytes 366\n",
+            )],
+            ..EMPTY
+        },
+    ],
+    ..CASE
+}];
+
+/// Two fields of one key in one archive are one field of one entry, the later one.
+#[test]
+fn counts_masked_fields_once(rt: HostRuntime) {
+    assert_eq!(rt; first_wrong(&rt, rt.alloc(), MASKING), None);
+}
+
+const KEEPING: &[Row] = &[CREATED, ARCHIVED, RETRIEVED, MISSED];
+
+/// A field is archived and found in real files, in the folder where the test runs.
+#[test]
+fn keeps_files(rt: HostRuntime) {
+    let kept = match RealStore::new(rt.alloc(), rt) {
+        Ok(mut store) => all_end_so(&rt, rt.alloc(), &mut store, KEEPING, 100),
+        Err(_) => false,
+    };
+    assert!(rt; kept);
+}
