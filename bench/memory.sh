@@ -8,8 +8,8 @@
 #     run archived where it ended well or told that it was listed; each field that is found is the one that was sent;
 #   - an archive of the same after that ends well, and then all is found.
 # A request is refused by a library that is loaded before the C library, and counts only those of the program itself.
-# SECONDS_LONG says how many seconds are enough (240). FDB names the program, where it isn't to be built here. CC names the
-# compiler of C (cc). Prints a line for each command and the sums, and ends with 1 at a wrong answer, with 2 where nothing was
+# SECONDS_LONG says how many seconds are enough (240), JOBS how many runs go side by side (1), ONLY a word of the titles of the
+# commands that are run (all). FDB names the program, where it isn't to be built here. CC names the compiler of C (cc). Prints a line for each command and the sums, and ends with 1 at a wrong answer, with 2 where nothing was
 # refused. Where NUMBERS has numbers ('150 900'), the program's tests are run unproved instead, with the request of that number
 # refused to each test: a test that doesn't pass then has to tell `NoMemory`. No part of the gate.
 set -eu
@@ -90,10 +90,11 @@ void *realloc(void *block, size_t size) {
 }
 C
 "${CC:-cc}" -O1 -shared -fPIC -o "$work/refuse.so" "$work/refuse.c"
-python3 - "$fdb" "$work" "${RUNS:-400}" "${SECONDS_LONG:-240}" "$top/bench" <<'PY'
-import os, pathlib, shutil, struct, subprocess, sys, time
+python3 - "$fdb" "$work" "${RUNS:-400}" "${SECONDS_LONG:-240}" "$top/bench" "${JOBS:-1}" "${ONLY:-}" <<'PY'
+import multiprocessing, os, pathlib, shutil, struct, subprocess, sys, time
 
 fdb, work, most, seconds, bench = sys.argv[1], sys.argv[2], int(sys.argv[3]), float(sys.argv[4]), sys.argv[5]
+jobs, only = int(sys.argv[6]), sys.argv[7]
 sys.path.insert(0, bench)
 from messages import message
 
@@ -176,20 +177,22 @@ def numbers(count):
     return [*range(1, 101), *range(101, count + 1, apart)]
 
 
-def tried(title, start, words, given, request=ONE, whole=(FIELD,), stream=b"", before=None, after=None, listed=None):
-    """Runs a command with each request refused. `before` and `after` are the messages that were acknowledged before it, and that
-    are once it ended well, where it runs over a store; `listed` tells by its report what a refused run acknowledged."""
-    global runs, refusals
+def part_tried(part, start, words, given, request, whole, stream, before, after, listed):
+    """What becomes of one job's part of the runs, in a store of its own: how often memory was asked for, how many runs there were,
+    how many requests were refused and how many runs ended with 7, the number at which it stopped, and what was wrong."""
+    global store, told
+    shared, store, told = store, f"{work}/store{part}", f"{work}/told{part}"
+    words = [store if word == shared else word for word in words]
     laid(start)
     own = run(words, given, 0)
-    count, wrong, seven, tries = own[3], 0, 0, 0
-    for number in numbers(count):
+    tries, refusals, seven, stopped, wrong = 0, 0, 0, None, []
+    for number in list(numbers(own[3]))[part::jobs]:
         if time.time() - begun > seconds:
-            print(f"  {title}: stopped before number {number}, for want of time")
+            stopped = number
             break
         laid(start)
         status, output, report, _, refused = run(words, given, number)
-        tries, runs, refusals = tries + 1, runs + 1, refusals + refused
+        tries, refusals = tries + 1, refusals + refused
         is_seven = status == 7 and report.endswith(b"no memory\n") and own[1].startswith(output)
         is_own = (status, output, report) == own[:3]
         fault = None if is_seven or is_own else f"status {status}, report {report[-200:]!r}, {len(output)} bytes"
@@ -198,9 +201,40 @@ def tried(title, start, words, given, request=ONE, whole=(FIELD,), stream=b"", b
             acknowledged = after if is_own else listed(report) if listed else before
             fault = sound(acknowledged, request, list(whole), stream)
         if fault:
-            wrong += 1
-            faults.append(f"{title}, request {number}: {fault}")
-    print(f"{title}: {count} requests for memory, {tries} runs, {seven} ended with 7, {wrong} wrong", flush=True)
+            wrong.append((number, fault))
+    return own[3], tries, refusals, seven, stopped, wrong
+
+
+def tried(title, start, words, given, request=ONE, whole=(FIELD,), stream=b"", before=None, after=None, listed=None):
+    """Runs a command with each request refused. `before` and `after` are the messages that were acknowledged before it, and that
+    are once it ended well, where it runs over a store; `listed` tells by its report what a refused run acknowledged."""
+    global runs, refusals
+    if only not in title:
+        return
+    ways = multiprocessing.get_context("fork")
+    ends = [ways.Pipe(False) for _ in range(jobs)]
+
+    def send(part):
+        ends[part][1].send(part_tried(part, start, words, given, request, whole, stream, before, after, listed))
+
+    children = [ways.Process(target=send, args=(part,)) for part in range(jobs)]
+    for child in children:
+        child.start()
+    for _, sender in ends:
+        sender.close()
+    found = [receiver.recv() for receiver, _ in ends]
+    for child in children:
+        child.join()
+    counts = sorted({part[0] for part in found})
+    tries, refused, seven = (sum(part[n] for part in found) for n in (1, 2, 3))
+    runs, refusals = runs + tries, refusals + refused
+    wrong = sorted(fault for part in found for fault in part[5])
+    faults.extend(f"{title}, request {number}: {fault}" for number, fault in wrong)
+    for part in found:
+        if part[4] is not None:
+            print(f"  {title}: stopped before number {part[4]}, for want of time")
+    print(f"{title}: {' or '.join(map(str, counts))} requests for memory, {tries} runs, {refused} refused, {seven} ended with 7, "
+          f"{len(wrong)} wrong", flush=True)
 
 
 none, found = [], [FIELD]
