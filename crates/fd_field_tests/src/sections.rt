@@ -170,60 +170,66 @@ fn refusal_of_two_fields(alloc: Global) -> Option<Bad> {
     message(&octets).err()
 }
 
+/// How much of the message is kept, the place from which these octets stand in it, and its refusal.
+const REFUSALS: [(usize, usize, &[u8], Bad); 12] = [
+    (
+        15,
+        0,
+        b"G",
+        Bad::Short {
+            section: 0,
+            len: 15,
+        },
+    ),
+    (183, 0, b"\0", Bad::NoStart),
+    (183, 7, b"\x01", Bad::Edition(1)),
+    (183, 12, b"\x08\0\0\x01", Bad::TooLong { len: 134_217_729 }),
+    (
+        183,
+        15,
+        b"\xB8",
+        Bad::Length {
+            said: 184,
+            found: 183,
+        },
+    ),
+    (
+        183,
+        15,
+        b"\xB6",
+        Bad::Length {
+            said: 182,
+            found: 183,
+        },
+    ),
+    (
+        183,
+        19,
+        b"\x14",
+        Bad::Short {
+            section: 1,
+            len: 20,
+        },
+    ),
+    (183, 41, b"\x04", Bad::Section { want: 3, found: 4 }),
+    (
+        183,
+        173,
+        b"\x0E",
+        Bad::Over {
+            section: 7,
+            said: 14,
+            left: 13,
+        },
+    ),
+    (183, 173, b"\x08", Bad::NoEnd { at: 178 }),
+    (172, 15, b"\xAC", Bad::Short { section: 7, len: 2 }),
+    (179, 15, b"\xB3", Bad::NoEnd { at: 179 }),
+];
+
 #[test]
 fn refused_messages(rt: HostRuntime) {
-    let over = Bad::Over {
-        section: 7,
-        said: 14,
-        left: 13,
-    };
-    let rows: [(usize, usize, &[u8], Bad); 12] = [
-        (
-            15,
-            0,
-            b"G",
-            Bad::Short {
-                section: 0,
-                len: 15,
-            },
-        ),
-        (183, 0, b"\0", Bad::NoStart),
-        (183, 7, b"\x01", Bad::Edition(1)),
-        (183, 12, b"\x08\0\0\x01", Bad::TooLong { len: 134_217_729 }),
-        (
-            183,
-            15,
-            b"\xB8",
-            Bad::Length {
-                said: 184,
-                found: 183,
-            },
-        ),
-        (
-            183,
-            15,
-            b"\xB6",
-            Bad::Length {
-                said: 182,
-                found: 183,
-            },
-        ),
-        (
-            183,
-            19,
-            b"\x14",
-            Bad::Short {
-                section: 1,
-                len: 20,
-            },
-        ),
-        (183, 41, b"\x04", Bad::Section { want: 3, found: 4 }),
-        (183, 173, b"\x0E", over),
-        (183, 173, b"\x08", Bad::NoEnd { at: 178 }),
-        (172, 15, b"\xAC", Bad::Short { section: 7, len: 2 }),
-        (179, 15, b"\xB3", Bad::NoEnd { at: 179 }),
-    ];
-    for (keep, place, octets, want) in rows {
+    for (keep, place, octets, want) in REFUSALS {
         assert!(rt; refusal(keep, place, octets) == Some(want), "{want:?}");
     }
     let two = Bad::MultiField { section: 4 };
