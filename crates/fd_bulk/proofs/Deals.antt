@@ -1,5 +1,5 @@
 -- A message that is dealt, or isn't.
-use Rattle.std.proofs.Common.{ℕ, Bool, List, Option, Err}
+use Rattle.std.proofs.Common.{◌≡◌, ℕ, Bool, false, List, Option, Err, refl}
 use Rattle.fd_disk.specs.declared.folders.FileName.{FileName}
 use Rattle.fd_disk.specs.Folders.{Contents, Holdings}
 use Rattle.fd_turn.specs.declared.board.Pass.{Pass}
@@ -10,6 +10,7 @@ use Rattle.fd_bulk.specs.declared.bulk.BulkFault.{BulkFault}
 use Rattle.fd_bulk.specs.declared.bulk.BulkFault.TheVariants as faults
 use Rattle.fd_bulk.specs.declared.round.Job.{Job}
 use Rattle.fd_bulk.specs.declared.round.Parcel.{Parcel}
+use Rattle.fd_bulk.specs.Inputs.{is_calm}
 use Rattle.fd_bulk.specs.Crewing.{SeatedAs, TooManyAt, Undealt}
 
 module _ {D H X Y E : Type 0} (has : D → Option Contents) (kept : H → Option (FileName → Option (List ℕ))) (start now : Option Holdings) (all waiting : List Stored) (worker n : ℕ) (datasets texts : List (List ℕ)) (name : List ℕ) (l : OpenDatasets D) (ps : List (Pass X Y)) (js : List (Job (Writing H) (Pass X Y) E)) (parcels : List Parcel) where
@@ -41,3 +42,18 @@ module _ {D H X Y E : Type 0} (has : D → Option Contents) (kept : H → Option
   seated_few b (faults.TooMany count) s = absurd s
   seated_few b faults.InputLimit s = tt
   seated_few b faults.NoMemory s = tt
+
+  -- a read may have failed where that is told
+  pub seated_calm : {Z : Type 0} (fault : BulkFault Z) → SeatedAs has kept start now all waiting worker n datasets (Err fault) l ps js parcels → is_calm fault ≡ false
+  seated_calm (faults.Input f) s = refl
+  seated_calm (faults.Message bad) s = absurd s
+  seated_calm (faults.Cut t) s = absurd s
+  seated_calm (faults.Key number why) s = absurd s
+  seated_calm (faults.NoRule number text) s = absurd s
+  seated_calm faults.Disk s = refl
+  seated_calm (faults.NotATable dataset at want found) s = absurd s
+  seated_calm (faults.Damaged dataset damage) s = absurd s
+  seated_calm (faults.TableFull count) s = refl
+  seated_calm (faults.TooMany count) s = absurd s
+  seated_calm faults.InputLimit s = absurd s
+  seated_calm faults.NoMemory s = refl

@@ -1,15 +1,11 @@
 -- How far a stream was gone over, and what was dealt of it.
-use Rattle.std.proofs.Common.{◌≡◌, inl, inr, ◌≤◌, ◌<◌, ◌^◌, ℕ, ◌+◌, Bool, false, List, [], ◌∷◌, ◌++◌, length, Option, Some, None, IfSome, Ok, Err, sym, ap, subst, ◌∙◌, arith, append_assoc, append-nil, length-append}
+use Rattle.std.proofs.Common.{◌≡◌, inl, inr, ◌≤◌, ◌<◌, ◌^◌, ℕ, ◌+◌, Bool, false, List, [], ◌∷◌, ◌++◌, length, Option, Some, IfSome, Ok, Err, sym, ap, subst, ◌∙◌, arith, append_assoc, append-nil, length-append}
 use Rattle.fd_disk.specs.declared.folders.FileName.{FileName}
 use Rattle.fd_disk.specs.Folders.{Contents, Holdings, folder_at}
 use Rattle.fd_sections.specs.declared.refusal.BadAt.{BadAt}
 use Rattle.fd_sections.specs.Message.{Sections, message_octets}
 use Rattle.fd_sections.specs.Progress.{Progress}
-use Rattle.fd_sections.specs.Splitting.{answer, progress, waiting}
-use Rattle.fd_sections.specs.Stream.{Takes, first, from_mark}
-use Rattle.fd_sections.proofs.Joins.{answered, message_so, refuses_so}
-use Rattle.fd_sections.proofs.Pending.{pending_le, waited}
-use Rattle.fd_sections.proofs.StreamLaws.{before_mark, first_at-takes}
+use Rattle.fd_sections.specs.Joining.{RefusesAs, SplitsOn}
 use Rattle.fd_key.specs.Keys.{key_of}
 use Rattle.fd_key.specs.Pairs.{Pair}
 use Rattle.fd_schema.specs.Rules.{Rule, Texts, place_from}
@@ -20,6 +16,7 @@ use Rattle.fd_library.specs.Open.{OpenDatasets, names_of}
 use Rattle.fd_outcome.specs.Causes.{BadFile, BadTable}
 use Rattle.fd_outcome.specs.Store.{Stands}
 use Rattle.fd_outcome.specs.Archiving.{Stored, datasets_in, is_too_many, stored_at}
+use Rattle.fd_sheets.specs.Sheets.{Passes}
 use Rattle.fd_bulk.specs.declared.bulk.BulkFault.{BulkFault}
 use Rattle.fd_bulk.specs.declared.bulk.BulkFault.TheVariants as faults
 use Rattle.fd_bulk.specs.declared.round.Job.{Job}
@@ -33,16 +30,6 @@ use Rattle.fd_bulk.proofs.Steps.{ended_later, ended_now, ends_there, placed_ends
 octets_push : (all : List Stored) (s : Stored) → octets_of (all ++ s ∷ []) ≡ octets_of all + length s.pair.bytes
 octets_push [] s = omega arith
 octets_push (x ∷ xs) s = omega (arith, octets_push xs s)
-
-pub message_limit : (p : Progress) (m : Sections) → answer p (first p.rest) ≡ Ok (Some m) → length (message_octets m) ≤ 134217728
-message_limit p m e = (message_so p m e).indicator.limit
-
--- the message and what comes behind it are no more than there was
-message_fits : (p : Progress) (m : Sections) (r : List ℕ) → first p.rest ≡ Takes m r → length (message_octets m) + length r ≤ length p.rest
-message_fits p m r e =
-    let b = before_mark p.rest in
-    let l = first_at-takes (from_mark p.rest) m r e in
-    omega (arith, ap length b.1, length-append b.0 (from_mark p.rest), ap length l.whole, length-append (message_octets m) r)
 
 module _ {D H X Y F : Type 0} (has : D → Option Contents) (kept : H → Option (FileName → Option (List ℕ))) where
   -- ---- why a message isn't dealt, and what stands then
@@ -86,39 +73,35 @@ module _ {D H X Y F : Type 0} (has : D → Option Contents) (kept : H → Option
     few_octets : octets_of (all ++ waits) < 2 ^ 63
     few_octets = let sum = g.sum in omega (arith, sum, few)
 
-    pub gone_none : (now : Option Holdings) (q : Progress) → now ≡ before → answer p (first p.rest) ≡ Ok None → q ≡ progress p (first p.rest) → WentOn has kept rules given p q start now (all ++ waits) l ps js parcels
-    gone_none now q same e goes =
-        let is : q ≡ waiting p = goes ∙ waited p (first p.rest) e in
+    pub gone_none : (now : Option Holdings) (q : Progress) → now ≡ before → Passes p q → WentOn has kept rules given p q start now (all ++ waits) l ps js parcels
+    gone_none now q same t =
         let sum = g.sum in
-        let rest : length q.rest ≤ length p.rest = rw is (pending_le p.rest) in
-        let fed : q.fed ≡ p.fed = ap (λ (x : Progress). x.fed) is in
+        let rest = t.fits in
+        let came = t.splits.fed in
+        let count = t.splits.given in
+        let so_far = g.given in
         record {
           all = all;
           waiting = waits;
-          on = went_none rules given p q (all ++ waits) e goes;
+          on = went_none rules given p q (all ++ waits) t.splits;
           going = record {
             deals = subst (λ (n : Option Holdings). Deals has kept start n all waits (datasets_in (all ++ waits)) l ps js parcels) (sym same) g.deals;
-            sum = omega (arith, sum, rest, fed);
-            given = ap (λ (x : Progress). x.given) is ∙ g.given;
+            sum = omega (arith, sum, rest, came);
+            given = omega (arith, count, so_far);
           };
         }
 
-    module _ (m : Sections) (n : ℕ) (e : answer p (first p.rest) ≡ Ok (Some m)) (count : n ≡ p.given) (octets : List ℕ) (whole : octets ≡ message_octets m) (key : List Pair) (place : Texts) (keyed_is : key_of m given ≡ Ok key) (placed : place_from 0 rules key ≡ Some place) where
+    module _ (q : Progress) (m : Sections) (n : ℕ) (t : SplitsOn p q [] (m ∷ [])) (count : n ≡ p.given) (octets : List ℕ) (whole : octets ≡ message_octets m) (fits : length octets + length q.rest ≤ length p.rest) (key : List Pair) (place : Texts) (keyed_is : key_of m given ≡ Ok key) (placed : place_from 0 rules key ≡ Some place) where
       message_is : stored_at place m ≡ message_at place octets
       message_is = ap (message_at place) (sym whole)
 
-      pub gone_one : (now : Option Holdings) (l₂ : OpenDatasets D) (qs : List (Pass X Y)) (ks : List (Job (Writing H) (Pass X Y) (FlushFault F))) (more : List Parcel) (q : Progress) → q ≡ progress p (first p.rest) → is_too_many (datasets_in (all ++ waits)) place.dataset ≡ false
+      pub gone_one : (now : Option Holdings) (l₂ : OpenDatasets D) (qs : List (Pass X Y)) (ks : List (Job (Writing H) (Pass X Y) (FlushFault F))) (more : List Parcel) → is_too_many (datasets_in (all ++ waits)) place.dataset ≡ false
           → Deals has kept start now all (waits ++ message_at place octets ∷ []) (datasets_in (all ++ (waits ++ message_at place octets ∷ []))) l₂ qs ks more → WentOn has kept rules given p q start now (all ++ waits) l₂ qs ks more
-      gone_one now l₂ qs ks more q goes room d =
+      gone_one now l₂ qs ks more room d =
           let s : Stored = message_at place octets in
-          let t = answered p (first p.rest) m e in
-          let q-is : q ≡ progress p (Takes m t.0) = goes ∙ ap (progress p) t.1 in
-          let fits = message_fits p m t.0 t.1 in
           let sum = g.sum in
-          let long = ap length whole in
-          let rest : length q.rest ≡ length t.0 = ap (λ (x : Progress). length x.rest) q-is in
-          let fed : q.fed ≡ p.fed = ap (λ (x : Progress). x.fed) q-is in
-          let one : q.given ≡ p.given + 1 = ap (λ (x : Progress). x.given) q-is in
+          let came = t.fed in
+          let one = t.given in
           let so_far = g.given in
           let all_is : all ++ (waits ++ s ∷ []) ≡ (all ++ waits) ++ s ∷ [] = sym (append_assoc all waits (s ∷ [])) in
           let size : octets_of (all ++ (waits ++ s ∷ [])) ≡ octets_of (all ++ waits) + length octets = ap octets_of all_is ∙ octets_push (all ++ waits) s in
@@ -126,9 +109,9 @@ module _ {D H X Y F : Type 0} (has : D → Option Contents) (kept : H → Option
           record {
             all = all;
             waiting = waits ++ s ∷ [];
-            on = went_one rules given p q m n s (all ++ waits) (all ++ (waits ++ s ∷ [])) e goes count
+            on = went_one rules given p q m n s (all ++ waits) (all ++ (waits ++ s ∷ [])) t count
                 (stored_is rules given (datasets_in (all ++ waits)) (n + 1) m key keyed_is place placed room ∙ ap (λ (x : Stored). Ok x) message_is) all_is;
-            going = record { deals = d; sum = omega (arith, size, fits, sum, long, rest, fed); given = omega (arith, one, so_far, number) };
+            going = record { deals = d; sum = omega (arith, size, fits, sum, came); given = omega (arith, one, so_far, number) };
           }
 
       -- its dataset isn't opened, or the store failed
@@ -140,10 +123,10 @@ module _ {D H X Y F : Type 0} (has : D → Option Contents) (kept : H → Option
       dealt_ends Z now l₂ qs ks more (faults.Key k why) too h past others = absurd h
       dealt_ends Z now l₂ qs ks more (faults.NoRule k text) too h past others = absurd h
       dealt_ends Z now l₂ qs ks more faults.Disk too h past others = tt
-      dealt_ends Z now l₂ qs ks more (faults.NotATable dataset at want found) too h past others = unopened_ends rules given (datasets_in (all ++ waits)) p m n e count key place keyed_is placed dataset h.1 too past others
-      dealt_ends Z now l₂ qs ks more (faults.Damaged dataset damage) too h past others = unopened_ends rules given (datasets_in (all ++ waits)) p m n e count key place keyed_is placed dataset h.1 too past others
+      dealt_ends Z now l₂ qs ks more (faults.NotATable dataset at want found) too h past others = unopened_ends rules given (datasets_in (all ++ waits)) p q m n t count key place keyed_is placed dataset h.1 too past others
+      dealt_ends Z now l₂ qs ks more (faults.Damaged dataset damage) too h past others = unopened_ends rules given (datasets_in (all ++ waits)) p q m n t count key place keyed_is placed dataset h.1 too past others
       dealt_ends Z now l₂ qs ks more (faults.TableFull k) too h past others = absurd h
-      dealt_ends Z now l₂ qs ks more (faults.TooMany k) too h past others = too_many_ends rules given (datasets_in (all ++ waits)) p m n e count key place keyed_is placed Z k h.2 too past others
+      dealt_ends Z now l₂ qs ks more (faults.TooMany k) too h past others = too_many_ends rules given (datasets_in (all ++ waits)) p q m n t count key place keyed_is placed Z k h.2 too past others
       dealt_ends Z now l₂ qs ks more faults.InputLimit too h past others = absurd h
       dealt_ends Z now l₂ qs ks more faults.NoMemory too h past others = tt
 
@@ -158,22 +141,22 @@ module _ {D H X Y F : Type 0} (has : D → Option Contents) (kept : H → Option
       }
 
     -- it has no place
-    pub ended_placed : {Z : Type 0} (m : Sections) (n : ℕ) → answer p (first p.rest) ≡ Ok (Some m) → n ≡ p.given → (fault : BulkFault Z) → PlacedAs rules given (n + 1) m (Err fault) → EndedThere has kept rules given p start before (all ++ waits) l ps js parcels fault
-    ended_placed m n e count fault h = record {
+    pub ended_placed : {Z : Type 0} (q : Progress) (m : Sections) (n : ℕ) → SplitsOn p q [] (m ∷ []) → n ≡ p.given → (fault : BulkFault Z) → PlacedAs rules given (n + 1) m (Err fault) → EndedThere has kept rules given p start before (all ++ waits) l ps js parcels fault
+    ended_placed q m n t count fault h = record {
       all = all;
       waiting = waits;
-      on = ended_now rules given fault p (all ++ waits) (placed_ends rules given (datasets_in (all ++ waits)) p m n e count fault h);
+      on = ended_now rules given fault p (all ++ waits) (placed_ends rules given (datasets_in (all ++ waits)) p q m n t count fault h);
       ends = placed_stands start all waits rules given m before l ps js parcels (n + 1) fault (let so_far = g.given in omega (arith, count, so_far)) g.deals h;
       sum = few_octets;
     }
 
     -- the stream is refused
-    pub ended_stream : (Z : Type 0) (at : BadAt) → answer p (first p.rest) ≡ Err at → EndedThere has kept {Z = Z} rules given p start before (all ++ waits) l ps js parcels (faults.Message at)
-    ended_stream Z at e = record {
+    pub ended_stream : (Z : Type 0) (at : BadAt) → RefusesAs p at → EndedThere has kept {Z = Z} rules given p start before (all ++ waits) l ps js parcels (faults.Message at)
+    ended_stream Z at b = record {
       all = all;
       waiting = waits;
-      on = ended_now rules given (faults.Message at) p (all ++ waits) (ends_there rules given Z (datasets_in (all ++ waits)) p at e);
-      ends = (deals_closes has kept start all waits before (datasets_in (all ++ waits)) l ps js parcels g.deals, g.deals.met, (refuses_so p at e).number ∙ ap (λ (n : ℕ). n + 1) g.given);
+      on = ended_now rules given (faults.Message at) p (all ++ waits) (ends_there rules given Z (datasets_in (all ++ waits)) p at b);
+      ends = (deals_closes has kept start all waits before (datasets_in (all ++ waits)) l ps js parcels g.deals, g.deals.met, b.number ∙ ap (λ (n : ℕ). n + 1) g.given);
       sum = few_octets;
     }
 

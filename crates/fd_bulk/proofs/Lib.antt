@@ -33,7 +33,6 @@ pub mod Closing
 pub mod Lowest
 pub mod Deals
 pub mod Openings
-pub mod Soundness
 pub mod Seats
 pub mod Takings
 pub mod Steps
@@ -43,3 +42,5 @@ pub mod Inputs
 pub mod Readings
 pub mod Settling
 pub mod Finishing
+pub mod Naming
+pub mod Overlaps

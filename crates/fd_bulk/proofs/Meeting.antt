@@ -16,7 +16,7 @@ use Rattle.fd_bulk.specs.declared.round.Desk.{Desk}
 use Rattle.fd_bulk.specs.declared.round.Job.{Job}
 use Rattle.fd_bulk.specs.declared.round.Parcel.{Parcel}
 use Rattle.fd_bulk.specs.Crewing.{AllBegun, AreMet, AreUntouched, Closes, Deals, HasBegun, HasDesk, HoldsRest, Running, Waits, desks_at}
-use Rattle.fd_bulk.specs.Opening.{AreOpen}
+use Rattle.fd_opener.specs.Opening.{AreOpen}
 use Rattle.fd_bulk.specs.Sharing.{AllWork, AreParcels, DeskWorks, its_pairs}
 use Rattle.fd_bulk.specs.Working.{Filling, Stage, Works}
 use Rattle.fd_bulk.proofs.Dealing.{equal_is, equal_to}

@@ -10,7 +10,7 @@ use Rattle.fd_bulk.specs.declared.round.Desk.{Desk}
 use Rattle.fd_bulk.specs.declared.round.Job.{Job}
 use Rattle.fd_bulk.specs.Crewing.{AreMet}
 use Rattle.fd_bulk.specs.Halting.{Each, HasOneMore, IsSameJob}
-use Rattle.fd_bulk.specs.Opening.{AreOpen}
+use Rattle.fd_opener.specs.Opening.{AreOpen}
 use Rattle.fd_bulk.proofs.Joined.{at_end, each_back}
 use Rattle.fd_bulk.proofs.Meeting.{names_set}
 use Rattle.fd_bulk.proofs.Shares.{inside}

@@ -1,9 +1,9 @@
 -- Messages are taken, their places are looked for, and they are dealt.
-use Rattle.std.proofs.Common.{◌≡◌, inl, ◌≤◌, ◌<◌, ◌+◌, ℕ, zero, suc, List, [], ◌∷◌, ◌++◌, length, drop, take, get_or, All, Option, Some, None, Result, Ok, Err, IfErr, OnOk, refl, sym, ap, subst, ◌∙◌, arith, length-append}
+use Rattle.std.proofs.Common.{◌≡◌, ◌≤◌, ◌<◌, ◌+◌, ℕ, List, [], ◌∷◌, ◌++◌, length, drop, get_or, Option, Some, None, Result, Ok, Err, refl, sym, ap, subst, ◌∙◌, arith, length-append}
 use Rattle.std.proofs.lemmas.List.{drop_all, drop_more}
 use Rattle.fd_disk.specs.declared.folders.FileName.{FileName}
 use Rattle.fd_disk.specs.Folders.{Contents, Holdings}
-use Rattle.fd_sections.specs.Message.{Sections, message_octets}
+use Rattle.fd_sections.specs.Message.{Sections}
 use Rattle.fd_sections.specs.Progress.{Progress}
 use Rattle.fd_key.specs.Pairs.{Pair}
 use Rattle.fd_schema.specs.Rules.{IsShort, Rule}
@@ -11,10 +11,8 @@ use Rattle.fd_schema.specs.Reading.{seen_place}
 use Rattle.fd_schema.specs.declared.place.Place.{Place}
 use Rattle.fd_sheets.specs.declared.sheets.Sheet.{Sheet}
 use Rattle.fd_sheets.specs.declared.sheets.Unplaced.{Unplaced}
-use Rattle.fd_sheets.specs.declared.sheets.Unsplit.{Unsplit}
-use Rattle.fd_sheets.specs.declared.sheets.Unsplit.TheVariants as ends
-use Rattle.fd_sheets.specs.Sheets.{FoundAs, IsFound, IsLookedUp, Placed, Staged, Stays}
-use Rattle.fd_sheets.proofs.Placing.{behind_next, placed_all, sheet_fed}
+use Rattle.fd_sheets.specs.Sheets.{FoundAs, IsFound, IsSheet, Passes, Placed}
+use Rattle.fd_sheets.proofs.Placing.{passes_none, sheet_passes}
 use Rattle.fd_turn.specs.declared.board.Pass.{Pass}
 use Rattle.fd_archiver.specs.declared.fault.FlushFault.{FlushFault}
 use Rattle.fd_archiver.specs.Writing.{Writing}
@@ -27,32 +25,18 @@ use Rattle.fd_bulk.specs.declared.round.Parcel.{Parcel}
 use Rattle.fd_bulk.specs.Crewing.{DealtAs, TooManyAt, message_at}
 use Rattle.fd_bulk.specs.Halting.{OnStore}
 use Rattle.fd_bulk.specs.Inputs.{EndedThere, GoesOn, Going, PlacedAs, WentOn}
-use Rattle.fd_bulk.specs.Sheets.{CanDeal, IsTold, ToldAs}
-use Rattle.fd_bulk.proofs.Gone.{ended_dealt, ended_more, ended_placed, ended_starved, ended_stream, gone_more, gone_none, gone_nowhere, gone_one, message_limit}
-use Rattle.fd_bulk.proofs.Turns.{written}
+use Rattle.fd_bulk.specs.Sheets.{CanDeal, ToldAs}
+use Rattle.fd_bulk.proofs.Gone.{ended_dealt, ended_more, ended_placed, gone_more, gone_none, gone_nowhere, gone_one}
 
-module _ (rules : List Rule) (given : List Pair) where
-  -- the same of a list whose slice was written
-  pub placed_written : (p q : Progress) (ss xs ts : List Sheet) (n : ℕ) → Staged p ss q → n ≡ length ss → xs ≡ ss → length ts ≡ length xs → ((i : ℕ) (e : Sheet) → i < length xs → IsLookedUp rules given (get_or xs i e) (get_or ts i e)) → Placed rules given p (take n (ts ++ drop (length ts) ss)) q
-  placed_written p q ss xs ts n h is same long all =
-      let lengths : length ts ≡ length ss = long ∙ ap length same in
-      let looked = subst (λ (ys : List Sheet). (i : ℕ) (e : Sheet) → i < length ys → IsLookedUp rules given (get_or ys i e) (get_or ts i e)) same all in
-      subst (λ (ys : List Sheet). Placed rules given p ys q) (sym (written ss ts n is lengths)) (placed_all rules given p q ss ts h lengths looked)
+module _ (rules : List Rule) (given : List Pair) (p q : Progress) (s : Sheet) (h : Placed rules given p (s ∷ []) q) where
+  here_is : IsSheet p q h.0 s
+  here_is = sheet_passes p h.1 q h.0 s h.2 h.4
 
-  -- ---- one message
+  found_here : (found : Result Place Unplaced) → s.found ≡ Some found → FoundAs rules given h.0 found
+  found_here found is = subst (λ (o : Option (Result Place Unplaced)). IsFound rules given h.0 o) is h.3
 
-  module _ (p q : Progress) (s : Sheet) (h : Placed rules given p (s ∷ []) q) where
-    sheet_limit : length s.bytes ≤ 134217728
-    sheet_limit =
-        let is = h.1 in
-        let short = message_limit p h.0 is.answered in
-        omega (arith, short, ap length is.octets)
-
-    found_here : (found : Result Place Unplaced) → s.found ≡ Some found → FoundAs rules given h.0 found
-    found_here found is = subst (λ (o : Option (Result Place Unplaced)). IsFound rules given h.0 o) is h.2
-
-    never_none : s.found ≡ None → ⊥
-    never_none is = subst (λ (o : Option (Result Place Unplaced)). IsFound rules given h.0 o) is h.2
+  never_none : s.found ≡ None → ⊥
+  never_none is = subst (λ (o : Option (Result Place Unplaced)). IsFound rules given h.0 o) is h.3
 
 -- what is told of a message that has no place is no fault of the store
 placed_quiet : {Z : Type 0} (C : Type 0) (rules : List Rule) (given : List Pair) (number : ℕ) (m : Sections) (fault : BulkFault Z) → PlacedAs rules given number m (Err fault) → OnStore fault C
@@ -77,7 +61,7 @@ module _ {D H X Y F : Type 0} (has : D → Option Contents) (kept : H → Option
     first_short place is = (found_here c.rules c.given c.from c.to s c.placed (Ok place) is).0
 
     pub first_limit : length s.bytes ≤ 134217728
-    first_limit = sheet_limit c.rules c.given c.from c.to s c.placed
+    first_limit = c.placed.2.limit
 
     pub first_told : {Z : Type 0} (C : Type 0) (reason : Unplaced) (fault : BulkFault Z) → s.found ≡ Some (Err reason) → ToldAs s.number reason fault → OnStore fault C
     first_told C reason fault is told = placed_quiet C c.rules c.given s.number c.placed.0 fault (told c.rules c.given c.placed.0 (found_here c.rules c.given c.from c.to s c.placed (Err reason) is))
@@ -93,25 +77,19 @@ module _ {D H X Y F : Type 0} (has : D → Option Contents) (kept : H → Option
           → TooManyAt (is_too_many (datasets_in (all ++ waits)) (seen_place place).dataset) result → DealtAs has kept start now all waits (message_at (seen_place place) s.bytes) result l₂ qs ks more → GoesOn has kept rules given p q start now (all ++ waits) l₂ qs ks more result
       dealt_sheet s place found h now l₂ qs ks more (Ok done) too d =
           let k = (found_here rules given p q s h (Ok place) found).1 in
-          let is = h.1 in
-          gone_one has kept rules given start before all waits l ps js parcels p few g h.0 p.given is.answered refl s.bytes is.octets k.0 (seen_place place) k.1 k.2 now l₂ qs ks more q (sym h.3) too d
+          let is = here_is rules given p q s h in
+          gone_one has kept rules given start before all waits l ps js parcels p few g q h.0 p.given is.splits refl s.bytes is.octets is.fits k.0 (seen_place place) k.1 k.2 now l₂ qs ks more too d
       dealt_sheet s place found h now l₂ qs ks more (Err fault) too d =
           let k = (found_here rules given p q s h (Ok place) found).1 in
-          let is = h.1 in
-          ended_dealt has kept rules given start before all waits l ps js parcels p few g h.0 p.given is.answered refl s.bytes is.octets k.0 (seen_place place) k.1 k.2 now l₂ qs ks more fault too d
+          let is = here_is rules given p q s h in
+          ended_dealt has kept rules given start before all waits l ps js parcels p few g q h.0 p.given is.splits refl s.bytes is.octets is.fits k.0 (seen_place place) k.1 k.2 now l₂ qs ks more fault too d
 
       -- it has no place
       pub unplaced_sheet : (s : Sheet) (reason : Unplaced) (fault : BulkFault Z) → s.found ≡ Some (Err reason) → Placed rules given p (s ∷ []) q → ToldAs s.number reason fault → EndedThere has kept rules given p start before (all ++ waits) l ps js parcels fault
       unplaced_sheet s reason fault found h told =
-          let is = h.1 in
-          ended_placed has kept rules given start before all waits l ps js parcels p few g h.0 p.given is.answered refl fault
+          let is = here_is rules given p q s h in
+          ended_placed has kept rules given start before all waits l ps js parcels p few g q h.0 p.given is.splits refl fault
           (subst (λ (n : ℕ). PlacedAs rules given n h.0 (Err fault)) is.number (told rules given h.0 (found_here rules given p q s h (Err reason) found)))
-
-      -- none comes
-      pub stays_on : (end : Result (Unit {0}) Unsplit) (result : Result (Unit {0}) (BulkFault Z)) → Stays p q end → IsTold end result → GoesOn has kept rules given p q start before (all ++ waits) l ps js parcels result
-      stays_on (Ok done) result h is = subst (GoesOn has kept rules given p q start before (all ++ waits) l ps js parcels) (sym is) (gone_none has kept rules given start before all waits l ps js parcels p few g before q refl h.0 h.1)
-      stays_on (Err (ends.Message at)) result h is = subst (GoesOn has kept rules given p q start before (all ++ waits) l ps js parcels) (sym is) (ended_stream has kept rules given start before all waits l ps js parcels p few g Z at h)
-      stays_on (Err ends.NoMemory) result h is = subst (GoesOn has kept rules given p q start before (all ++ waits) l ps js parcels) (sym is) (ended_starved has kept rules given start before all waits l ps js parcels p few g Z)
 
   -- ---- one message after the other
 
@@ -128,21 +106,24 @@ module _ {D H X Y F : Type 0} (has : D → Option Contents) (kept : H → Option
 
   module _ (rules : List Rule) (given : List Pair) (p q : Progress) (start middle : Option Holdings) (before : List Stored) (s : Sheet) (sheets rest : List Sheet) (is : sheets ≡ s ∷ rest) (l : OpenDatasets D) (ps : List (Pass X Y)) (js : List (Job (Writing H) (Pass X Y) (FlushFault F))) (parcels : List Parcel)
       (w : WentBy rules given p q start middle before sheets l ps js parcels) where
-    here : Placed rules given w.middle (s ∷ rest) q
+    abbrev here : Placed rules given w.middle (s ∷ rest) q
     here = subst (λ (ss : List Sheet). Placed rules given w.middle ss q) is w.placed
 
-    pub next_placed : Placed rules given w.middle (s ∷ []) (behind_next w.middle)
-    next_placed = (here.0, here.1, here.2, refl)
+    abbrev pub next_at : Progress
+    next_at = here.1
 
-    pub next_few : (behind_next w.middle).fed ≤ 68719476736
-    next_few = let few = w.few in omega (arith, few, sheet_fed w.middle here.0 s here.1)
+    pub next_placed : Placed rules given w.middle (s ∷ []) here.1
+    next_placed = (here.0, here.1, here.2, here.3, passes_none here.1)
+
+    pub next_few : here.1.fed ≤ 68719476736
+    next_few = let few = w.few in let came = here.2.splits.fed in omega (arith, few, came)
 
     pub can_deal_next : CanDeal has kept middle (s ∷ []) l ps js parcels
     can_deal_next = record {
       rules = rules;
       given = given;
       from = w.middle;
-      to = behind_next w.middle;
+      to = here.1;
       few = w.few;
       placed = next_placed;
       start = start;
@@ -151,13 +132,13 @@ module _ {D H X Y F : Type 0} (has : D → Option Contents) (kept : H → Option
       going = w.went.going;
     }
 
-    pub went_more : (now : Option Holdings) (l₂ : OpenDatasets D) (qs : List (Pass X Y)) (ks : List (Job (Writing H) (Pass X Y) (FlushFault F))) (more : List Parcel) → WentOn has kept rules given w.middle (behind_next w.middle) start now (w.went.all ++ w.went.waiting) l₂ qs ks more
+    pub went_more : (now : Option Holdings) (l₂ : OpenDatasets D) (qs : List (Pass X Y)) (ks : List (Job (Writing H) (Pass X Y) (FlushFault F))) (more : List Parcel) → WentOn has kept rules given w.middle here.1 start now (w.went.all ++ w.went.waiting) l₂ qs ks more
         → WentBy rules given p q start now before rest l₂ qs ks more
     went_more now l₂ qs ks more v = record {
-      middle = behind_next w.middle;
+      middle = here.1;
       few = next_few;
-      placed = here.3;
-      went = gone_more has kept rules given start middle before l ps js parcels p w.middle w.went now l₂ qs ks more (behind_next w.middle) v;
+      placed = here.4;
+      went = gone_more has kept rules given start middle before l ps js parcels p w.middle w.went now l₂ qs ks more here.1 v;
     }
 
     pub ended_next : {Z : Type 0} (now : Option Holdings) (l₂ : OpenDatasets D) (qs : List (Pass X Y)) (ks : List (Job (Writing H) (Pass X Y) (FlushFault F))) (more : List Parcel) (fault : BulkFault Z) → EndedThere has kept rules given w.middle start now (w.went.all ++ w.went.waiting) l₂ qs ks more fault
@@ -168,27 +149,8 @@ module _ {D H X Y F : Type 0} (has : D → Option Contents) (kept : H → Option
   pub went_all : (rules : List Rule) (given : List Pair) (p q : Progress) (start now : Option Holdings) (before : List Stored) (sheets : List Sheet) (l : OpenDatasets D) (ps : List (Pass X Y)) (js : List (Job (Writing H) (Pass X Y) (FlushFault F))) (parcels : List Parcel) → sheets ≡ [] → WentBy rules given p q start now before sheets l ps js parcels
       → WentOn has kept rules given p q start now before l ps js parcels
   went_all rules given p q start now before sheets l ps js parcels none w =
-      let end : w.middle ≡ q = subst (λ (ss : List Sheet). Placed rules given w.middle ss q) none w.placed in
-      subst (λ (x : Progress). WentOn has kept rules given p x start now before l ps js parcels) end w.went
-
-  -- and then none came
-  pub goes_more : {Z : Type 0} (rules : List Rule) (given : List Pair) (p q r : Progress) (start now : Option Holdings) (before : List Stored) (l : OpenDatasets D) (ps : List (Pass X Y)) (js : List (Job (Writing H) (Pass X Y) (FlushFault F))) (parcels : List Parcel) (w : WentOn has kept rules given p q start now before l ps js parcels)
-      → (result : Result (Unit {0}) (BulkFault Z)) → GoesOn has kept rules given q r start now (w.all ++ w.waiting) l ps js parcels result → GoesOn has kept rules given p r start now before l ps js parcels result
-  goes_more rules given p q r start now before l ps js parcels w (Ok done) v = gone_more has kept rules given start now before l ps js parcels p q w now l ps js parcels r v
-  goes_more rules given p q r start now before l ps js parcels w (Err fault) v = ended_more has kept rules given start now before l ps js parcels p q w now l ps js parcels fault v
-
--- ---- why no message comes
-
-pub told_quiet : {Z : Type 0} (C : Type 0) (end : Result (Unit {0}) Unsplit) (result : Result (Unit {0}) (BulkFault Z)) → IsTold end result → IfErr result (λ e. OnStore e C)
-told_quiet C (Ok done) result is = subst (λ r. IfErr r (λ e. OnStore e C)) (sym is) tt
-told_quiet C (Err (ends.Message at)) result is = subst (λ r. IfErr r (λ e. OnStore e C)) (sym is) tt
-told_quiet C (Err ends.NoMemory) result is = subst (λ r. IfErr r (λ e. OnStore e C)) (sym is) tt
-
--- what holds where no refusal came holds where none is told
-pub told_ok : {Z : Type 0} (P : Type 0) (end : Result (Unit {0}) Unsplit) (result : Result (Unit {0}) (BulkFault Z)) → IsTold end result → OnOk end P → OnOk result P
-told_ok P (Ok done) result is h = subst (λ r. OnOk r P) (sym is) h
-told_ok P (Err (ends.Message at)) result is h = subst (λ r. OnOk r P) (sym is) tt
-told_ok P (Err ends.NoMemory) result is h = subst (λ r. OnOk r P) (sym is) tt
+      let end : Passes w.middle q = subst (λ (ss : List Sheet). Placed rules given w.middle ss q) none w.placed in
+      gone_more has kept rules given start now before l ps js parcels p w.middle w.went now l ps js parcels q (gone_none has kept rules given start now w.went.all w.went.waiting l ps js parcels w.middle w.few w.went.going now q refl end)
 
 -- ---- lists
 

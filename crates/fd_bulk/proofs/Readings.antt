@@ -1,6 +1,6 @@
 -- An input that is read piece by piece: what is dealt at each turn, and at each exit.
 use Rattle.std.proofs.Common.{◌≡◌, inl, ◌≤◌, ◌<◌, ◌^◌, ℕ, ◌+◌, Bool, true, false, List, [], ◌++◌, length, Option, Some, None, Result, Ok, Err, refl, sym, ap, subst, ◌∙◌, append_assoc, append-nil, arith, length-append}
-use Rattle.std.specs.Prelude.{IfSome}
+use Rattle.std.specs.Prelude.{IfErr, IfSome, OnOk}
 use Rattle.std.specs.Io.KnownBytes.{Keeps}
 use Rattle.fd_disk.specs.declared.folders.FileName.{FileName}
 use Rattle.fd_disk.specs.Folders.{Contents, Holdings}
@@ -8,7 +8,7 @@ use Rattle.fd_io.specs.Streams.{Gives, IsAtEnd}
 use Rattle.fd_sections.specs.declared.refusal.Truncated.{Truncated}
 use Rattle.fd_sections.specs.Progress.{Progress}
 use Rattle.fd_sections.specs.Splitting.{start, fed, finished}
-use Rattle.fd_sections.specs.Stream.{First, Unmarked, Partial, Refuses, Takes, first, first_at}
+use Rattle.fd_sections.specs.Stream.{First, Unmarked, Partial, Refuses, Takes, first}
 use Rattle.fd_key.specs.Pairs.{Pair}
 use Rattle.fd_schema.specs.Rules.{Rule}
 use Rattle.fd_turn.specs.declared.board.Pass.{Pass}
@@ -25,7 +25,16 @@ use Rattle.fd_bulk.specs.declared.round.Job.{Job}
 use Rattle.fd_bulk.specs.declared.round.Parcel.{Parcel}
 use Rattle.fd_bulk.specs.Archived.{HasRead}
 use Rattle.fd_bulk.specs.Crewing.{Closes, Deals, octets_of}
-use Rattle.fd_bulk.specs.Inputs.{EndedOn, EndedThere, EndsAfter, EndsFor, EndsOf, EndsTaken, Going, InputDealt, Midway, Reads, WentOn, is_unread}
+use Rattle.fd_sheets.specs.declared.reader.Reach.{Reach}
+use Rattle.fd_sheets.specs.declared.reader.Stop.{Stop}
+use Rattle.fd_sheets.specs.declared.reader.Stop.TheVariants as stops
+use Rattle.fd_sheets.specs.declared.sheets.Sheet.{Sheet}
+use Rattle.fd_sheets.specs.Reading.{HasRead as HasReadOn, StopsAs, is_unread as sheets_unread}
+use Rattle.fd_sheets.proofs.Ahead.{fed_nothing}
+use Rattle.fd_sheets.proofs.Placing.{placed_fed_is}
+use Rattle.fd_bulk.specs.Inputs.{EndedOn, EndedThere, EndsAfter, EndsFor, EndsOf, EndsTaken, Going, InputDealt, Midway, Reads, WentOn, is_calm, is_unread}
+use Rattle.fd_bulk.specs.Sheets.{IsTold}
+use Rattle.fd_bulk.proofs.Gone.{ended_stream}
 use Rattle.fd_sections.specs.Joining.{IsWaiting}
 use Rattle.fd_bulk.specs.Taking.{Seen, StoredOn, taken_from}
 use Rattle.fd_bulk.proofs.Inputs.{ended_in, held_of, seen_more, seen_nothing, taken_cut, taken_past, taken_whole}
@@ -67,13 +76,6 @@ still_left : (b c : Text) (left : List ℕ) → b ≡ Some left → Keeps b c �
 still_left None c left e keeps = absurd cc
 still_left (Some x) None left e keeps = absurd keeps
 still_left (Some x) (Some y) left e keeps = ap (λ (z : List ℕ). Some z) keeps ∙ e
-
-waiting_first : IsWaiting start
-unfolding first_at
-waiting_first = refl
-
-pub waiting_start : (p : Progress) → p ≡ start → IsWaiting p
-waiting_start p e = subst IsWaiting (sym e) waiting_first
 
 pub at_end : (a b c : Text) (P : List ℕ → Type 0) (piece : List ℕ) → Reads a b P → IsAtEnd b → Gives b c piece → piece ≡ [] → IfSome a (λ octets. c ≡ Some [])
 at_end None b c P piece r end gives z = tt
@@ -180,10 +182,10 @@ module _ {D H X Y F : Type 0} (has : D → Option Contents) (kept : H → Option
             read_so left after (Followed piece) (λ octets. EndsAfter e b (taken rules given octets)) (read_on left mid after piece (Seen rules given p so_far) (Followed piece) m.reads gives (λ seen s. (seen, s, refl))) (λ octets both rest x all h.
             ended_in rules given e p so_far b octets h.0 piece rest h.1 (subst (λ (y : List ℕ). octets ≡ y ++ rest) h.2 all) (let f = h.1 in let g = f.splits.fed in omega (arith, g, le, length-append h.0 piece)) on)
 
-        pub stopped_there : (after : Text) (now : Option Holdings) (l₂ : OpenDatasets D) (qs : List (Pass X Y)) (ks : List (Job (Writing H) (Pass X Y) (FlushFault F))) (more : List Parcel) (q : Progress) (piece : List ℕ) → Gives mid after piece → p.fed + length piece ≤ input_limit → q ≡ fed p piece → EndedThere has kept rules given q start_has now so_far l₂ qs ks more e
-            → InputDealt has kept rules given left after start_has now l₂ qs ks more (Err e)
-        stopped_there after now l₂ qs ks more q piece gives le is t =
-            ended_for e after now t.all t.waiting l₂ qs ks more t.ends (ends_in after piece (t.all ++ t.waiting) gives le (subst (λ (x : Progress). EndedOn e (taken_from rules given (datasets_in so_far) x) so_far (t.all ++ t.waiting)) is t.on)) t.sum
+        pub stopped_there : (after behind : Text) (now : Option Holdings) (l₂ : OpenDatasets D) (qs : List (Pass X Y)) (ks : List (Job (Writing H) (Pass X Y) (FlushFault F))) (more : List Parcel) (q : Progress) (piece : List ℕ) → Gives mid after piece → p.fed + length piece ≤ input_limit → q ≡ fed p piece → EndedThere has kept rules given q start_has now so_far l₂ qs ks more e
+            → InputDealt has kept rules given left behind start_has now l₂ qs ks more (Err e)
+        stopped_there after behind now l₂ qs ks more q piece gives le is t =
+            ended_for e behind now t.all t.waiting l₂ qs ks more t.ends (ends_in after piece (t.all ++ t.waiting) gives le (subst (λ (x : Progress). EndedOn e (taken_from rules given (datasets_in so_far) x) so_far (t.all ++ t.waiting)) is t.on)) t.sum
 
         nothing_behind : ((past : Bool) (more : List ℕ) → EndsTaken e (taken_from rules given (datasets_in so_far) (fed p []) past more)) → p.fed ≤ input_limit → IfSome left (λ octets. EndsAfter e so_far (taken rules given octets))
         nothing_behind t le = ends_in mid [] so_far (gives_nothing mid) (omega (arith, le)) (ended_now rules given e (fed p []) so_far t)
@@ -244,3 +246,75 @@ module _ {D H X Y F : Type 0} (has : D → Option Contents) (kept : H → Option
             taken_cut rules given p so_far octets seen t s (all ∙ ap (λ (y : List ℕ). seen ++ y) (none_left mid rest x end)) le waits cut);
         sum = few_octets le;
       })
+
+      -- ---- a batch
+
+      -- what was dealt was stored
+      pub stayed : (now : Option Holdings) (qs : List (Pass X Y)) (ks : List (Job (Writing H) (Pass X Y) (FlushFault F))) (more : List Parcel) → WentOn has kept rules given p p start_has now so_far l qs ks more → Midway has kept rules given left mid start_has now l qs ks more p
+      stayed now qs ks more w = turned mid now l qs ks more p p [] (gives_nothing mid) (sym (fed_nothing p)) w
+
+      pub stopped_here : {Z : Type 0} (e : BulkFault Z) (behind : Text) (now : Option Holdings) (qs : List (Pass X Y)) (ks : List (Job (Writing H) (Pass X Y) (FlushFault F))) (more : List Parcel) → p.fed ≤ input_limit → EndedThere has kept rules given p start_has now so_far l qs ks more e
+          → InputDealt has kept rules given left behind start_has now l qs ks more (Err e)
+      stopped_here e behind now qs ks more le t = stopped_there e mid behind now l qs ks more p [] (gives_nothing mid) (omega (arith, le)) (sym (fed_nothing p)) t
+
+      -- why no more is read
+      pub stop_ends : {Z : Type 0} (stop : Stop Z) (fault : BulkFault Z) (q : Progress) (after : Text) → IsTold stop fault → StopsAs p q mid after (Err stop) → p.fed ≤ input_limit → InputDealt has kept rules given left after start_has before l ps js parcels (Err fault)
+      stop_ends {Z = Z} (stops.Input f) fault q after told h le = subst (λ e. InputDealt has kept rules given left after start_has before l ps js parcels (Err e)) (sym told) (unread Z f after h.1 le h.0)
+      stop_ends {Z = Z} (stops.Message at) fault q after told h le = subst (λ e. InputDealt has kept rules given left after start_has before l ps js parcels (Err e)) (sym told)
+          (stopped_here {Z = Z} (faults.Message at) after before ps js parcels le (ended_stream has kept rules given start_has before m.all m.waiting l ps js parcels p le m.going Z at h))
+      stop_ends {Z = Z} stops.InputLimit fault q after told h le = subst (λ e. InputDealt has kept rules given left after start_has before l ps js parcels (Err e)) (sym told) (past Z after h.2.0 h.2.2 h.2.1 h.1 h.0)
+      stop_ends {Z = Z} stops.NoMemory fault q after told h le = subst (λ e. InputDealt has kept rules given left after start_has before l ps js parcels (Err e)) (sym told) (starved Z after le)
+
+      -- the source has nothing left at its end
+      pub none_behind : (after : Text) → IsAtEnd mid → Gives mid after [] → IfSome left (λ octets. after ≡ Some [])
+      none_behind after end gives = at_end left mid after (Seen rules given p so_far) [] m.reads end gives refl
+
+      module _ {X₂ : Type 0} (q : Progress) (after : Text) (sheets : List Sheet) (end : Result Reach (Stop X₂)) (h : HasReadOn rules given p q mid after sheets end) where
+        pub going_batch : Going has kept start_has before m.all m.waiting l ps js parcels (fed p h.came)
+        going_batch = fed_going before l ps js parcels p (fed p h.came) h.came m.all m.waiting refl m.going
+
+        pub few_middle : h.middle.fed ≤ input_limit
+        few_middle = let few = h.few in omega (arith, few, placed_fed_is rules given (fed p h.came) h.middle sheets h.placed)
+
+        module _ (now : Option Holdings) (l₂ : OpenDatasets D) (qs : List (Pass X Y)) (ks : List (Job (Writing H) (Pass X Y) (FlushFault F))) (more : List Parcel) where
+          -- its messages were dealt
+          pub went_batch : WentOn has kept rules given (fed p h.came) h.middle start_has now so_far l₂ qs ks more → Midway has kept rules given left h.mid start_has now l₂ qs ks more h.middle
+          went_batch w = turned h.mid now l₂ qs ks more (fed p h.came) h.middle h.came h.gives refl w
+
+          -- or one wasn't
+          pub stopped_batch : {Z : Type 0} (e : BulkFault Z) → EndedThere has kept rules given (fed p h.came) start_has now so_far l₂ qs ks more e → InputDealt has kept rules given left after start_has now l₂ qs ks more (Err e)
+          stopped_batch e t = stopped_there e h.mid after now l₂ qs ks more (fed p h.came) h.came h.gives h.few refl t
+
+-- ---- the count of faults of the input
+
+module _ {Z : Type 0} where
+  told_unread : (stop : Stop Z) (fault : BulkFault Z) → IsTold stop fault → is_unread fault ≡ sheets_unread stop
+  told_unread (stops.Input f) fault told = ap is_unread told
+  told_unread (stops.Message at) fault told = ap is_unread told
+  told_unread stops.InputLimit fault told = ap is_unread told
+  told_unread stops.NoMemory fault told = ap is_unread told
+
+  pub stop_read : (P : Type 0) (stop : Stop Z) (fault : BulkFault Z) → IsTold stop fault → (sheets_unread stop ≡ true → P) → is_unread fault ≡ true → P
+  stop_read P stop fault told h is = h (sym (told_unread stop fault told) ∙ is)
+
+  pub stop_quiet : (P : Type 0) (stop : Stop Z) (fault : BulkFault Z) → IsTold stop fault → (sheets_unread stop ≡ false → P) → is_calm fault ≡ true → P
+  stop_quiet P (stops.Input f) fault told h is = not_both (is_calm fault) P (ap is_calm told) is
+  stop_quiet P (stops.Message at) fault told h is = h refl
+  stop_quiet P stops.InputLimit fault told h is = h refl
+  stop_quiet P stops.NoMemory fault told h is = h refl
+
+  -- where a message wasn't dealt, and a read failed, its dataset was open
+  pub deal_quiet : (P K : Type 0) (end : Result Reach (Stop Z)) (fault : BulkFault Z) → OnOk end P → IfErr end (λ e. sheets_unread e ≡ false → P) → IfErr end (λ e. sheets_unread e ≡ true → K) → (K → is_calm fault ≡ false) → is_calm fault ≡ true → P
+  deal_quiet P K (Ok reach) fault calm quiet known stays is = calm
+  deal_quiet P K (Err (stops.Input f)) fault calm quiet known stays is = not_both (is_calm fault) P (stays (known refl)) is
+  deal_quiet P K (Err (stops.Message at)) fault calm quiet known stays is = quiet refl
+  deal_quiet P K (Err stops.InputLimit) fault calm quiet known stays is = quiet refl
+  deal_quiet P K (Err stops.NoMemory) fault calm quiet known stays is = quiet refl
+
+pub ok_so : {A E : Type 0} (P : Type 0) (r : Result A E) (a : A) → r ≡ Ok a → OnOk r P → P
+ok_so P r a is h = subst (λ x. OnOk x P) is h
+
+pub some_end : {A E : Type 0} (left : Option (List ℕ)) (P : Type 0) (r : Result A E) → IfSome left (λ octets. P) → IfSome left (λ octets. OnOk r P)
+some_end None P r h = tt
+some_end (Some octets) P (Ok a) h = h
+some_end (Some octets) P (Err e) h = tt

@@ -16,7 +16,7 @@ use Rattle.fd_bulk.specs.declared.round.Desk.{Desk}
 use Rattle.fd_bulk.specs.declared.round.Job.{Job}
 use Rattle.fd_bulk.specs.declared.round.Parcel.{Parcel}
 use Rattle.fd_bulk.specs.Crewing.{CanSeat, Deals, HasBegun, HasDesk, desks_at, with_desk}
-use Rattle.fd_bulk.specs.Opening.{AreOpen}
+use Rattle.fd_opener.specs.Opening.{AreOpen}
 use Rattle.fd_bulk.specs.Sharing.{its_pairs}
 use Rattle.fd_bulk.specs.Working.{Filling}
 use Rattle.fd_bulk.proofs.Joined.{work_long}

@@ -1,5 +1,5 @@
 -- One message after the other is dealt.
-use Rattle.std.proofs.Common.{◌≡◌, ℕ, ◌+◌, Bool, true, false, List, [], ◌∷◌, ◌++◌, Some, None, Result, Ok, Err, refl, sym, ap, ◌∙◌, subst, append_assoc, append-nil, arith, if◌then◌else◌}
+use Rattle.std.proofs.Common.{◌≡◌, ℕ, ◌+◌, Bool, true, false, List, [], ◌∷◌, ◌++◌, Some, None, Result, Ok, Err, refl, sym, ap, ◌∙◌, subst, append_assoc, append-nil, if◌then◌else◌}
 use Rattle.std.specs.Prelude.{String, string_bytes}
 use Rattle.std.specs.declared.alloc.Global.{Global}
 use Rattle.fd_sections.specs.declared.bad.Bad.{Bad}
@@ -7,9 +7,8 @@ use Rattle.fd_sections.specs.declared.bad.Bad.TheVariants as bads
 use Rattle.fd_sections.specs.declared.refusal.BadAt.{BadAt}
 use Rattle.fd_sections.specs.Message.{Sections}
 use Rattle.fd_sections.specs.Progress.{Progress}
-use Rattle.fd_sections.specs.Splitting.{answer, progress}
-use Rattle.fd_sections.specs.Stream.{Bad_end, first}
-use Rattle.fd_sections.proofs.Joins.{takes_so, waits_so}
+use Rattle.fd_sections.specs.Stream.{Bad_end}
+use Rattle.fd_sections.specs.Joining.{RefusesAs, SplitsOn}
 use Rattle.fd_key.specs.Keys.{key_of}
 use Rattle.fd_key.specs.Pairs.{Pair}
 use Rattle.fd_schema.specs.Rules.{Rule, Texts, place_from}
@@ -43,28 +42,28 @@ module _ (rules : List Rule) (given : List Pair) (ds : List (List ℕ)) (n : ℕ
   unruled_is unplaced = ap (keyed rules ds n m) keyed_is ∙ ap (stored_in ds m key) unplaced
 
 module _ (rules : List Rule) (given : List Pair) where
-  pub went_none : (p q : Progress) (a : List Stored) → answer p (first p.rest) ≡ Ok None → q ≡ progress p (first p.rest) → StoredOn rules given p q a a
-  went_none p q a e goes = record { new = []; adds = sym (append-nil a); on = stored_none rules given (datasets_in a) p q e goes }
+  pub went_none : (p q : Progress) (a : List Stored) → SplitsOn p q [] [] → StoredOn rules given p q a a
+  went_none p q a t = record { new = []; adds = sym (append-nil a); on = stored_none rules given (datasets_in a) p q t }
 
-  pub went_one : (p q : Progress) (m : Sections) (n : ℕ) (s : Stored) (a b : List Stored) → answer p (first p.rest) ≡ Ok (Some m) → q ≡ progress p (first p.rest) → n ≡ p.given
+  pub went_one : (p q : Progress) (m : Sections) (n : ℕ) (s : Stored) (a b : List Stored) → SplitsOn p q [] (m ∷ []) → n ≡ p.given
       → stored_of rules given (datasets_in a) (n + 1) m ≡ Ok s → b ≡ a ++ s ∷ [] → StoredOn rules given p q a b
-  went_one p q m n s a b e goes count is adds =
+  went_one p q m n s a b t count is adds =
       let is-now : stored_of rules given (datasets_in a) (p.given + 1) m ≡ Ok s = ap (λ (k : ℕ). stored_of rules given (datasets_in a) (k + 1) m) (sym count) ∙ is in
-      record { new = s ∷ []; adds = adds; on = stored_one rules given (datasets_in a) p q m s e goes is-now }
+      record { new = s ∷ []; adds = adds; on = stored_one rules given (datasets_in a) p q m s t is-now }
 
-  module _ (ds : List (List ℕ)) (p : Progress) (m : Sections) (n : ℕ) (e : answer p (first p.rest) ≡ Ok (Some m)) (count : n ≡ p.given) where
+  module _ (ds : List (List ℕ)) (p q : Progress) (m : Sections) (n : ℕ) (t : SplitsOn p q [] (m ∷ [])) (count : n ≡ p.given) where
     by_cause : (cause : Cause) → stored_of rules given ds (n + 1) m ≡ Err cause → (past : Bool) (more : List ℕ) → ((taken_from rules given ds p past more).stored ≡ []) × ((taken_from rules given ds p past more).refusal ≡ Some cause)
     by_cause cause is past more =
         let is-now : stored_of rules given ds (p.given + 1) m ≡ Err cause = ap (λ (k : ℕ). stored_of rules given ds (k + 1) m) (sym count) ∙ is in
-        let whole = refused_one rules given ds p m cause e is-now past more in
-        (ap (λ (t : Taken). t.stored) whole, ap (λ (t : Taken). t.refusal) whole)
+        let whole = refused_one rules given ds p q m cause t is-now past more in
+        (ap (λ (x : Taken). x.stored) whole, ap (λ (x : Taken). x.refusal) whole)
 
     -- the message would be stored
     in_dataset : (name : List ℕ) (s : Stored) → stored_of rules given ds (n + 1) m ≡ Ok s → s.dataset ≡ name → (past : Bool) (more : List ℕ) → BeginsIn name (taken_from rules given ds p past more)
     in_dataset name s is named past more =
         let is-now : stored_of rules given ds (p.given + 1) m ≡ Ok s = ap (λ (k : ℕ). stored_of rules given ds (k + 1) m) (sym count) ∙ is in
-        let on = stored_one rules given ds p (progress p (first p.rest)) m s e refl is-now in
-        (s, (_, ap (λ (t : Taken). t.stored) (stores_same rules given ds p (progress p (first p.rest)) (s ∷ []) on past more), named))
+        let on = stored_one rules given ds p q m s t is-now in
+        (s, (_, ap (λ (x : Taken). x.stored) (stores_same rules given ds p q (s ∷ []) on past more), named))
 
     module _ {Z : Type 0} where
       -- a message has no place
@@ -119,7 +118,7 @@ module _ (rules : List Rule) (given : List Pair) where
   tells false k n bads.NoStart e = ap (λ (i : ℕ). Some (refusals.Message (record { number = i; bad = bads.NoStart }))) (sym e)
   tells false k n (bads.Over section said left) e = ap (λ (i : ℕ). Some (refusals.Message (record { number = i; bad = bads.Over section said left }))) (sym e)
 
-  pub ends_there : (Z : Type 0) (ds : List (List ℕ)) (p : Progress) (at : BadAt) → answer p (first p.rest) ≡ Err at → (past : Bool) (more : List ℕ) → EndsTaken {Z = Z} (faults.Message at) (taken_from rules given ds p past more)
+  pub ends_there : (Z : Type 0) (ds : List (List ℕ)) (p : Progress) (at : BadAt) → RefusesAs p at → (past : Bool) (more : List ℕ) → EndsTaken {Z = Z} (faults.Message at) (taken_from rules given ds p past more)
   ends_there Z ds p at e past more = (
     refused_none rules given ds p at e past more,
     (InStream (refusal_at at.number at.bad), refused_there rules given ds p at (refusal_at at.number at.bad) e (λ past n is. tells past at.number n at.bad is) past more, refl),

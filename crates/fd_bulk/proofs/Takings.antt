@@ -3,10 +3,9 @@ use Rattle.std.proofs.Common.{◌≡◌, ℕ, ◌+◌, Bool, List, [], ◌∷◌
 use Rattle.fd_sections.specs.declared.refusal.BadAt.{BadAt}
 use Rattle.fd_sections.specs.Message.{Sections}
 use Rattle.fd_sections.specs.Progress.{Progress}
-use Rattle.fd_sections.specs.Splitting.{answer, progress}
-use Rattle.fd_sections.specs.Stream.{Stream, first, stream, after, Bad_end}
-use Rattle.fd_sections.specs.Joining.{SplitsOn}
-use Rattle.fd_sections.proofs.Joins.{refuses_so, splits_more, splits_nothing, takes_so, waits_so}
+use Rattle.fd_sections.specs.Stream.{Stream, stream, after, Bad_end}
+use Rattle.fd_sections.specs.Joining.{RefusesAs, SplitsOn}
+use Rattle.fd_sections.proofs.Joins.{splits_more, splits_nothing}
 use Rattle.fd_key.specs.Pairs.{Pair}
 use Rattle.fd_schema.specs.Rules.{Rule}
 use Rattle.fd_outcome.specs.declared.refusal.Refusal.{Refusal}
@@ -89,38 +88,34 @@ module _ (rules : List Rule) (given : List Pair) where
       taken_more ds (p.given + 1) ms ss None 0 ns e ∙ ap (λ (i : ℕ). behind ss (taken_messages rules given (ds ++ datasets_in ss) i None 0 ns)) next ∙ ap (behind ss) f
 
   -- a message was stored
-  pub stored_one : (ds : List (List ℕ)) (p q : Progress) (m : Sections) (s : Stored) → answer p (first p.rest) ≡ Ok (Some m) → q ≡ progress p (first p.rest) → stored_of rules given ds (p.given + 1) m ≡ Ok s
+  pub stored_one : (ds : List (List ℕ)) (p q : Progress) (m : Sections) (s : Stored) → SplitsOn p q [] (m ∷ []) → stored_of rules given ds (p.given + 1) m ≡ Ok s
       → StoresOn rules given ds p q (s ∷ [])
-  stored_one ds p q m s e goes is = record { messages = m ∷ []; splits = (takes_so p q m e goes).0; stores = ap (λ (r : Result Stored Cause). before r (λ d. ended None 0)) is }
+  stored_one ds p q m s t is = record { messages = m ∷ []; splits = t; stores = ap (λ (r : Result Stored Cause). before r (λ d. ended None 0)) is }
 
-  -- no message is whole
-  pub stored_none : (ds : List (List ℕ)) (p q : Progress) → answer p (first p.rest) ≡ Ok None → q ≡ progress p (first p.rest) → StoresOn rules given ds p q []
-  stored_none ds p q e goes = record { messages = []; splits = (waits_so p q e goes).0; stores = refl }
+  -- no message came
+  pub stored_none : (ds : List (List ℕ)) (p q : Progress) → SplitsOn p q [] [] → StoresOn rules given ds p q []
+  stored_none ds p q t = record { messages = []; splits = t; stores = refl }
 
   -- a message isn't stored, and nothing behind it
-  pub refused_one : (ds : List (List ℕ)) (p : Progress) (m : Sections) (cause : Cause) → answer p (first p.rest) ≡ Ok (Some m) → stored_of rules given ds (p.given + 1) m ≡ Err cause
+  pub refused_one : (ds : List (List ℕ)) (p q : Progress) (m : Sections) (cause : Cause) → SplitsOn p q [] (m ∷ []) → stored_of rules given ds (p.given + 1) m ≡ Err cause
       → (past : Bool) (more : List ℕ) → taken_from rules given ds p past more ≡ ended (Some cause) 0
-  refused_one ds p m cause e is past more =
-      let q = progress p (first p.rest) in
-      let t = (takes_so p q m e refl).0 in
+  refused_one ds p q m cause t is past more =
       ap (taken_after rules given past ds p.given p.skipped) (t.joins more) ∙ stops_at (stream (q.rest ++ more)) t.passed
     where
       stops_at : (x : Stream) (k : ℕ) → taken_after rules given past ds p.given p.skipped (after (m ∷ []) k x) ≡ ended (Some cause) 0
       stops_at x k = ap (λ (r : Result Stored Cause). before r (λ d. taken_messages rules given (ds ++ d ∷ []) (p.given + 1 + 1) (in_stream (refused past (p.given + length (m ∷ x.messages)) x.end)) (p.skipped + (k + x.skipped)) x.messages)) is
 
   -- the stream is refused
-  pub refused_there : (ds : List (List ℕ)) (p : Progress) (at : BadAt) (refusal : Refusal) → answer p (first p.rest) ≡ Err at
+  pub refused_there : (ds : List (List ℕ)) (p : Progress) (at : BadAt) (refusal : Refusal) → RefusesAs p at
       → ((past : Bool) (n : ℕ) → at.number ≡ n + 1 → refused past n (Bad_end at.bad) ≡ Some refusal)
       → (past : Bool) (more : List ℕ) → (taken_from rules given ds p past more).refusal ≡ Some (InStream refusal)
-  refused_there ds p at refusal e tells past more =
-      let b = refuses_so p at e in
+  refused_there ds p at refusal b tells past more =
       let number = b.number in
       let is : refused past (p.given + 0) (Bad_end at.bad) ≡ Some refusal = tells past (p.given + 0) (omega (arith, number)) in
       ap (λ (s : Stream). (taken_after rules given past ds p.given p.skipped s).refusal) (b.joins more) ∙ ap in_stream is
 
-  pub refused_none : (ds : List (List ℕ)) (p : Progress) (at : BadAt) → answer p (first p.rest) ≡ Err at → (past : Bool) (more : List ℕ) → (taken_from rules given ds p past more).stored ≡ []
-  refused_none ds p at e past more =
-      let b = refuses_so p at e in
+  pub refused_none : (ds : List (List ℕ)) (p : Progress) (at : BadAt) → RefusesAs p at → (past : Bool) (more : List ℕ) → (taken_from rules given ds p past more).stored ≡ []
+  refused_none ds p at b past more =
       ap (λ (s : Stream). (taken_after rules given past ds p.given p.skipped s).stored) (b.joins more)
 
   -- one part after another

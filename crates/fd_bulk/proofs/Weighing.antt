@@ -1,7 +1,8 @@
 -- Sums of octets by the number of workers.
-use Rattle.std.proofs.Common.{◌≡◌, ◌<◌, ◌+◌, ◌%◌, ℕ, zero, suc, List, [], ◌∷◌, ◌++◌, drop, length, get_or, ap, refl, ◌∙◌, arith}
+use Rattle.std.proofs.Common.{◌≡◌, ◌<◌, ◌≤◌, ◌+◌, ◌%◌, ℕ, zero, suc, List, [], ◌∷◌, ◌++◌, drop, length, get_or, ap, refl, ◌∙◌, arith}
 use Rattle.std.specs.Prelude.{sum}
 use Rattle.std.proofs.Math.Nat.{mod-add-mod}
+use Rattle.std.proofs.lemmas.List.{drop_all}
 use Rattle.std.proofs.lemmas.List.Sums.{sum_by-append, sum_by-cons}
 
 pub sum_cons : (x : ℕ) (xs : List ℕ) → sum (x ∷ xs) ≡ x + sum xs
@@ -13,12 +14,15 @@ drop_one (x ∷ xs) zero d lt = refl
 drop_one (x ∷ xs) (suc i) d lt = drop_one xs i d (omega arith)
 
 -- one octet more is weighed
-pub weigh_turn : (workers weight : ℕ) (xs : List ℕ) (i x d : ℕ) → i < length xs → x ≡ get_or xs i d → ((weight + x) % workers + sum (drop (i + 1) xs)) % workers ≡ (weight + sum (drop i xs)) % workers
+pub weigh_turn : (workers weight : ℕ) (xs : List ℕ) (i x d : ℕ) → i < length xs → x ≡ get_or xs i d → (weight + x + sum (drop (i + 1) xs)) % workers ≡ (weight + sum (drop i xs)) % workers
 weigh_turn workers weight xs i x d lt is =
     let up : i + 1 ≡ suc i = omega arith in
-    ap (λ (n : ℕ). ((weight + x) % workers + sum (drop n xs)) % workers) up
-    ∙ mod-add-mod (weight + x) workers (sum (drop (suc i) xs))
+    ap (λ (n : ℕ). (weight + x + sum (drop n xs)) % workers) up
     ∙ ap (λ (n : ℕ). n % workers) (let e = ap sum (drop_one xs i d lt) ∙ sum_cons (get_or xs i d) (drop (suc i) xs) in omega (arith, e, is))
+
+-- all are
+pub all_weighed : (workers weight : ℕ) (xs : List ℕ) (i : ℕ) → length xs ≤ i → weight % workers ≡ (weight + sum (drop i xs)) % workers
+all_weighed workers weight xs i le = ap (λ (n : ℕ). n % workers) (let none = ap sum (drop_all i xs le) in omega (arith, none))
 
 -- texts that are weighed one after the other
 pub weighed_all : (workers d i l m a b c r : ℕ) → a ≡ (0 + d) % workers → b ≡ (a + i) % workers → c ≡ (b + l) % workers → r ≡ (c + m) % workers → r ≡ (d + (i + (l + m))) % workers

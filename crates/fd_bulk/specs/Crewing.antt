@@ -27,7 +27,7 @@ use Rattle.fd_bulk.specs.declared.bulk.BulkFault.TheVariants as faults
 use Rattle.fd_bulk.specs.declared.round.Desk.{Desk}
 use Rattle.fd_bulk.specs.declared.round.Job.{Job}
 use Rattle.fd_bulk.specs.declared.round.Parcel.{Parcel}
-use Rattle.fd_bulk.specs.Opening.{AreOpen}
+use Rattle.fd_opener.specs.Opening.{AreOpen}
 use Rattle.fd_bulk.specs.Sharing.{AllFit, AllWork, AreParcels, SeesFull, its_pairs}
 use Rattle.fd_bulk.specs.Working.{Filling, Flushed, Stage}
 
@@ -247,6 +247,11 @@ module _ {D H X Y F : Type 0} (has : D → Option Contents) (kept : H → Option
   abbrev pub RanAs : {Z : Type 0} → Option Holdings → Option Holdings → ℕ → List Stored → Result (Unit {0}) (BulkFault Z) → OpenDatasets D → List (Pass X Y) → List (Job (Writing H) (Pass X Y) (FlushFault F)) → Type 0
   RanAs start now lost all (Ok done) l passes jobs = Crewed has (Running kept (length jobs) all) start now lost l passes jobs
   RanAs start now lost all (Err fault) l passes jobs = Crewed has (Stopping kept (length jobs) all) start now lost l passes jobs × OnFull fault jobs
+
+  -- the same, where something else is answered
+  abbrev pub RanBeside : {A Z : Type 0} → Option Holdings → Option Holdings → ℕ → List Stored → Result A (BulkFault Z) → OpenDatasets D → List (Pass X Y) → List (Job (Writing H) (Pass X Y) (FlushFault F)) → Type 0
+  RanBeside {Z = Z} start now lost all (Ok answer) l passes jobs = RanAs {Z = Z} start now lost all (Ok tt) l passes jobs
+  RanBeside start now lost all (Err fault) l passes jobs = RanAs start now lost all (Err fault) l passes jobs
 
   -- the workers can list what is pending
   pub record CanFinish (l : OpenDatasets D) (passes : List (Pass X Y)) (jobs : List (Job (Writing H) (Pass X Y) (FlushFault F))) : Type 0 where

@@ -3,7 +3,6 @@ pub mod Dealt
 pub mod Merging
 pub mod Gathering
 pub mod Adding
-pub mod Opening
 pub mod Working
 pub mod Tables
 pub mod Archived
@@ -15,3 +14,5 @@ pub mod Inputs
 pub mod Sheets
 pub mod Columns
 pub mod Ending
+pub mod Naming
+pub mod Beside

@@ -1,5 +1,5 @@
 -- Messages that were taken with their places are dealt.
-use Rattle.std.specs.Prelude.{◌≡◌, ◌≤◌, ℕ, List, Option, Result, Ok, Err}
+use Rattle.std.specs.Prelude.{◌≡◌, ◌≤◌, ℕ, List, Option, Err}
 use Rattle.fd_disk.specs.declared.folders.FileName.{FileName}
 use Rattle.fd_disk.specs.Folders.{Contents, Holdings}
 use Rattle.fd_sections.specs.Message.{Sections}
@@ -8,8 +8,8 @@ use Rattle.fd_key.specs.Pairs as keys
 use Rattle.fd_schema.specs.Rules.{Rule}
 use Rattle.fd_sheets.specs.declared.sheets.Sheet.{Sheet}
 use Rattle.fd_sheets.specs.declared.sheets.Unplaced.{Unplaced}
-use Rattle.fd_sheets.specs.declared.sheets.Unsplit.{Unsplit}
-use Rattle.fd_sheets.specs.declared.sheets.Unsplit.TheVariants as ends
+use Rattle.fd_sheets.specs.declared.reader.Stop.{Stop}
+use Rattle.fd_sheets.specs.declared.reader.Stop.TheVariants as stops
 use Rattle.fd_sheets.specs.Sheets.{FoundAs, Placed}
 use Rattle.fd_turn.specs.declared.board.Pass.{Pass}
 use Rattle.fd_archiver.specs.declared.fault.FlushFault.{FlushFault}
@@ -26,11 +26,12 @@ use Rattle.fd_bulk.specs.Inputs.{Going, PlacedAs}
 abbrev pub ToldAs : {Z : Type 0} → ℕ → Unplaced → BulkFault Z → Type 0
 ToldAs number reason fault = (rules : List Rule) (given : List keys.Pair) (m : Sections) → FoundAs rules given m (Err reason) → PlacedAs rules given number m (Err fault)
 
--- why no message comes, as it is told
-abbrev pub IsTold : {Z : Type 0} → Result (Unit {0}) Unsplit → Result (Unit {0}) (BulkFault Z) → Type 0
-IsTold (Ok done) result = result ≡ Ok done
-IsTold (Err (ends.Message at)) result = result ≡ Err (faults.Message at)
-IsTold (Err ends.NoMemory) result = result ≡ Err faults.NoMemory
+-- why no more is read, as it is told
+abbrev pub IsTold : {Z : Type 0} → Stop Z → BulkFault Z → Type 0
+IsTold (stops.Input f) fault = fault ≡ faults.Input f
+IsTold (stops.Message at) fault = fault ≡ faults.Message at
+IsTold stops.InputLimit fault = fault ≡ faults.InputLimit
+IsTold stops.NoMemory fault = fault ≡ faults.NoMemory
 
 module _ {D H X Y F : Type 0} (has : D → Option Contents) (kept : H → Option (FileName → Option (List ℕ))) where
   -- these messages come next, and can be dealt

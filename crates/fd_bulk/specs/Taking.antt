@@ -1,10 +1,10 @@
 -- How far a stream is stored.
-use Rattle.std.specs.Prelude.{◌≡◌, ◌<◌, ◌+◌, ℕ, Bool, true, false, List, [], ◌++◌, length, None}
+use Rattle.std.specs.Prelude.{◌≡◌, ◌+◌, ℕ, Bool, List, [], ◌++◌, None}
 use Rattle.fd_sections.specs.Message.{Sections}
 use Rattle.fd_sections.specs.Progress.{Progress}
 use Rattle.fd_sections.specs.Splitting.{start}
 use Rattle.fd_sections.specs.Stream.{stream}
-use Rattle.fd_sections.specs.Joining.{IsWaiting, SplitsOn}
+use Rattle.fd_sections.specs.Joining.{SplitsOn}
 use Rattle.fd_key.specs.Pairs.{Pair}
 use Rattle.fd_schema.specs.Rules.{Rule}
 use Rattle.fd_outcome.specs.Archiving.{Stored, Taken, taken_after, taken_messages, datasets_in}

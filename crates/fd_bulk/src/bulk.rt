@@ -8,12 +8,12 @@ ghost use Rattle.fd_bulk.specs.Archived.{Archived, IsRead, OnDisk, OnInput};
 ghost use Rattle.fd_bulk.specs.Crewing.{Deals};
 
 use crate::crew::Crew;
-use crate::opener::Opener;
 use crate::reading::{Counts, list_input};
 use fd_bytes::NoMemory;
 use fd_disk::{Folder, Store};
 use fd_io::{Gate, Source};
 use fd_key::{Given, KeyFault};
+use fd_opener::Opener;
 use fd_schema::Schema;
 use fd_sections::{BadAt, Truncated};
 use fd_segment::Damage;

@@ -3,31 +3,36 @@ ghost use Rattle.std.specs.Prelude.{◌≡◌, ◌==◌, ◌≤◌, ◌<◌, ◌
 ghost use Rattle.fd_bytes.specs.Causes.{Rose};
 ghost use Rattle.fd_disk.specs.Folders.{Holdings, WhereTold};
 ghost use Rattle.fd_bulk.specs.Archived.{Grows, GrowsAll, IsBack, IsSure};
+ghost use Rattle.fd_schema.specs.Grammar.{IsSchema};
 ghost use Rattle.fd_schema.specs.Rules.{file_key};
 ghost use Rattle.fd_schema.specs.Reading.{seen_place};
-ghost use Rattle.fd_library.specs.Open.{OutAre, names_of};
+ghost use Rattle.fd_library.specs.Open.{OutAre, among, names_of};
+ghost use Rattle.fd_sheets.specs.Reading.{ReadOn};
 ghost use Rattle.fd_outcome.specs.Archiving.{Stored, datasets_in, is_too_many};
-ghost use Rattle.fd_bulk.specs.Opening.{AreOpen};
+ghost use Rattle.fd_opener.specs.Opening.{AreOpen};
 ghost use Rattle.fd_turn.specs.Passes.{view};
 ghost use Rattle.fd_library.specs.Calls.{Changes};
 ghost use Rattle.fd_bulk.specs.Ending.{CanEndOne, EndedAs, IsShorter, column};
 ghost use Rattle.fd_bulk.specs.Halting.{Each, Halted, HasOneMore, HaveMetNone, HaveRoom, IsLower, IsQuiet, IsSameJob, IsTold, OnStore};
-ghost use Rattle.fd_bulk.specs.Crewing.{CanEnd, CanFinish, CanRun, CanSeat, Closes, Crewed, Deals, DealtAs, Finished, FinishedAs, HasFull, IsUnopened, OpenedAs, RanAs, Running, SeatedAs, SeeFull, Stopping, TooManyAt, Waits, message_at, octets_of};
+ghost use Rattle.fd_bulk.specs.Inputs.{is_calm};
+ghost use Rattle.fd_bulk.specs.Naming.{IsOpened};
+ghost use Rattle.fd_bulk.specs.Crewing.{CanEnd, CanFinish, CanRun, CanSeat, Closes, Crewed, Deals, DealtAs, Finished, FinishedAs, HasFull, IsUnopened, OpenedAs, RanAs, RanBeside, Running, SeatedAs, SeeFull, Stopping, TooManyAt, Waits, message_at, octets_of};
 
 use crate::bulk::BulkFault;
 use crate::dealt::dealt;
 use crate::handing::hand_back_all;
-use crate::opener::Opener;
-use crate::round::{Desk, FolderJob, Halt, Job, Parcel, list_round, run_rounds};
+use crate::round::{Desk, FolderJob, Halt, Job, Parcel, list_round, run_beside, run_rounds};
 use fd_archiver::FlushFault;
 use fd_bytes::{Bytes, NoMemory};
 use fd_disk::{Disk, Down, Folder, Shelf, Store};
-use fd_io::Gate;
+use fd_io::{Gate, Source};
+use fd_key::Given;
 use fd_library::FolderPass;
+use fd_opener::Opener;
 use fd_recovery::OpenFault;
-use fd_schema::Place;
+use fd_schema::{Place, Schema};
 use fd_segment::Room;
-use fd_sheets::Buffers;
+use fd_sheets::{Batch, Names, Reader};
 use std::alloc::Global;
 use std::sync::Wait;
 use std::thread::Threads;
@@ -38,56 +43,12 @@ const ROOM: Room = Room {
     bytes: 131_072,
 };
 
-/// How many messages a round has, and by how many octets it ends before.
-const MESSAGES: u32 = 64;
-
-const OCTETS: u64 = 134_217_728;
-
-/// How many messages the rounds have that are stored by one start of the workers' threads, and how many octets are enough for one. A
-/// start takes as long as a worker needs for some twenty small messages.
-const ENOUGH_MESSAGES: usize = 1024;
-
-const ENOUGH_OCTETS: u64 = 4_194_304;
-
-/// The round that is dealt: its number, from 1, and how many messages and octets it has.
-#[derive(Clone, Copy)]
-struct Round {
-    number: u32,
-    messages: u32,
-    octets: u64,
-}
-
-/// The workers, the passes of the datasets from which theirs are split, by the datasets' numbers, the messages of the rounds
-/// that are dealt, and how many octets these have.
+/// The workers, the passes of the datasets from which theirs are split, by the datasets' numbers, and the messages that are dealt.
 #[derive(Drop)]
 pub(crate) struct Crew<F: Send, S: Store<F>> {
     pub(crate) passes: Vec<FolderPass<F, S::Folder>>,
     pub(crate) jobs: Vec<FolderJob<F, S::Folder>>,
     pub(crate) parcels: Vec<Parcel>,
-    pub(crate) buffers: Buffers,
-    octets: u64,
-    round: Round,
-}
-
-impl Round {
-    // The round with one message more, or the next one, where this one has its last.
-    fn after(self, octets: u64) -> Round {
-        let messages = self.messages.saturating_add(1);
-        let octets = self.octets.saturating_add(octets);
-        if messages >= MESSAGES || octets >= OCTETS {
-            Round {
-                number: self.number.saturating_add(1),
-                messages: 0,
-                octets: 0,
-            }
-        } else {
-            Round {
-                number: self.number,
-                messages,
-                octets,
-            }
-        }
-    }
 }
 
 impl<F: Send + Drop, S: Store<F>> Crew<F, S> {
@@ -102,19 +63,13 @@ impl<F: Send + Drop, S: Store<F>> Crew<F, S> {
             jobs.push(Job {
                 desks: Vec::new(alloc),
                 halt: None,
+                round: 0,
             })?;
         }
         Ok(Crew {
             passes: Vec::new(alloc),
             jobs,
             parcels: Vec::new(alloc),
-            buffers: Buffers::new(alloc),
-            octets: 0,
-            round: Round {
-                number: 1,
-                messages: 0,
-                octets: 0,
-            },
         })
     }
 
@@ -123,12 +78,6 @@ impl<F: Send + Drop, S: Store<F>> Crew<F, S> {
         ensures { result ≡ (length self.now.parcels.items == 0) }
     {
         self.parcels.is_empty()
-    }
-
-    /// The rounds that are dealt are whole, and enough for one start of the threads.
-    pub(crate) fn is_full(&self) -> bool {
-        self.round.messages == 0
-            && (self.parcels.len() >= ENOUGH_MESSAGES || self.octets >= ENOUGH_OCTETS)
     }
 
     // The number of the dataset with this text, which is opened by the first call.
@@ -149,6 +98,7 @@ impl<F: Send + Drop, S: Store<F>> Crew<F, S> {
             → OpenedAs S.Folder.has S.Folder.Shelf.kept start (S.has store.new) all waiting name.now (datasets_in (all ++ waiting)) result opener.new.library self.new.passes.items self.new.jobs.items self.new.parcels.items }
         ensures too_many { (start : Option Holdings) (all waiting : List Stored) → Deals S.Folder.has S.Folder.Shelf.kept start (S.has store.old) all waiting (datasets_in (all ++ waiting)) opener.old.library self.old.passes.items self.old.jobs.items self.old.parcels.items
             → TooManyAt (is_too_many (datasets_in (all ++ waiting)) name.now) result }
+        ensures again { among name.now (names_of opener.old.library.each) ≡ true → IfErr result (λ e. is_calm e ≡ false) }
         ensures jobs { length self.new.jobs.items ≡ length self.old.jobs.items }
         ensures parcels { self.new.parcels ≡ self.old.parcels }
         ensures cause { IfErr result (λ e. OnStore e (Rose (S.faults store.old) (S.faults store.new))) }
@@ -213,12 +163,13 @@ impl<F: Send + Drop, S: Store<F>> Crew<F, S> {
         Ok(())
     }
 
-    /// Deals a message to a worker, and opens its dataset.
+    /// Deals a message of this round to a worker, and opens its dataset.
     pub(crate) fn deal<X: Drop>(
         &mut self,
         alloc: Global,
         opener: &mut Opener<F, S>,
         store: &mut S,
+        round: u32,
         place: Place,
         bytes: Bytes,
     ) -> Result<(), BulkFault<X>>
@@ -232,6 +183,8 @@ impl<F: Send + Drop, S: Store<F>> Crew<F, S> {
             → DealtAs S.Folder.has S.Folder.Shelf.kept start (S.has store.new) all waiting (message_at (seen_place place) bytes) result opener.new.library self.new.passes.items self.new.jobs.items self.new.parcels.items }
         ensures too_many { (start : Option Holdings) (all waiting : List Stored) → Deals S.Folder.has S.Folder.Shelf.kept start (S.has store.old) all waiting (datasets_in (all ++ waiting)) opener.old.library self.old.passes.items self.old.jobs.items self.old.parcels.items
             → TooManyAt (is_too_many (datasets_in (all ++ waiting)) (seen_place place).dataset) result }
+        ensures again { among (seen_place place).dataset (names_of opener.old.library.each) ≡ true → IfErr result (λ e. is_calm e ≡ false) }
+        ensures opens { OnOk result (IsOpened (seen_place place).dataset (names_of opener.old.library.each) (names_of opener.new.library.each)) }
         ensures jobs { length self.new.jobs.items ≡ length self.old.jobs.items }
         ensures cause { IfErr result (λ e. OnStore e (Rose (S.faults store.old) (S.faults store.new))) }
         ensures told { is_some (S.has store.new) ≡ is_some (S.has store.old) }
@@ -246,16 +199,13 @@ impl<F: Send + Drop, S: Store<F>> Crew<F, S> {
             Ok(()) => {}
             Err(fault) => return Err(fault),
         }
-        let octets = bytes.as_slice().len() as u64;
         self.parcels.push_reserved(Parcel {
             worker,
             dataset,
-            round: self.round.number,
+            round,
             place,
             bytes,
         });
-        self.octets = self.octets.saturating_add(octets);
-        self.round = self.round.after(octets);
         Ok(())
     }
 
@@ -287,9 +237,55 @@ impl<F: Send + Drop, S: Store<F>> Crew<F, S> {
             self.parcels.as_slice(),
             self.jobs.as_mut_slice(),
         );
-        self.octets = 0;
-        put_away(&mut self.parcels, &mut self.buffers);
+        self.parcels.clear();
         halted(self.jobs.as_mut_slice(), store)
+    }
+
+    /// Stores the messages that were dealt, while the input is read on.
+    pub(crate) fn run_reading<X: Drop, I: Source<X>, G: Gate, R: Threads + Wait + Sync>(
+        &mut self,
+        rt: &R,
+        alloc: Global,
+        input: &mut I,
+        given: &Given,
+        schema: &Schema,
+        names: &Names,
+        reader: &mut Reader,
+        opener: &Opener<F, S>,
+        store: &mut S,
+        gate: &G,
+    ) -> Result<Batch<X>, BulkFault<X>>
+        requires schema { IsSchema schema.now }
+        requires can { CanRun S.Folder.has S.Folder.Shelf.kept opener.now.library self.old.passes.items self.old.jobs.items self.old.parcels.items }
+        ensures ran { (start now : Option Holdings) (lost : ℕ) (all waiting : List Stored) → Crewed S.Folder.has (Running S.Folder.Shelf.kept (length self.old.jobs.items) all) start now lost opener.now.library self.old.passes.items self.old.jobs.items
+            → Waits (names_of opener.now.library.each) waiting self.old.jobs.items self.old.parcels.items
+            → RanBeside S.Folder.has S.Folder.Shelf.kept start now lost (all ++ waiting) result opener.now.library self.new.passes.items self.new.jobs.items }
+        ensures reads { IfOk result (ReadOn schema.now given.now names.now.texts.items reader.old reader.new (I.left input.old) (I.left input.new) (I.faults input.old) (I.faults input.new)) }
+        ensures none { self.new.parcels.items ≡ [] }
+        ensures has { S.has store.new ≡ S.has store.old }
+        ensures out { S.out store.new ≡ S.out store.old }
+        ensures jobs { length self.new.jobs.items ≡ length self.old.jobs.items }
+        ensures cause { IfErr result (λ e. OnStore e (Rose (S.faults store.old) (S.faults store.new))) }
+        ensures later { S.faults store.old ≤ S.faults store.new }
+    {
+        let batch = run_beside(
+            rt,
+            alloc,
+            gate,
+            opener.datasets(),
+            self.parcels.as_slice(),
+            schema,
+            given,
+            names,
+            input,
+            reader,
+            self.jobs.as_mut_slice(),
+        );
+        put_away(&mut self.parcels, reader);
+        match halted(self.jobs.as_mut_slice(), store) {
+            Ok(()) => Ok(batch),
+            Err(fault) => Err(fault),
+        }
     }
 
     /// Lists what is pending.
@@ -353,11 +349,12 @@ impl<F: Send + Drop, S: Store<F>> Crew<F, S> {
 }
 
 // Lets go of messages that were stored, and keeps their buffers.
-fn put_away(parcels: &mut Vec<Parcel>, buffers: &mut Buffers)
+fn put_away(parcels: &mut Vec<Parcel>, reader: &mut Reader)
     ensures none { parcels.new.items ≡ [] }
+    ensures reader { reader.new ≡ reader.old }
 {
     while let Some(parcel) = parcels.pop() {
-        buffers.keep(parcel.bytes);
+        reader.keep(parcel.bytes);
     }
 }
 

@@ -1,10 +1,22 @@
 //! To which worker a message is dealt.
-ghost use Rattle.std.specs.Prelude.{◌≡◌, ◌≤◌, ◌<◌, ◌+◌, ◌%◌, List, ℕ, length, sum};
+ghost use Rattle.std.specs.Prelude.{◌≡◌, ◌≤◌, ◌<◌, ◌+◌, ◌%◌, ℕ, sum};
 ghost use Rattle.fd_schema.specs.Rules.{file_key};
 ghost use Rattle.fd_schema.specs.Reading.{seen_place};
 ghost use Rattle.fd_bulk.specs.Dealt.{dealt};
 
 use fd_schema::Place;
+
+// A number with the same rest, which isn't large.
+fn reduced(workers: u32, sum: u32) -> u32
+    requires workers { (0 < workers) × (workers ≤ 8) }
+    ensures small { result < 16777216 }
+    ensures same { (n : ℕ) → (result + n) % workers ≡ (sum + n) % workers }
+{
+    if sum < 16_777_216 {
+        return sum;
+    }
+    sum % workers
+}
 
 // The sum of the octets behind another number, by the number of workers.
 fn weighed(workers: u32, before: u32, text: &[u8]) -> u32
@@ -15,9 +27,9 @@ fn weighed(workers: u32, before: u32, text: &[u8]) -> u32
 {
     let mut weight = before;
     for octet in text {
-        weight = (weight + u32::from(*octet)) % workers;
+        weight = reduced(workers, weight + u32::from(*octet));
     }
-    weight
+    weight % workers
 }
 
 /// The worker, from 0, of a message with this place.

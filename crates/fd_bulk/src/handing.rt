@@ -4,12 +4,12 @@ ghost use Rattle.fd_turn.specs.Passes.{IsSame, view};
 ghost use Rattle.fd_library.specs.Calls.{Changes};
 ghost use Rattle.fd_bulk.specs.Ending.{CanGive, CanGiveAll, Hands, HandsAll, IsShorter, column, desk_of};
 ghost use Rattle.fd_bulk.specs.Halting.{Each};
-ghost use Rattle.fd_bulk.specs.Opening.{AreOpen};
+ghost use Rattle.fd_opener.specs.Opening.{AreOpen};
 
-use crate::opener::Opener;
 use crate::round::{Desk, FolderJob};
 use fd_disk::{Folder, Store};
 use fd_library::FolderPass;
+use fd_opener::Opener;
 
 // Takes in a worker's pass in the dataset with this number, which is its last, and gives its archiver back.
 fn hand_back<F: Send + Drop, S: Store<F>>(

@@ -2,16 +2,16 @@
 //! every dataset that it meets, and the datasets come to hold what one batch of all their messages would make of them.
 #![tactic(auto)]
 
+mod beside;
 mod bulk;
 mod crew;
 mod dealt;
 mod handing;
 mod laws;
-mod opener;
 mod reading;
 mod round;
 mod working;
 
 pub use bulk::{Bulk, BulkFault, archive_all};
+pub use fd_opener::Opener;
 pub use laws::{every_dealing, every_table, few_batches};
-pub use opener::Opener;

@@ -1,33 +1,38 @@
 //! An input, whose messages are dealt as they come.
-ghost use Rattle.std.specs.Prelude.{◌≡◌, ◌≤◌, ℕ, List, Option, [], ◌++◌, ◌∷◌, Some, IfSome, IfOk, IfErr, OnOk, length, is_some, true, false};
+ghost use Rattle.std.specs.Prelude.{◌≡◌, ◌≤◌, ℕ, List, Option, [], ◌++◌, ◌∷◌, All, Some, IfSome, IfOk, IfErr, OnOk, length, is_some, true, false};
 ghost use Rattle.fd_bytes.specs.Causes.{Rose};
 ghost use Rattle.fd_disk.specs.Folders.{Holdings};
 ghost use Rattle.fd_sections.specs.Progress.{Progress};
 ghost use Rattle.fd_key.specs.Pairs.{Pair};
 ghost use Rattle.fd_schema.specs.Grammar.{IsSchema};
 ghost use Rattle.fd_schema.specs.Rules.{Rule};
-ghost use Rattle.fd_library.specs.Open.{OutAre};
+ghost use Rattle.fd_library.specs.Open.{OutAre, names_of};
 ghost use Rattle.fd_outcome.specs.Archiving.{Stored};
 ghost use Rattle.fd_bulk.specs.Halting.{OnStore};
 ghost use Rattle.fd_bulk.specs.Inputs.{CanGo, EndsOf, Going, GoesOn, InputDealt, InputEnds, is_calm, is_listed, is_unread};
 ghost use Rattle.fd_sections.specs.Joining.{IsWaiting};
+ghost use Rattle.fd_sheets.specs.Names.{IsKnown};
+ghost use Rattle.fd_sheets.specs.Reading.{ReadOn};
 ghost use Rattle.fd_sheets.specs.Sheets.{Placed};
+ghost use Rattle.fd_bulk.specs.Naming.{AreOpened, Notes};
 ghost use Rattle.fd_bulk.specs.Sheets.{CanDeal, IsTold, ToldAs};
 ghost use Rattle.fd_bulk.specs.Crewing.{Deals, Finished, Running};
 
 use crate::bulk::BulkFault;
 use crate::crew::Crew;
-use crate::opener::Opener;
 use fd_disk::{Folder, Store};
 use fd_io::{Gate, Source};
 use fd_key::Given;
-use fd_outcome::{INPUT_LIMIT, new_buffer, read_piece};
+use fd_opener::Opener;
 use fd_schema::Schema;
-use fd_sections::Splitter;
-use fd_sheets::{Sheet, Unplaced, Unsplit, look_up_all, take_sheets};
+use fd_sheets::{Batch, Names, Reader, Sheet, Stop, Unplaced, read_on};
 use std::alloc::Global;
 use std::sync::Wait;
 use std::thread::Threads;
+
+/// How many messages are enough for a start of the workers' threads, where the reader has to wait for something else. A start takes as
+/// long as a worker needs for some twenty small messages.
+const ENOUGH: usize = 128;
 
 /// How many messages were stored of an input that was read to its end, and how many octets were skipped.
 #[derive(Drop)]
@@ -68,14 +73,15 @@ fn unplaced<X>(reason: Unplaced, number: u64) -> BulkFault<X>
     }
 }
 
-// Why no message comes, as it is told.
-fn unsplit<X>(end: Result<(), Unsplit>) -> Result<(), BulkFault<X>>
-    ensures { IsTold end result }
+// Why no more is read, as it is told.
+fn stopped<X>(stop: Stop<X>) -> BulkFault<X>
+    ensures { IsTold stop result }
 {
-    match end {
-        Ok(()) => Ok(()),
-        Err(Unsplit::Message(at)) => Err(BulkFault::Message(at)),
-        Err(Unsplit::NoMemory) => Err(BulkFault::NoMemory),
+    match stop {
+        Stop::Input(fault) => BulkFault::Input(fault),
+        Stop::Message(at) => BulkFault::Message(at),
+        Stop::InputLimit => BulkFault::InputLimit,
+        Stop::NoMemory => BulkFault::NoMemory,
     }
 }
 
@@ -83,6 +89,7 @@ fn unsplit<X>(end: Result<(), Unsplit>) -> Result<(), BulkFault<X>>
 fn deal_sheet<F: Send + Drop, X: Drop, S: Store<F>>(
     alloc: Global,
     sheet: Sheet,
+    names: &mut Names,
     crew: &mut Crew<F, S>,
     opener: &mut Opener<F, S>,
     store: &mut S,
@@ -94,6 +101,8 @@ where
     ensures goes { (rules : List Rule) (given : List Pair) (p q : Progress) (start : Option Holdings) (all waiting : List Stored) → p.fed ≤ 68719476736 → Placed rules given p (sheet ∷ []) q
         → Going S.Folder.has S.Folder.Shelf.kept start (S.has store.old) all waiting opener.old.library crew.old.passes.items crew.old.jobs.items crew.old.parcels.items p
         → GoesOn S.Folder.has S.Folder.Shelf.kept rules given p q start (S.has store.new) (all ++ waiting) opener.new.library crew.new.passes.items crew.new.jobs.items crew.new.parcels.items result }
+    ensures known { IsKnown names.old.texts.items sheet → AreOpened names.old.texts.items (names_of opener.old.library.each) → IfErr result (λ e. is_calm e ≡ false) }
+    ensures notes { OnOk result (Notes names.old.texts.items names.new.texts.items (names_of opener.old.library.each) (names_of opener.new.library.each)) }
     ensures jobs { length crew.new.jobs.items ≡ length crew.old.jobs.items }
     ensures cause { IfErr result (λ e. OnStore e (Rose (S.faults store.old) (S.faults store.new))) }
     ensures told { is_some (S.has store.new) ≡ is_some (S.has store.old) }
@@ -101,25 +110,30 @@ where
 {
     let Sheet {
         number,
+        round,
         bytes,
         found,
     } = sheet;
     match found {
-        Some(Ok(place)) => crew.deal(alloc, opener, store, place, bytes),
+        Some(Ok(place)) => {
+            let Ok(()) = names.note(alloc, place.dataset.as_str()) else {
+                return Err(BulkFault::NoMemory);
+            };
+            crew.deal(alloc, opener, store, round, place, bytes)
+        }
         Some(Err(reason)) => Err(unplaced(reason, number)),
         None => unreachable!(),
     }
 }
 
-// Deals messages, and stores the rounds that are enough for a start.
-fn deal_sheets<F: Send + Drop, X: Drop, S: Store<F>, G: Gate, R: Threads + Wait + Sync>(
-    rt: &R,
+// Deals messages.
+fn deal_sheets<F: Send + Drop, X: Drop, S: Store<F>>(
     alloc: Global,
     sheets: Vec<Sheet>,
+    names: &mut Names,
     crew: &mut Crew<F, S>,
     opener: &mut Opener<F, S>,
     store: &mut S,
-    gate: &G,
 ) -> Result<(), BulkFault<X>>
 where
     requires out { OutAre opener.old.library.each (S.out store.old) }
@@ -128,70 +142,78 @@ where
     ensures goes { (rules : List Rule) (given : List Pair) (p q : Progress) (start : Option Holdings) (all waiting : List Stored) → p.fed ≤ 68719476736 → Placed rules given p sheets.items q
         → Going S.Folder.has S.Folder.Shelf.kept start (S.has store.old) all waiting opener.old.library crew.old.passes.items crew.old.jobs.items crew.old.parcels.items p
         → GoesOn S.Folder.has S.Folder.Shelf.kept rules given p q start (S.has store.new) (all ++ waiting) opener.new.library crew.new.passes.items crew.new.jobs.items crew.new.parcels.items result }
+    ensures known { All (IsKnown names.old.texts.items) sheets.items → AreOpened names.old.texts.items (names_of opener.old.library.each) → IfErr result (λ e. is_calm e ≡ false) }
+    ensures notes { OnOk result (Notes names.old.texts.items names.new.texts.items (names_of opener.old.library.each) (names_of opener.new.library.each)) }
     ensures jobs { length crew.new.jobs.items ≡ length crew.old.jobs.items }
     ensures cause { IfErr result (λ e. OnStore e (Rose (S.faults store.old) (S.faults store.new))) }
     ensures told { is_some (S.has store.new) ≡ is_some (S.has store.old) }
     ensures later { S.faults store.old ≤ S.faults store.new }
 {
     for sheet in sheets {
-        deal_sheet(alloc, sheet, crew, opener, store)?;
-        if crew.is_full() {
-            crew.run(rt, alloc, opener, store, gate)?;
-        }
+        deal_sheet(alloc, sheet, names, crew, opener, store)?;
     }
     Ok(())
 }
 
-// Deals the messages that are whole, whose places are looked for first, and stores the rounds that are enough for a start.
-fn deal_messages<F: Send + Drop, X: Drop, S: Store<F>, G: Gate, R: Threads + Wait + Sync>(
+// Reads on. Where the messages that are dealt are enough for a start, they are stored meanwhile.
+fn read_batch<
+    F: Send + Drop,
+    X: Drop,
+    S: Store<F>,
+    I: Source<X>,
+    G: Gate,
+    R: Threads + Wait + Sync,
+>(
     rt: &R,
     alloc: Global,
-    schema: &Schema,
+    input: &mut I,
     given: &Given,
-    splitter: &mut Splitter,
+    schema: &Schema,
+    names: &Names,
+    reader: &mut Reader,
+    are_enough: bool,
     crew: &mut Crew<F, S>,
-    opener: &mut Opener<F, S>,
+    opener: &Opener<F, S>,
     store: &mut S,
     gate: &G,
-) -> Result<(), BulkFault<X>>
+) -> Result<Batch<X>, BulkFault<X>>
 where
     requires schema { IsSchema schema.now }
-    requires out { OutAre opener.old.library.each (S.out store.old) }
-    requires fed { splitter.old.fed ≤ 68719476736 }
-    requires can { CanGo S.Folder.has S.Folder.Shelf.kept (S.has store.old) opener.old.library crew.old.passes.items crew.old.jobs.items crew.old.parcels.items splitter.old }
-    ensures out { OutAre opener.new.library.each (S.out store.new) }
-    ensures goes { (start : Option Holdings) (all waiting : List Stored) → Going S.Folder.has S.Folder.Shelf.kept start (S.has store.old) all waiting opener.old.library crew.old.passes.items crew.old.jobs.items crew.old.parcels.items splitter.old
-        → GoesOn S.Folder.has S.Folder.Shelf.kept schema.now given.now splitter.old splitter.new start (S.has store.new) (all ++ waiting) opener.new.library crew.new.passes.items crew.new.jobs.items crew.new.parcels.items result }
-    ensures waits { OnOk result (IsWaiting splitter.new) }
-    ensures fed { OnOk result (splitter.new.fed ≡ splitter.old.fed) }
+    requires can { CanGo S.Folder.has S.Folder.Shelf.kept (S.has store.old) opener.now.library crew.old.passes.items crew.old.jobs.items crew.old.parcels.items reader.old }
+    requires few { reader.old.fed ≤ 68719476736 }
+    ensures goes { (rules : List Rule) (given : List Pair) (p : Progress) (start : Option Holdings) (all waiting : List Stored) → p.fed ≤ 68719476736
+        → Going S.Folder.has S.Folder.Shelf.kept start (S.has store.old) all waiting opener.now.library crew.old.passes.items crew.old.jobs.items crew.old.parcels.items p
+        → GoesOn S.Folder.has S.Folder.Shelf.kept rules given p p start (S.has store.new) (all ++ waiting) opener.now.library crew.new.passes.items crew.new.jobs.items crew.new.parcels.items result }
+    ensures reads { IfOk result (ReadOn schema.now given.now names.now.texts.items reader.old reader.new (I.left input.old) (I.left input.new) (I.faults input.old) (I.faults input.new)) }
+    ensures stopped { IfErr result (λ e. is_calm e ≡ false) }
     ensures jobs { length crew.new.jobs.items ≡ length crew.old.jobs.items }
     ensures cause { IfErr result (λ e. OnStore e (Rose (S.faults store.old) (S.faults store.new))) }
-    ensures told { is_some (S.has store.new) ≡ is_some (S.has store.old) }
+    ensures has { S.has store.new ≡ S.has store.old }
+    ensures out { S.out store.new ≡ S.out store.old }
     ensures later { S.faults store.old ≤ S.faults store.new }
 {
-    let mut sheets = Vec::new(alloc);
-    let end = take_sheets(alloc, splitter, &mut crew.buffers, &mut sheets);
-    let workers = crew.jobs.len();
-    look_up_all(rt, alloc, schema, given, workers, sheets.as_mut_slice());
-    match deal_sheets(rt, alloc, sheets, crew, opener, store, gate) {
-        Ok(()) => unsplit(end),
-        Err(fault) => Err(fault),
+    if are_enough {
+        crew.run_reading(
+            rt, alloc, input, given, schema, names, reader, opener, store, gate,
+        )
+    } else {
+        let workers = crew.jobs.len();
+        Ok(read_on(rt, alloc, schema, given, names, workers, input, reader))
     }
 }
 
-// What was stored, where the input is at its end.
-fn end_of<X: Drop>(splitter: Splitter) -> Result<Counts, BulkFault<X>>
-    requires waits { IsWaiting splitter }
-    ensures { EndsOf result splitter }
+// What was stored of an input that is at its end, or which message is cut.
+fn end_of<X>(reader: Reader) -> Result<Counts, BulkFault<X>>
+    requires { IsWaiting reader }
+    ensures { EndsOf result reader }
 {
-    let fields = splitter.given();
-    match splitter.finish() {
-        Ok(junk) => Ok(Counts { fields, junk }),
+    match reader.finish() {
+        Ok((fields, junk)) => Ok(Counts { fields, junk }),
         Err(cut) => Err(BulkFault::Cut(cut)),
     }
 }
 
-// Deals the messages of the input, and stores the rounds that are enough for a start.
+// Deals the messages of the input, batch by batch, and stores what was dealt, where it is enough, while the next batch is read.
 fn deal_input<
     F: Send + Drop,
     X: Drop,
@@ -219,50 +241,48 @@ where
     ensures to_end { IfSome (I.left input.old) (λ octets. OnOk result (I.left input.new ≡ Some [])) }
     ensures calm { OnOk result (I.faults input.new ≡ I.faults input.old) }
     ensures read { IfErr result (λ e. is_unread e ≡ true → Rose (I.faults input.old) (I.faults input.new)) }
-    ensures read_quiet { IfErr result (λ e. is_unread e ≡ false → I.faults input.new ≡ I.faults input.old) }
+    ensures read_quiet { IfErr result (λ e. is_calm e ≡ true → I.faults input.new ≡ I.faults input.old) }
     ensures jobs { length crew.new.jobs.items ≡ length crew.old.jobs.items }
     ensures cause { IfErr result (λ e. OnStore e (Rose (S.faults store.old) (S.faults store.new))) }
     ensures told { is_some (S.has store.new) ≡ is_some (S.has store.old) }
     ensures later { S.faults store.old ≤ S.faults store.new }
 {
-    let Ok(mut splitter) = Splitter::new(alloc) else {
+    let Ok(mut reader) = Reader::new(alloc) else {
         return Err(BulkFault::NoMemory);
     };
-    let Ok(mut buffer) = new_buffer(alloc) else {
-        return Err(BulkFault::NoMemory);
-    };
-    let mut total = 0u64;
+    let mut names = Names::new(alloc);
+    let mut are_enough = false;
     for _ in 0..u64::MAX {
-        let n = match read_piece(input, &mut buffer, total) {
-            Ok(n) => n,
-            Err(fault) => return Err(BulkFault::Input(fault)),
-        };
-        if n == 0 {
-            return end_of(splitter);
-        }
-        if total == INPUT_LIMIT {
-            return Err(BulkFault::InputLimit);
-        }
-        let (octets, _) = buffer.split_at(n);
-        match splitter.feed(octets) {
-            Ok(()) => {}
-            Err(_) => return Err(BulkFault::NoMemory),
-        }
-        total += n as u64;
-        match deal_messages(
+        let batch = match read_batch(
             rt,
             alloc,
-            schema,
+            input,
             given,
-            &mut splitter,
+            schema,
+            &names,
+            &mut reader,
+            are_enough,
             crew,
             opener,
             store,
             gate,
         ) {
+            Ok(batch) => batch,
+            Err(fault) => return Err(fault),
+        };
+        let Batch { sheets, end } = batch;
+        match deal_sheets(alloc, sheets, &mut names, crew, opener, store) {
             Ok(()) => {}
             Err(fault) => return Err(fault),
         }
+        let reach = match end {
+            Ok(reach) => reach,
+            Err(stop) => return Err(stopped(stop)),
+        };
+        if reach.is_end() {
+            return end_of(reader);
+        }
+        are_enough = reach.is_full() || crew.parcels.len() >= ENOUGH;
     }
     Err(BulkFault::InputLimit)
 }

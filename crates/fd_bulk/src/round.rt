@@ -1,16 +1,21 @@
 //! Rounds: each worker stores its share of some messages.
 ghost use Rattle.std.specs.Prelude.{◌≡◌, ◌<◌, ◌≤◌, ℕ, List, All, length, slice_index_or};
+ghost use Rattle.fd_schema.specs.Grammar.{IsSchema};
+ghost use Rattle.fd_sheets.specs.Reading.{ReadOn};
 ghost use Rattle.fd_entries.specs.declared.batch.Pair.{Pair};
 ghost use Rattle.fd_bulk.specs.Sharing.{AllWork, CanListAll, CanListAt, CanShare, CanStore, Listed, ListedAt, SameMet, Shared, StoredAt};
 ghost use Rattle.fd_bulk.specs.Working.{Filling, Stage};
 
+use crate::beside::for_each_beside;
 use crate::working::{list, store};
 use fd_archiver::{Archiver, FlushFault};
 use fd_bytes::Bytes;
 use fd_dataset::{Dataset, DatasetPass};
 use fd_disk::{Disk, Folder, Sealed, Shelf};
-use fd_io::Gate;
-use fd_schema::Place;
+use fd_io::{Gate, Source};
+use fd_key::Given;
+use fd_schema::{Place, Schema};
+use fd_sheets::{Batch, Names, Reader, read_on};
 use std::alloc::Global;
 use std::sync::Wait;
 use std::thread;
@@ -40,11 +45,13 @@ pub(crate) struct Halt<E> {
     pub(crate) fault: E,
 }
 
-/// What a worker owns: its archiver and pass in each dataset that it has met, by the datasets' numbers.
+/// What a worker owns: its archiver and pass in each dataset that it has met, by the datasets' numbers; and the last round before which it
+/// has passed the gate, from 1, or 0.
 #[derive(Drop)]
 pub(crate) struct Job<A, P, E> {
     pub(crate) desks: Vec<Option<Desk<A, P>>>,
     pub(crate) halt: Option<Halt<E>>,
+    pub(crate) round: u32,
 }
 
 /// The job of a worker.
@@ -96,7 +103,8 @@ fn entered<G: Gate, R: Wait>(rt: &R, gate: &G, worker: usize, last: u32, next: u
     next
 }
 
-// The share of a worker, from 0, in each of the rounds. It stops at the first message that it can't store.
+// The share of a worker, from 0, in these messages, whose first may be of a round that it has begun. It stops at the first message that
+// it can't store.
 fn run_share<F: Send + Drop, T: Disk<F>, H: Shelf<F>, G: Gate, R: Wait>(
     rt: &R,
     alloc: Global,
@@ -111,10 +119,9 @@ where
     requires can { CanShare H.kept datasets.now worker parcels.now job.old }
     ensures shared { Shared H.kept datasets.now worker parcels.now job.old job.new }
 {
-    let mut round = 0;
     for at in 0..parcels.len() {
         let parcel = &parcels[at];
-        round = entered(rt, gate, worker, round, parcel.round);
+        job.round = entered(rt, gate, worker, job.round, parcel.round);
         if parcel.worker as usize == worker {
             match store_parcel(rt, alloc, datasets, parcel, job) {
                 Ok(()) => {}
@@ -127,7 +134,7 @@ where
     }
 }
 
-/// Each worker's share of the rounds, in a thread of its own. It passes the gate before its share of each.
+/// Each worker's share of the messages, in a thread of its own. It passes the gate before its share of each round.
 pub(crate) fn run_rounds<
     F: Send + Drop,
     T: Disk<F>,
@@ -157,6 +164,95 @@ where
             ensures { Shared H.kept datasets.entry.now i parcels.entry.now job.old job.new }
         { run_share(rt, alloc, gate, datasets, parcels, i, job) },
     );
+}
+
+// Each worker's share of the messages, in threads of their own, while this thread reads on.
+fn run_both<
+    F: Send + Drop,
+    X: Drop,
+    T: Disk<F>,
+    H: Shelf<F>,
+    I: Source<X>,
+    G: Gate,
+    R: Threads + Wait + Sync,
+>(
+    rt: &R,
+    alloc: Global,
+    gate: &G,
+    datasets: &[Dataset<F, T, H::Sealed>],
+    parcels: &[Parcel],
+    schema: &Schema,
+    given: &Given,
+    names: &Names,
+    workers: usize,
+    input: &mut I,
+    reader: &mut Reader,
+    jobs: &mut [WorkerJob<F, T, H>],
+) -> Batch<X>
+where
+    requires schema { IsSchema schema.now }
+    requires workers { 0 < workers }
+    requires few { length jobs.old ≤ 8 }
+    requires can { (i : ℕ) (e : _) → i < length jobs.old → CanShare H.kept datasets.now i parcels.now (slice_index_or jobs.old i e) }
+    ensures long { length jobs.new ≡ length jobs.old }
+    ensures shared { (i : ℕ) (e : _) → i < length jobs.old → Shared H.kept datasets.now i parcels.now (slice_index_or jobs.old i e) (slice_index_or jobs.new i e) }
+    ensures reads { ReadOn schema.now given.now names.now.texts.items reader.old reader.new (I.left input.old) (I.left input.new) (I.faults input.old) (I.faults input.new) result }
+{
+    let other = alloc;
+    let mut read = || -> Batch<X>
+        requires { IsSchema schema.now × (0 < workers) }
+        ensures { ReadOn schema.entry.now given.entry.now names.entry.now.texts.items reader.entry.now reader.exit.now (I.left input.entry.now) (I.left input.exit.now) (I.faults input.entry.now) (I.faults input.exit.now) result }
+    { read_on(rt, other, schema, given, names, workers, input, reader) };
+    for_each_beside(
+        rt,
+        &|i: usize, job: &mut WorkerJob<F, T, H>|
+            requires { (i < 8) × CanShare H.kept datasets.now i parcels.now job.old }
+            ensures { Shared H.kept datasets.entry.now i parcels.entry.now job.old job.new }
+        { run_share(rt, alloc, gate, datasets, parcels, i, job) },
+        jobs,
+        &mut read,
+    )
+}
+
+/// Each worker's share of the messages, as above, while the input is read on by this thread. A single worker and the reader take turns.
+pub(crate) fn run_beside<
+    F: Send + Drop,
+    X: Drop,
+    T: Disk<F>,
+    H: Shelf<F>,
+    I: Source<X>,
+    G: Gate,
+    R: Threads + Wait + Sync,
+>(
+    rt: &R,
+    alloc: Global,
+    gate: &G,
+    datasets: &[Dataset<F, T, H::Sealed>],
+    parcels: &[Parcel],
+    schema: &Schema,
+    given: &Given,
+    names: &Names,
+    input: &mut I,
+    reader: &mut Reader,
+    jobs: &mut [WorkerJob<F, T, H>],
+) -> Batch<X>
+where
+    requires schema { IsSchema schema.now }
+    requires some { 0 < length jobs.old }
+    requires few { length jobs.old ≤ 8 }
+    requires can { (i : ℕ) (e : _) → i < length jobs.old → CanShare H.kept datasets.now i parcels.now (slice_index_or jobs.old i e) }
+    ensures long { length jobs.new ≡ length jobs.old }
+    ensures shared { (i : ℕ) (e : _) → i < length jobs.old → Shared H.kept datasets.now i parcels.now (slice_index_or jobs.old i e) (slice_index_or jobs.new i e) }
+    ensures reads { ReadOn schema.now given.now names.now.texts.items reader.old reader.new (I.left input.old) (I.left input.new) (I.faults input.old) (I.faults input.new) result }
+{
+    let workers = jobs.len();
+    if workers == 1 {
+        run_rounds(rt, alloc, gate, datasets, parcels, jobs);
+        return read_on(rt, alloc, schema, given, names, workers, input, reader);
+    }
+    run_both(
+        rt, alloc, gate, datasets, parcels, schema, given, names, workers, input, reader, jobs,
+    )
 }
 
 // Lists what a worker has pending in the dataset with this number, if it has met that.

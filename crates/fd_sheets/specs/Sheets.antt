@@ -1,10 +1,9 @@
 -- The messages that are whole in what was read, and the place of each.
-use Rattle.std.specs.Prelude.{◌≡◌, ◌≤◌, ◌<◌, ◌+◌, ℕ, List, [], ◌∷◌, ◌++◌, length, Option, Some, None, Result, Ok, Err, string_bytes}
+use Rattle.std.specs.Prelude.{◌≡◌, ◌≤◌, ◌<◌, ◌+◌, Bool, true, false, List, [], ◌∷◌, length, Option, Some, None, Result, Ok, Err, string_bytes}
 use Rattle.fd_sections.specs.Message.{Sections, message_octets}
 use Rattle.fd_sections.specs.Progress.{Progress}
 use Rattle.fd_sections.specs.Reading.{reading}
-use Rattle.fd_sections.specs.Splitting.{answer, progress}
-use Rattle.fd_sections.specs.Stream.{first}
+use Rattle.fd_sections.specs.Joining.{IsWaiting, RefusesAs, SplitsOn}
 use Rattle.fd_key.specs.Keys.{key_of}
 use Rattle.fd_key.specs.Pairs as keys
 use Rattle.fd_key.specs.Pairs.{key_text}
@@ -19,35 +18,50 @@ use Rattle.fd_sheets.specs.declared.sheets.Unsplit.TheVariants as ends
 
 -- ---- messages
 
--- the message that a splitter answers here, and its number
-pub record IsSheet (p : Progress) (m : Sections) (s : Sheet) : Type 0 where
-  pub answered : answer p (first p.rest) ≡ Ok (Some m)
+-- a message that was split off between two states of a splitter, with its number
+pub record IsSheet (p q : Progress) (m : Sections) (s : Sheet) : Type 0 where
+  pub splits : SplitsOn p q [] (m ∷ [])
   pub number : s.number ≡ p.given + 1
   pub octets : s.bytes ≡ message_octets m
+  pub reads : reading s.bytes ≡ Ok m
+  pub some : 16 ≤ length s.bytes
+  pub limit : length s.bytes ≤ 134217728
+  pub fits : length s.bytes + length q.rest ≤ length p.rest
 
--- between two states of a splitter these messages were answered, one behind the other
+-- between two states of a splitter no message was split off
+pub record Passes (p q : Progress) : Type 0 where
+  pub splits : SplitsOn p q [] []
+  pub fits : length q.rest ≤ length p.rest
+
+-- between two states of a splitter these messages were split off, one behind the other
 abbrev pub Staged : Progress → List Sheet → Progress → Type 0
-Staged p [] q = p ≡ q
-Staged p (s ∷ ss) q = (m : Sections) × IsSheet p m s × Staged (progress p (first p.rest)) ss q
+Staged p [] q = Passes p q
+Staged p (s ∷ ss) q = (m : Sections) × (r : Progress) × IsSheet p r m s × Staged r ss q
 
 -- the next message, if one is whole, or a refusal
 abbrev pub Next : Progress → Progress → Result (Option Sheet) Unsplit → Type 0
-Next p q (Ok (Some s)) = ((m : Sections) × IsSheet p m s) × (q ≡ progress p (first p.rest))
-Next p q (Ok None) = (answer p (first p.rest) ≡ Ok None) × (q ≡ progress p (first p.rest))
-Next p q (Err (ends.Message at)) = answer p (first p.rest) ≡ Err at
+Next p q (Ok (Some s)) = (m : Sections) × IsSheet p q m s
+Next p q (Ok None) = Passes p q × IsWaiting q
+Next p q (Err (ends.Message at)) = RefusesAs p at
 Next p q (Err ends.NoMemory) = Unit {0}
 
--- why no message comes here
-abbrev pub Stays : Progress → Progress → Result (Unit {0}) Unsplit → Type 0
-Stays p q (Ok done) = (answer p (first p.rest) ≡ Ok None) × (q ≡ progress p (first p.rest))
-Stays p q (Err (ends.Message at)) = answer p (first p.rest) ≡ Err at
+-- Behind the messages that were taken: the splitter stands there, and none is whole, unless they are enough; or the next is refused.
+abbrev pub Stays : Progress → Progress → Result Bool Unsplit → Type 0
+Stays p q (Ok enough) = (q ≡ p) × (enough ≡ false → IsWaiting q)
+Stays p q (Err (ends.Message at)) = RefusesAs p at
 Stays p q (Err ends.NoMemory) = Unit {0}
 
--- these messages were taken, and none comes behind them
-pub record Took (p q : Progress) (sheets : List Sheet) (result : Result (Unit {0}) Unsplit) : Type 0 where
+-- some are, where they are enough
+abbrev pub AreSome : List Sheet → Result Bool Unsplit → Type 0
+AreSome sheets (Ok enough) = enough ≡ true → 0 < length sheets
+AreSome sheets (Err end) = Unit {0}
+
+-- these messages were taken, and why no more were
+pub record Took (p q : Progress) (sheets : List Sheet) (result : Result Bool Unsplit) : Type 0 where
   pub middle : Progress
   pub staged : Staged p sheets middle
   pub stays : Stays middle q result
+  pub some : AreSome sheets result
 
 -- ---- places
 
@@ -72,7 +86,7 @@ pub record IsLookedUp (rules : List Rule) (given : List keys.Pair) (s t : Sheet)
   pub bytes : t.bytes ≡ s.bytes
   pub found : (m : Sections) → reading s.bytes ≡ Ok m → IsFound rules given m t.found
 
--- between two states of a splitter these messages were answered, and these are their places
+-- between two states of a splitter these messages were split off, and these are their places
 abbrev pub Placed : List Rule → List keys.Pair → Progress → List Sheet → Progress → Type 0
-Placed rules given p [] q = p ≡ q
-Placed rules given p (s ∷ ss) q = (m : Sections) × IsSheet p m s × IsFound rules given m s.found × Placed rules given (progress p (first p.rest)) ss q
+Placed rules given p [] q = Passes p q
+Placed rules given p (s ∷ ss) q = (m : Sections) × (r : Progress) × IsSheet p r m s × IsFound rules given m s.found × Placed rules given r ss q

@@ -5,6 +5,7 @@ ghost use Rattle.fd_schema.specs.Grammar.{IsSchema};
 ghost use Rattle.fd_sheets.specs.Sheets.{FoundAs, IsLookedUp, IsReadable, Next, Took};
 
 use crate::buffers::Buffers;
+use crate::rounds::Rounds;
 use fd_bytes::Bytes;
 use fd_key::{Given, KeyFault, key_of};
 use fd_schema::{Place, PlaceFault, Schema};
@@ -16,10 +17,11 @@ use std::thread::Threads;
 /// From how many sheets on their places are looked for in several threads.
 const ENOUGH_SHEETS: usize = 64;
 
-/// A message of the input, with its number, from 1, and its place, once that was looked for.
+/// A message of the input, with its number and that of its round, from 1, and its place, once that was looked for.
 #[derive(Drop)]
 pub struct Sheet {
     pub number: u64,
+    pub round: u32,
     pub bytes: Bytes,
     pub found: Option<Result<Place, Unplaced>>,
 }
@@ -37,7 +39,7 @@ pub enum Unplaced {
 
 /// Why no message comes.
 #[derive(Drop)]
-pub enum Unsplit {
+pub(crate) enum Unsplit {
     /// What comes is no GRIB 2 message.
     Message(BadAt),
     /// An allocation was refused.
@@ -49,43 +51,57 @@ fn next_sheet(
     alloc: Global,
     splitter: &mut Splitter,
     buffers: &mut Buffers,
+    rounds: &mut Rounds,
 ) -> Result<Option<Sheet>, Unsplit>
     requires fed { splitter.old.fed ≤ 68719476736 }
-    ensures { Next splitter.old splitter.new result }
+    ensures next { Next splitter.old splitter.new result }
+    ensures fed { splitter.new.fed ≡ splitter.old.fed }
 {
     let number = splitter.given() + 1;
     match splitter.next() {
         Ok(None) => Ok(None),
         Ok(Some(message)) => match buffers.copied(alloc, message.bytes()) {
-            Ok(bytes) => Ok(Some(Sheet {
-                number,
-                bytes,
-                found: None,
-            })),
+            Ok(bytes) => {
+                let round = rounds.number();
+                rounds.count(message.bytes().len() as u64);
+                Ok(Some(Sheet {
+                    number,
+                    round,
+                    bytes,
+                    found: None,
+                }))
+            }
             Err(_) => Err(Unsplit::NoMemory),
         },
         Err(at) => Err(Unsplit::Message(at)),
     }
 }
 
-/// Takes the messages that are whole, and tells why none comes behind them.
-pub fn take_sheets(
+/// Takes the messages that are whole, as many as are handed on at once, and tells whether there are so many; or why none comes behind
+/// them.
+pub(crate) fn take_sheets(
     alloc: Global,
     splitter: &mut Splitter,
     buffers: &mut Buffers,
+    rounds: &mut Rounds,
     sheets: &mut Vec<Sheet>,
-) -> Result<(), Unsplit>
+) -> Result<bool, Unsplit>
     requires fed { splitter.old.fed ≤ 68719476736 }
     requires none { sheets.old.items ≡ [] }
-    ensures { Took splitter.old splitter.new sheets.new.items result }
+    ensures took { Took splitter.old splitter.new sheets.new.items result }
+    ensures fed { splitter.new.fed ≡ splitter.old.fed }
 {
     'messages: loop {
-        match next_sheet(alloc, splitter, buffers) {
+        match next_sheet(alloc, splitter, buffers, rounds) {
             Ok(Some(sheet)) => match sheets.push(sheet) {
-                Ok(()) => {}
+                Ok(()) => {
+                    if rounds.is_full() {
+                        return Ok(true);
+                    }
+                }
                 Err(_) => return Err(Unsplit::NoMemory),
             },
-            Ok(None) => return Ok(()),
+            Ok(None) => return Ok(false),
             Err(fault) => return Err(fault),
         }
     }
@@ -130,7 +146,7 @@ fn look_up(alloc: Global, schema: &Schema, given: &Given, sheet: &mut Sheet)
 }
 
 /// Looks for the places of sheets, by so many threads where there are enough sheets for several.
-pub fn look_up_all<R: Threads + Sync>(
+pub(crate) fn look_up_all<R: Threads + Sync>(
     rt: &R,
     alloc: Global,
     schema: &Schema,

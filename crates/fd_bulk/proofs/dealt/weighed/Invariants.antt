@@ -4,6 +4,6 @@ use Rattle.fd_bulk.proofs.dealt.weighed.Given as goal
 
 abbrev pub invariant-loop-octet : goal.invariant-loop-octet
 invariant-loop-octet l = record {
-  below : l.weight < l.workers;
+  below : l.weight < 16777216;
   weighs : (l.weight + sum (drop l.octet-index l.text)) % l.workers ≡ (l.before + sum l.text) % l.workers;
 }

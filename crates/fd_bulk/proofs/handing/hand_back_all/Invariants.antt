@@ -2,7 +2,7 @@ use Rattle.fd_turn.specs.Passes.{IsSame, view}
 use Rattle.fd_library.specs.Calls.{Changes}
 use Rattle.fd_bulk.specs.Ending.{HandsAll, IsShorter, column}
 use Rattle.fd_bulk.specs.Halting.{Each}
-use Rattle.fd_bulk.specs.Opening.{AreOpen}
+use Rattle.fd_opener.specs.Opening.{AreOpen}
 use Rattle.fd_bulk.proofs.Turns.{Turned}
 use Rattle.std.specs.Prelude.{take}
 use Rattle.fd_bulk.proofs.handing.hand_back_all.Given as goal

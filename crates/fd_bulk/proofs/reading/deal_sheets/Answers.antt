@@ -1,11 +1,10 @@
-use Rattle.std.proofs.Common.{rules, ◌≡◌, ◌≤◌, ◌∙◌, ◌++◌, ◌∷◌, [], ℕ, List, Option, Bool, Err, drop, length, refl, sym, ap, arith}
-use Rattle.std.specs.Prelude.{is_some}
+use Rattle.std.proofs.Common.{rules, ◌≡◌, ◌∙◌, ◌++◌, Err, length, refl, sym, subst, arith}
 use Rattle.std.proofs.lemmas.Iterator.Adapters.{YieldsList-from_vec}
 use Rattle.std.proofs.lemmas.Iterator.Consumers.{YieldsList-end, YieldsList-turn}
-use Rattle.fd_disk.specs.Folders.{Holdings}
-use Rattle.fd_bulk.proofs.Gone.{can_run, ended_run, gone_run}
-use Rattle.fd_bulk.proofs.Placing.{can_deal_next, ended_next, next_few, next_of, next_placed, none_of, went_all, went_more, went_none}
-use Rattle.fd_sheets.proofs.Placing.{behind_next}
+use Rattle.fd_library.specs.Open.{names_of}
+use Rattle.fd_sheets.specs.Names.{IsKnown}
+use Rattle.fd_bulk.proofs.Naming.{notes_more, notes_none}
+use Rattle.fd_bulk.proofs.Placing.{can_deal_next, ended_next, next_at, next_of, next_placed, none_of, went_all, went_more, went_none}
 use Rattle.fd_bulk.proofs.reading.deal_sheets.Goals as goal
 
 pub loop-sheet-init : goal.loop-sheet-init
@@ -16,6 +15,7 @@ loop-sheet-init g c = record {
   told = refl;
   later = omega arith;
   jobs = refl;
+  notes = notes_none c.args.names.now.texts.items (names_of c.args.opener.now.library.each);
   goes = λ rules given p q start all waiting few placed going. went_none g.S.Folder.Folder.has g.S.Folder.Shelf.Shelf.kept rules given p q start (g.S.Store.has c.args.store.now) all waiting c.args.sheets.items c.args.opener.now.library c.args.crew.now.passes.items c.args.crew.now.jobs.items c.args.crew.now.parcels.items few placed going;
 }
 
@@ -35,58 +35,18 @@ returns-in_err-deal_sheet-clause-goes g c =
     λ rules given p q start all waiting few placed going.
     let w = c.loop-sheet.invariant.goes rules given p q start all waiting few placed going in
     let one = next_placed g.S.Folder.Folder.has g.S.Folder.Shelf.Shelf.kept rules given p q start (g.S.Store.has c.loop-sheet.store) (all ++ waiting) c.in-Some.sheet _ _ is c.loop-sheet.opener.library c.loop-sheet.crew.passes.items c.loop-sheet.crew.jobs.items c.loop-sheet.crew.parcels.items w in
+    let at = next_at g.S.Folder.Folder.has g.S.Folder.Shelf.Shelf.kept rules given p q start (g.S.Store.has c.loop-sheet.store) (all ++ waiting) c.in-Some.sheet _ _ is c.loop-sheet.opener.library c.loop-sheet.crew.passes.items c.loop-sheet.crew.jobs.items c.loop-sheet.crew.parcels.items w in
     rw e (ended_next g.S.Folder.Folder.has g.S.Folder.Shelf.Shelf.kept rules given p q start (g.S.Store.has c.loop-sheet.store) (all ++ waiting) c.in-Some.sheet _ _ is c.loop-sheet.opener.library c.loop-sheet.crew.passes.items c.loop-sheet.crew.jobs.items c.loop-sheet.crew.parcels.items w (g.S.Store.has c.deal_sheet.new.store) c.deal_sheet.new.opener.library c.deal_sheet.new.crew.passes.items c.deal_sheet.new.crew.jobs.items c.deal_sheet.new.crew.parcels.items c.in_err-deal_sheet.field-0.0
-    (c.in_err-deal_sheet.ensures.goes rules given w.middle (behind_next w.middle) start w.went.all w.went.waiting w.few one w.went.going))
+    (c.in_err-deal_sheet.ensures.goes rules given w.middle at start w.went.all w.went.waiting w.few one w.went.going))
 
-pub run-requires-clause-can : goal.run-requires-clause-can
-run-requires-clause-can g c κs within =
+pub returns-in_err-deal_sheet-clause-known : goal.returns-in_err-deal_sheet-clause-known
+returns-in_err-deal_sheet-clause-known g c =
     let t = YieldsList-turn (YieldsList-from_vec c.args.sheets.items (search rules) (search rules)) c.loop-sheet.yielded c.loop-sheet.sheet-iterator c.loop-sheet.yielded_by c.next.result c.next.new.self c.in-Some.sheet c.in-Some.is c.next.ensures.steps in
-    let is = next_of c.args.sheets.items c.loop-sheet.yielded c.in-Some.sheet t.0 t.1 in
-    let r = c.requires.can in
-    let w = c.loop-sheet.invariant.goes r.rules r.given r.from r.to r.start r.all r.waiting r.few r.placed r.going in
-    let one = next_placed g.S.Folder.Folder.has g.S.Folder.Shelf.Shelf.kept r.rules r.given r.from r.to r.start (g.S.Store.has c.loop-sheet.store) (r.all ++ r.waiting) c.in-Some.sheet _ _ is c.loop-sheet.opener.library c.loop-sheet.crew.passes.items c.loop-sheet.crew.jobs.items c.loop-sheet.crew.parcels.items w in
-    let few = next_few g.S.Folder.Folder.has g.S.Folder.Shelf.Shelf.kept r.rules r.given r.from r.to r.start (g.S.Store.has c.loop-sheet.store) (r.all ++ r.waiting) c.in-Some.sheet _ _ is c.loop-sheet.opener.library c.loop-sheet.crew.passes.items c.loop-sheet.crew.jobs.items c.loop-sheet.crew.parcels.items w in
-    let v = c.in_ok-deal_sheet.ensures.goes r.rules r.given w.middle (behind_next w.middle) r.start w.went.all w.went.waiting w.few one w.went.going in
-    can_run g.S.Folder.Folder.has g.S.Folder.Shelf.Shelf.kept r.rules r.given r.start (g.S.Store.has c.deal_sheet.new.store) v.all v.waiting c.deal_sheet.new.opener.library c.deal_sheet.new.crew.passes.items c.deal_sheet.new.crew.jobs.items c.deal_sheet.new.crew.parcels.items (behind_next w.middle) few v.going
-
-pub loop-sheet-preserved-in-Continue-branch-2 : goal.loop-sheet-preserved-in-Continue-branch-2
-loop-sheet-preserved-in-Continue-branch-2 g c =
-    let t = YieldsList-turn (YieldsList-from_vec c.args.sheets.items (search rules) (search rules)) c.loop-sheet.yielded c.loop-sheet.sheet-iterator c.loop-sheet.yielded_by c.next.result c.next.new.self c.in-Some.sheet c.in-Some.is c.next.ensures.steps in
-    let is = next_of c.args.sheets.items c.loop-sheet.yielded c.in-Some.sheet t.0 t.1 in
-    let i = c.loop-sheet.invariant in
-    let n = c.in_ok-deal_sheet.ensures in
-    let r = c.in_ok-run.ensures in
-    record {
-      next = search rules;
-      ends = search rules;
-      out = λ m is. n.out m (sym (ap (λ (f : List ℕ → Bool). f m) r.out) ∙ is);
-      told = ap (λ (h : Option Holdings). is_some h) r.has ∙ n.told ∙ i.told;
-      later = omega (arith, i.later, n.later, r.later);
-      jobs = r.jobs ∙ n.jobs ∙ i.jobs;
-      goes = λ rules given p q start all waiting few placed going.
-          let w = i.goes rules given p q start all waiting few placed going in
-          let one = next_placed g.S.Folder.Folder.has g.S.Folder.Shelf.Shelf.kept rules given p q start (g.S.Store.has c.loop-sheet.store) (all ++ waiting) c.in-Some.sheet _ _ is c.loop-sheet.opener.library c.loop-sheet.crew.passes.items c.loop-sheet.crew.jobs.items c.loop-sheet.crew.parcels.items w in
-          let less = next_few g.S.Folder.Folder.has g.S.Folder.Shelf.Shelf.kept rules given p q start (g.S.Store.has c.loop-sheet.store) (all ++ waiting) c.in-Some.sheet _ _ is c.loop-sheet.opener.library c.loop-sheet.crew.passes.items c.loop-sheet.crew.jobs.items c.loop-sheet.crew.parcels.items w in
-          let v = n.goes rules given w.middle (behind_next w.middle) start w.went.all w.went.waiting w.few one w.went.going in
-          went_more g.S.Folder.Folder.has g.S.Folder.Shelf.Shelf.kept rules given p q start (g.S.Store.has c.loop-sheet.store) (all ++ waiting) c.in-Some.sheet _ _ is c.loop-sheet.opener.library c.loop-sheet.crew.passes.items c.loop-sheet.crew.jobs.items c.loop-sheet.crew.parcels.items w (g.S.Store.has c.run.new.store) c.deal_sheet.new.opener.library c.run.new.self.passes.items c.run.new.self.jobs.items c.run.new.self.parcels.items
-          (gone_run g.S.Folder.Folder.has g.S.Folder.Shelf.Shelf.kept rules given start (g.S.Store.has c.deal_sheet.new.store) (w.went.all ++ w.went.waiting) c.deal_sheet.new.opener.library c.deal_sheet.new.crew.passes.items c.deal_sheet.new.crew.jobs.items c.deal_sheet.new.crew.parcels.items w.middle (behind_next w.middle) v less (g.S.Store.has c.run.new.store) r.has c.run.new.self.passes.items c.run.new.self.jobs.items c.run.new.self.parcels.items r.none g.row.X.Denot (r.ran start (g.S.Store.has c.deal_sheet.new.store) 0 v.all v.waiting v.going.deals.crewed v.going.deals.waits));
-    }
-
-pub returns-in_err-run-clause-goes : goal.returns-in_err-run-clause-goes
-returns-in_err-run-clause-goes g c =
-    let t = YieldsList-turn (YieldsList-from_vec c.args.sheets.items (search rules) (search rules)) c.loop-sheet.yielded c.loop-sheet.sheet-iterator c.loop-sheet.yielded_by c.next.result c.next.new.self c.in-Some.sheet c.in-Some.is c.next.ensures.steps in
-    let is = next_of c.args.sheets.items c.loop-sheet.yielded c.in-Some.sheet t.0 t.1 in
-    let i = c.loop-sheet.invariant in
-    let n = c.in_ok-deal_sheet.ensures in
-    let r = c.in_err-run.ensures in
-    let e : c.from_residual-in_err-run.result ≡ Err c.in_err-run.field-0.0 = search rules in
-    λ rules given p q start all waiting few placed going.
-    let w = i.goes rules given p q start all waiting few placed going in
-    let one = next_placed g.S.Folder.Folder.has g.S.Folder.Shelf.Shelf.kept rules given p q start (g.S.Store.has c.loop-sheet.store) (all ++ waiting) c.in-Some.sheet _ _ is c.loop-sheet.opener.library c.loop-sheet.crew.passes.items c.loop-sheet.crew.jobs.items c.loop-sheet.crew.parcels.items w in
-    let less = next_few g.S.Folder.Folder.has g.S.Folder.Shelf.Shelf.kept rules given p q start (g.S.Store.has c.loop-sheet.store) (all ++ waiting) c.in-Some.sheet _ _ is c.loop-sheet.opener.library c.loop-sheet.crew.passes.items c.loop-sheet.crew.jobs.items c.loop-sheet.crew.parcels.items w in
-    let v = n.goes rules given w.middle (behind_next w.middle) start w.went.all w.went.waiting w.few one w.went.going in
-    rw e (ended_next g.S.Folder.Folder.has g.S.Folder.Shelf.Shelf.kept rules given p q start (g.S.Store.has c.loop-sheet.store) (all ++ waiting) c.in-Some.sheet _ _ is c.loop-sheet.opener.library c.loop-sheet.crew.passes.items c.loop-sheet.crew.jobs.items c.loop-sheet.crew.parcels.items w (g.S.Store.has c.run.new.store) c.deal_sheet.new.opener.library c.run.new.self.passes.items c.run.new.self.jobs.items c.run.new.self.parcels.items c.in_err-run.field-0.0
-    (ended_run g.S.Folder.Folder.has g.S.Folder.Shelf.Shelf.kept rules given start (g.S.Store.has c.deal_sheet.new.store) (w.went.all ++ w.went.waiting) c.deal_sheet.new.opener.library c.deal_sheet.new.crew.passes.items c.deal_sheet.new.crew.jobs.items c.deal_sheet.new.crew.parcels.items w.middle (behind_next w.middle) v less (g.S.Store.has c.run.new.store) r.has c.run.new.self.passes.items c.run.new.self.jobs.items c.run.new.self.parcels.items r.none c.in_err-run.field-0.0 (r.ran start (g.S.Store.has c.deal_sheet.new.store) 0 v.all v.waiting v.going.deals.crewed v.going.deals.waits)))
+    let n = c.loop-sheet.invariant.notes in
+    let e : c.from_residual.result ≡ Err c.in_err-deal_sheet.field-0.0 = search rules in
+    λ known opened.
+    let one : IsKnown c.args.names.now.texts.items c.in-Some.sheet = subst (IsKnown c.args.names.now.texts.items) (sym t.1) (known (length c.loop-sheet.yielded) c.in-Some.sheet t.0) in
+    rw e (c.in_err-deal_sheet.ensures.known (n.known c.in-Some.sheet one) (n.opened opened))
 
 pub loop-sheet-preserved : goal.loop-sheet-preserved
 loop-sheet-preserved g c =
@@ -101,11 +61,13 @@ loop-sheet-preserved g c =
       told = n.told ∙ i.told;
       later = omega (arith, i.later, n.later);
       jobs = n.jobs ∙ i.jobs;
+      notes = notes_more c.args.names.now.texts.items c.loop-sheet.names.texts.items c.deal_sheet.new.names.texts.items (names_of c.args.opener.now.library.each) (names_of c.loop-sheet.opener.library.each) (names_of c.deal_sheet.new.opener.library.each) i.notes n.notes;
       goes = λ rules given p q start all waiting few placed going.
           let w = i.goes rules given p q start all waiting few placed going in
           let one = next_placed g.S.Folder.Folder.has g.S.Folder.Shelf.Shelf.kept rules given p q start (g.S.Store.has c.loop-sheet.store) (all ++ waiting) c.in-Some.sheet _ _ is c.loop-sheet.opener.library c.loop-sheet.crew.passes.items c.loop-sheet.crew.jobs.items c.loop-sheet.crew.parcels.items w in
+          let at = next_at g.S.Folder.Folder.has g.S.Folder.Shelf.Shelf.kept rules given p q start (g.S.Store.has c.loop-sheet.store) (all ++ waiting) c.in-Some.sheet _ _ is c.loop-sheet.opener.library c.loop-sheet.crew.passes.items c.loop-sheet.crew.jobs.items c.loop-sheet.crew.parcels.items w in
           went_more g.S.Folder.Folder.has g.S.Folder.Shelf.Shelf.kept rules given p q start (g.S.Store.has c.loop-sheet.store) (all ++ waiting) c.in-Some.sheet _ _ is c.loop-sheet.opener.library c.loop-sheet.crew.passes.items c.loop-sheet.crew.jobs.items c.loop-sheet.crew.parcels.items w (g.S.Store.has c.deal_sheet.new.store) c.deal_sheet.new.opener.library c.deal_sheet.new.crew.passes.items c.deal_sheet.new.crew.jobs.items c.deal_sheet.new.crew.parcels.items
-          (n.goes rules given w.middle (behind_next w.middle) start w.went.all w.went.waiting w.few one w.went.going);
+          (n.goes rules given w.middle at start w.went.all w.went.waiting w.few one w.went.going);
     }
 
 pub returns-clause-goes : goal.returns-clause-goes

@@ -1,4 +1,4 @@
-use Rattle.std.proofs.Common.{rules, ◌≡◌, ◌<◌, length, get_or, sym, subst}
+use Rattle.std.proofs.Common.{get_or, sym, subst}
 use Rattle.fd_sheets.specs.Sheets.{IsLookedUp, IsReadable}
 use Rattle.fd_sheets.proofs.sheets.look_up_all.Goals as goal
 

@@ -1,9 +1,11 @@
 use Rattle.std.proofs.Common.{arith, ◌∙◌, ◌++◌, ◌∷◌, [], List, ℕ, Some, refl, sym, ap, subst, slice_get}
 use Rattle.fd_schema.specs.Reading.{seen_place}
+use Rattle.fd_library.specs.Open.{names_of}
 use Rattle.fd_outcome.specs.Archiving.{datasets_in, is_too_many}
 use Rattle.fd_bulk.specs.declared.round.Parcel.{Parcel}
-use Rattle.fd_bulk.specs.Crewing.{Closes, Deals, Undealt, message_at}
-use Rattle.fd_bulk.proofs.Deals.{seated_few, seated_undealt}
+use Rattle.fd_bulk.specs.Crewing.{AreMet, Closes, Deals, Undealt, message_at}
+use Rattle.fd_bulk.proofs.Deals.{seated_calm, seated_few, seated_undealt}
+use Rattle.fd_bulk.proofs.Naming.{met_more}
 use Rattle.fd_bulk.proofs.Opened.{deals_closes}
 use Rattle.fd_bulk.proofs.Waiting.{can_seat, dealt_one, deals_long}
 use Rattle.fd_bulk.proofs.crew.Crew.deal.Goals as goal
@@ -67,8 +69,37 @@ returns-clause-deals g c = λ start all waiting d.
     let opened = c.in_ok-dataset.ensures.opens start all waiting d1 in
     let seats = c.in-Ok-seated.ensures.seats start all waiting _ opened.0 in
     let met = subst (λ (t : List ℕ). Deals g.S.Folder.Folder.has g.S.Folder.Shelf.Shelf.kept start (g.S.Store.has c.opened.new.store) all waiting (datasets_in (all ++ waiting) ++ t ∷ []) c.seated.new.opener.library c.seated.new.self.passes.items c.seated.new.self.jobs.items c.seated.new.self.parcels.items) c.as_str.ensures.value seats.0 in
-    let p : Parcel = record { worker = c.dealt-worker.result; dataset = c.in_ok-dataset.dataset; round = c.seated.new.self.round.number; place = c.args.place; bytes = c.args.bytes } in
+    let p : Parcel = record { worker = c.dealt-worker.result; dataset = c.in_ok-dataset.dataset; round = c.args.round; place = c.args.place; bytes = c.args.bytes } in
     let stored = subst (λ o. Deals g.S.Folder.Folder.has g.S.Folder.Shelf.Shelf.kept start o all waiting (datasets_in (all ++ waiting) ++ (seen_place c.args.place).dataset ∷ []) c.seated.new.opener.library c.seated.new.self.passes.items c.seated.new.self.jobs.items c.seated.new.self.parcels.items) (sym c.seated.ensures.has) met in
     let named = ap (λ (ns : List (List ℕ)). slice_get ns c.in_ok-dataset.dataset) c.seated.ensures.names ∙ opened.1 ∙ ap Some c.as_str.ensures.value in
     subst (λ xs. Deals g.S.Folder.Folder.has g.S.Folder.Shelf.Shelf.kept start (g.S.Store.has c.seated.new.store) all (waiting ++ message_at (seen_place c.args.place) c.args.bytes ∷ []) (datasets_in (all ++ (waiting ++ message_at (seen_place c.args.place) c.args.bytes ∷ []))) c.seated.new.opener.library c.seated.new.self.passes.items c.seated.new.self.jobs.items xs) (sym c.push_reserved.ensures.items)
     (dealt_one g.S.Folder.Folder.has g.S.Folder.Shelf.Shelf.kept start (g.S.Store.has c.seated.new.store) all waiting c.args.bytes p c.seated.new.opener.library c.seated.new.self.passes.items c.seated.new.self.jobs.items c.seated.new.self.parcels.items refl (stored, seats.1) named c.len.result c.dealt-worker.ensures.worker (omega (arith, c.len.ensures, c.args.self.now.jobs.ok.0, c.opened.ensures.jobs, c.seated.ensures.jobs)) c.requires.key c.requires.bytes)
+
+pub returns-in-Err-clause-again : goal.returns-in-Err-clause-again
+returns-in-Err-clause-again g c = λ is.
+    let r = c.requires.deals in
+    let start = r.0 in
+    let all = r.1.0 in
+    let waiting = r.1.1.0 in
+    let s = c.args.self.now in
+    let l = c.args.opener.now.library in
+    let now = g.S.Store.has c.args.store.now in
+    let d1 = subst (λ xs. Deals g.S.Folder.Folder.has g.S.Folder.Shelf.Shelf.kept start now all waiting (datasets_in (all ++ waiting)) l s.passes.items s.jobs.items xs) (sym c.reserve.ensures.items) r.1.1.1 in
+    let opened = c.in_ok-dataset.ensures.opens start all waiting d1 in
+    seated_calm g.S.Folder.Folder.has g.S.Folder.Shelf.Shelf.kept start (g.S.Store.has c.opened.new.store) all waiting c.dealt-worker.result c.in_ok-dataset.dataset (datasets_in (all ++ waiting) ++ c.as_str.result.now ∷ []) [] [] c.seated.new.opener.library c.seated.new.self.passes.items c.seated.new.self.jobs.items c.seated.new.self.parcels.items c.in-Err.fault (c.in-Err.ensures.seats start all waiting _ opened.0)
+
+pub returns-clause-opens : goal.returns-clause-opens
+returns-clause-opens g c =
+    let r = c.requires.deals in
+    let start = r.0 in
+    let all = r.1.0 in
+    let waiting = r.1.1.0 in
+    let d = r.1.1.1 in
+    let s = c.args.self.now in
+    let l = c.args.opener.now.library in
+    let now = g.S.Store.has c.args.store.now in
+    let d1 = subst (λ xs. Deals g.S.Folder.Folder.has g.S.Folder.Shelf.Shelf.kept start now all waiting (datasets_in (all ++ waiting)) l s.passes.items s.jobs.items xs) (sym c.reserve.ensures.items) d in
+    let opened = c.in_ok-dataset.ensures.opens start all waiting d1 in
+    let seats = c.in-Ok-seated.ensures.seats start all waiting _ opened.0 in
+    let met = subst (λ (t : List ℕ). AreMet (datasets_in (all ++ waiting) ++ t ∷ []) (names_of c.seated.new.opener.library.each)) c.as_str.ensures.value seats.0.met in
+    met_more (datasets_in (all ++ waiting)) (seen_place c.args.place).dataset (names_of l.each) (names_of c.seated.new.opener.library.each) d.met met

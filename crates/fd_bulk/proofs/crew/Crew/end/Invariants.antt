@@ -1,6 +1,6 @@
 use Rattle.std.specs.Prelude.{vec_len}
 use Rattle.fd_bulk.specs.Ending.{Ends}
-use Rattle.fd_bulk.specs.Opening.{AreOpen}
+use Rattle.fd_opener.specs.Opening.{AreOpen}
 use Rattle.fd_bulk.proofs.crew.Crew.end.Given as goal
 
 abbrev pub invariant-loop-pass : goal.invariant-loop-pass
