@@ -1,5 +1,5 @@
 -- What a sync that failed may have lost of a file.
-use Rattle.std.specs.Prelude.{◌≡◌, ◌+◌, ◌-◌, ◌^◌, ◌&&◌, ◌||◌, if◌then◌else◌, ℕ, Bool, true, false, min, max, nat_le, nat_eq, Option, Some, None, is_some}
+use Rattle.std.specs.Prelude.{◌≡◌, ◌+◌, ◌-◌, ◌^◌, ◌&&◌, ◌||◌, if◌then◌else◌, ℕ, Bool, false, min, max, nat_le, nat_eq, Option, Some, None, is_some}
 use Rattle.fd_disk_real.specs.declared.unsynced.Span.{Span}
 use Rattle.fd_disk_real.specs.declared.unsynced.Unsynced.{Unsynced}
 
@@ -19,6 +19,11 @@ written_with from end (Some s) = Some (record { from = min s.from from; end = ma
 
 abbrev pub after_write : ℕ → ℕ → Unsynced → Unsynced
 after_write from end u = record { written = written_with from end u.written; lost = lost_after from end u.lost; is_name_lost = u.is_name_lost }
+
+-- a write from one place up to another is all that was written since the last sync
+abbrev pub is_all : ℕ → ℕ → Option Span → Bool
+is_all from end None = false
+is_all from end (Some s) = nat_eq s.from from && nat_eq s.end end
 
 -- after the bytes that were gathered were written
 abbrev pub after_flush : ℕ → ℕ → Unsynced → Unsynced

@@ -3,16 +3,21 @@
 //! stays, is trusted here and nowhere else.
 #![tactic(auto)]
 
+mod budget;
 mod disk;
 mod fault;
+mod file;
 mod files;
 mod folder;
+mod folders;
 mod input;
+mod locks;
 mod names;
 mod output;
 mod sealed;
 mod shelf;
 mod store;
+mod table;
 mod unsynced;
 
 pub use disk::RealDisk;

@@ -1,7 +1,9 @@
 // One writer's files in one dataset.
 ghost use Rattle.std.specs.Prelude.{◌≡◌, ◌≤◌, IfOk, string_bytes};
 
+use crate::budget::{Budget, FILES};
 use crate::fault::counted;
+use crate::file::RealFile;
 use crate::files::Host;
 use crate::names::Names;
 use crate::output::{GATHERED, Output};
@@ -19,6 +21,7 @@ pub struct RealShelf<R> {
     pub(crate) name: String,
     pub(crate) folder: String,
     pub(crate) names: Arc<Names>,
+    pub(crate) budget: Arc<Budget>,
     pub(crate) writer: u32,
     pub(crate) faults: u64,
 }
@@ -51,10 +54,11 @@ impl<R: Host + Send + Sync> Shelf<RealFault> for RealShelf<R> {
             seq,
             kind,
         };
-        let Ok(mut disk) = self.named(alloc, made) else {
+        let (Ok(mut disk), Ok(names)) = (self.named(alloc, made), Arc::try_clone(&self.names))
+        else {
             return Err(Down::NoMemory);
         };
-        match disk.output.create() {
+        match disk.output.file.create(names) {
             Ok(()) => Ok(disk),
             Err(error) => Err(Down::Fault(counted(&mut self.faults, error))),
         }
@@ -86,18 +90,18 @@ impl<R: Host> RealShelf<R> {
             FileKind::Index => 0,
         };
         let path = path_of(alloc, self.folder.as_str(), file)?;
+        let written = RealFile::new(
+            alloc,
+            self.host,
+            path.as_str(),
+            &self.budget,
+            FILES,
+            Unsynced::made(),
+        )?;
         Ok(RealDisk {
             name: String::from_str(alloc, self.name.as_str())?,
             made: Some(file),
-            output: Output::new(
-                alloc,
-                self.host,
-                self.folder.as_str(),
-                path.as_str(),
-                &self.names,
-                Unsynced::made(),
-                room,
-            )?,
+            output: Output::new(alloc, written, room)?,
             extent: 0,
             is_synced: false,
             faults: 0,
