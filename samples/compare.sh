@@ -1,10 +1,9 @@
 #!/usr/bin/env bash
 # Compares, where ecCodes is installed (Debian: libeccodes-tools), `fdb values` with `grib_get_data` and the numbers of
-# `fdb describe` with `grib_dump`, message by message of forecast.grib2 or of the file given. FDB names the program, where it
-# isn't to be built here. No part of the gate.
+# `fdb describe` with `grib_dump`, message by message of forecast.grib2 and ensemble.grib2, or of the files given. FDB names
+# the program, where it isn't to be built here. No part of the gate.
 set -eu
 here=$(cd "$(dirname "$0")" && pwd)
-file=${1:-$here/forecast.grib2}
 fdb=${FDB:-$here/../fdb}
 if ! command -v grib_get_data > /dev/null || ! command -v grib_dump > /dev/null; then
   echo "ecCodes is not installed (Debian: libeccodes-tools): nothing is compared"
@@ -12,11 +11,13 @@ if ! command -v grib_get_data > /dev/null || ! command -v grib_dump > /dev/null;
 fi
 work=$(mktemp -d)
 trap 'rm -rf "$work"' EXIT
-"$fdb" values --decimals 12 < "$file" > "$work/values"
-"$fdb" describe < "$file" > "$work/described"
+[ $# -gt 0 ] || set -- "$here/forecast.grib2" "$here/ensemble.grib2"
+cat "$@" > "$work/stream"
+"$fdb" values --decimals 12 < "$work/stream" > "$work/values"
+"$fdb" describe < "$work/stream" > "$work/described"
 # Seventeen digits write a double exactly enough; a missing value is `missing`.
-grib_get_data -F %.17g -m missing "$file" > "$work/data"
-grib_dump -O "$file" > "$work/dump"
+grib_get_data -F %.17g -m missing "$work/stream" > "$work/data"
+grib_dump -O "$work/stream" > "$work/dump"
 python3 - "$work" <<'PY'
 import re, struct, sys
 from fractions import Fraction
@@ -54,6 +55,14 @@ def dumped():
     if message:
         yield message
 
+# What templates 4.1, 4.8 and 4.11 (with one time range) have behind the numbers of 4.0.
+member = ["typeOfEnsembleForecast", "perturbationNumber", "numberOfForecastsInEnsemble"]
+interval = [f"{part}OfEndOfOverallTimeInterval" for part in ("year", "month", "day", "hour", "minute", "second")]
+interval += ["numberOfTimeRange", "numberOfMissingInStatisticalProcess", "typeOfStatisticalProcessing",
+             "typeOfTimeIncrement", "indicatorOfUnitForTimeRange", "lengthOfTimeRange",
+             "indicatorOfUnitForTimeIncrement", "timeIncrement"]
+added = {"1": member, "8": interval, "11": member + interval}
+
 blocks = open(f"{work}/described").read().split("message ")[1:]
 names = {
     "ident": ["centre", "subCentre", "tablesVersion", "localTablesVersion", "significanceOfReferenceTime", "year",
@@ -80,7 +89,8 @@ assert len(messages) == len(blocks), (len(messages), len(blocks))
 for number, (block, other) in enumerate(zip(blocks, messages), 1):
     for line in block.splitlines()[1:]:
         kind, *numbers = line.split(" ")
-        for name, value in zip(names.get(kind, []), numbers):
+        wanted_names = names.get(kind, []) + (added.get(numbers[0], []) if kind == "product" else [])
+        for name, value in zip(wanted_names, numbers):
             if name is None or name not in other:
                 continue
             wanted = other[name]

@@ -1,5 +1,5 @@
 #!/usr/bin/env bash
-# A first walk through the store: makes one in a new folder, archives the sample stream, retrieves all of it, compares the
+# A first walk through the store: makes one in a new folder, archives the sample streams, retrieves all of them, compares the
 # bytes, shows what the store holds, and runs a writer and a reader side by side in it. FDB names the program, where it isn't to be built here; a folder may be given.
 set -eu
 here=$(cd "$(dirname "$0")" && pwd)
@@ -20,8 +20,18 @@ step "fdb retrieve STORE < samples/request > out.grib2"
 "$fdb" retrieve "$store" < "$here/request" > "$work/out.grib2"
 cmp "$here/forecast.grib2" "$work/out.grib2"
 echo "out.grib2 has the $(wc -c < "$work/out.grib2") bytes of forecast.grib2"
+step "fdb archive STORE --with class=od,expver=0001 < samples/ensemble.grib2"
+"$fdb" archive "$store" --with class=od,expver=0001 < "$here/ensemble.grib2"
+step "fdb retrieve STORE < samples/members > members.grib2"
+"$fdb" retrieve "$store" < "$here/members" > "$work/members.grib2"
+step "fdb retrieve STORE < samples/members_over_time > members_over_time.grib2"
+"$fdb" retrieve "$store" < "$here/members_over_time" > "$work/members_over_time.grib2"
+cat "$work/members.grib2" "$work/members_over_time.grib2" | cmp "$here/ensemble.grib2" -
+echo "both have the $(wc -c < "$here/ensemble.grib2") bytes of ensemble.grib2"
 step "echo list,levelist=85000 | fdb list STORE"
 echo list,levelist=85000 | "$fdb" list "$store"
+step "echo list,number=9 | fdb list STORE"
+echo list,number=9 | "$fdb" list "$store"
 step "echo list | fdb axes STORE"
 echo list | "$fdb" axes "$store"
 step "fdb stats STORE"

@@ -76,7 +76,7 @@ const KEYS: [(&[(usize, u8)], &str); 9] = [
         "levelist=85000,step=0",
     ),
     (&[(SECTION_4 + 23, 255)], "step=0"),
-    (&[(SECTION_4 + 8, 1)], "Product(1)"),
+    (&[(SECTION_4 + 8, 2)], "Product(2)"),
     (&[(SECTION_1 + 14, 2), (SECTION_1 + 15, 30)], "BadDate"),
     (&[(SECTION_1 + 16, 24)], "BadDate"),
 ];

@@ -2,6 +2,8 @@
 #![tactic(auto)]
 
 #[cfg(test)]
+mod ensemble;
+#[cfg(test)]
 mod field;
 #[cfg(test)]
 mod generator;

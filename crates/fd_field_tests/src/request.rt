@@ -74,6 +74,8 @@ retrieve,time=06:00/to/19/by/6|time=0600 time=1200 time=1800\n\
 retrieve,step=-6/to/60m/by/000000004|step=-6 step=-2\n\
 retrieve,levelist=850.0/to/900/by/25|levelist=850 levelist=875 levelist=900\n\
 retrieve,centre=97/to/98,type=001|centre=97,type=1 centre=98,type=1\n\
+retrieve,number=0/to/2|number=0 number=1 number=2\n\
+retrieve,number=001/to/5/by/2,stat=NONE/1.60m|number=1,stat=none number=1,stat=1.1 number=3,stat=none number=3,stat=1.1 number=5,stat=none number=5,stat=1.1\n\
 retrieve,date=19991231/to/20000302/by/31|date=19991231 date=20000131 date=20000302\n";
 
 /// Texts, and the first place of each that is wrong.
@@ -94,6 +96,10 @@ retrieve,a=b,A=c|At { at: 13, kind: Repeated(\"a\") }\n\
 retrieve,a=b,c=d, a$|At { at: 18, kind: Repeated(\"a\") }\n\
 retrieve,class= ,|At { at: 16, kind: Value }\n\
 retrieve,class=od/o$d|At { at: 18, kind: Value }\n\
+retrieve,number=300|At { at: 16, kind: Value }\n\
+retrieve,stat=1|At { at: 14, kind: Value }\n\
+retrieve,stat=1/to/3|At { at: 14, kind: Range }\n\
+retrieve,number=0/to/256|At { at: 16, kind: Range }\n\
 retrieve,class=od=x|At { at: 15, kind: Value }\n\
 retrieve,date=20230229|At { at: 14, kind: Value }\n\
 retrieve,step=0/to/24/by/0|At { at: 14, kind: Range }\n\
@@ -109,12 +115,12 @@ retrieve,step=1/to/513,levelist=1/to/512,class=a/b|At { at: 50, kind: TooMany { 
 
 #[test]
 fn keys_in_the_order_of_the_text(rt: HostRuntime) {
-    assert_eq!(rt; agreed(rt.alloc(), KEYS, is_row), 9);
+    assert_eq!(rt; agreed(rt.alloc(), KEYS, is_row), 11);
 }
 
 #[test]
 fn places_and_kinds(rt: HostRuntime) {
-    assert_eq!(rt; agreed(rt.alloc(), REFUSED, is_row), 28);
+    assert_eq!(rt; agreed(rt.alloc(), REFUSED, is_row), 32);
 }
 
 /// Partial requests, and the first place of each that is wrong, if there is one.

@@ -1,5 +1,5 @@
--- The pairs of a message by the octets of its sections, which count from 1: what stands in them and what is read of them as an
--- identification and a product are the same pairs and the same refusals.
+-- The pairs of a message with template 4.0 by the octets of its sections, which count from 1: what stands in them and what is read of
+-- them as an identification and a product are the same pairs and the same refusals.
 use Rattle.std.proofs.Common.{◌≡◌, ℕ, ℤ, ◌+◌, Bool, true, false, cond, not, eqb, List, [], ◌∷◌, ◌++◌, length, Option, Some, None, Result, Ok, Err, refl, ap, ◌∙◌}
 use Rattle.std.specs.Prelude.{◌&&◌, ◌||◌, ◌==◌, nat_lt, codes, unsigned_abs, if◌then◌else◌}
 use Rattle.std.specs.Int.{is_negative}
@@ -8,19 +8,21 @@ use Rattle.fd_bytes.specs.Numbers.{octets, signed, is_missing}
 use Rattle.fd_sections.specs.Message.{Sections}
 use Rattle.fd_templates.specs.declared.identification.Ident.{Ident}
 use Rattle.fd_templates.specs.declared.product.Product.{Product}
-use Rattle.fd_templates.specs.declared.fault.TemplateFault.{TemplateFault}
 use Rattle.fd_templates.specs.declared.fault.TemplateFault.TheVariants.{Other, BadLength}
 use Rattle.fd_templates.specs.Octets.{number, signed_number, signed_or_missing}
 use Rattle.fd_templates.specs.Identification.{identification_of}
 use Rattle.fd_templates.specs.Product.{product_of, product_is}
+use Rattle.fd_templates.proofs.Based.{alone, all_alone, based_alone}
+use Rattle.std.proofs.lemmas.List.{append-nil}
 use Rattle.fd_key.specs.declared.fault.KeyFault.{KeyFault}
 use Rattle.fd_key.specs.declared.fault.KeyFault.TheVariants as faults
 use Rattle.fd_key.specs.Pairs.{Pair}
-use Rattle.fd_key.specs.Steps.{step_text}
-use Rattle.fd_key.specs.Civil.{is_date, is_time, date_text, time_text}
-use Rattle.fd_key.specs.Canonical.{param_text}
-use Rattle.fd_key.specs.Levels.{levtype_text, levels_text, scaled_text, scaled_if, surface_text, levels_of}
-use Rattle.fd_key.specs.Keys.{pair_if, has_date, pairs_in, dated_pairs, pairs_or, discipline_of, message_pairs}
+use Rattle.fd_spelling.specs.Steps.{step_text}
+use Rattle.fd_spelling.specs.Civil.{is_date, is_time, date_text, time_text}
+use Rattle.fd_spelling.specs.Canonical.{param_text}
+use Rattle.fd_spelling.specs.Levels.{levtype_text, levels_text, scaled_text}
+use Rattle.fd_key.specs.Fields.{scaled_if, surface_text, levels_of}
+use Rattle.fd_key.specs.Keys.{pair_if, has_date, origin_pairs, field_pairs, pairs_in, pairs_or, discipline_of, message_pairs}
 
 -- the value of a surface, whose type, scale factor and scaled value stand in section 4 from this octet on
 abbrev surface_at : ℕ → List ℕ → Option (List ℕ)
@@ -67,24 +69,31 @@ second_surface s = surface_choice (eqb (octets 29 29 s) 255) (is_missing 8 (octe
 levels_same : (s : List ℕ) → levels_of (product_of s) ≡ levels_text (surface_at 23 s) (surface_at 29 s)
 levels_same s = ap (λ first. levels_text first (surface_text (number 29 29 s) (signed_or_missing 30 30 s) (signed_or_missing 31 34 s))) (first_surface s) ∙ ap (levels_text (surface_at 23 s)) (second_surface s)
 
-pairs_same : (s0 s1 s4 : List ℕ) → pairs_in (discipline_of s0) (identification_of s1) (product_of s4) ≡ pairs_with s0 s1 s4 (levels_of (product_of s4))
+pairs_same : (s0 s1 s4 : List ℕ) → origin_pairs (identification_of s1) ++ field_pairs (discipline_of s0) (product_of s4) ≡ pairs_with s0 s1 s4 (levels_of (product_of s4))
 unfolding number signed_number
 pairs_same s0 s1 s4 = refl
 
+-- the pairs of a section with template 4.0
+alone_pairs : (discipline : ℕ) (i : Ident) (p : Product) → pairs_in discipline i (alone p) ≡ origin_pairs i ++ field_pairs discipline p
+alone_pairs discipline i p = append-nil (origin_pairs i ++ field_pairs discipline p)
+
 choice : (template short : Bool) (n t discipline : ℕ) (i : Ident) (p : Product)
-    → pairs_or discipline i (cond template (cond short (Err (BadLength n)) (Ok p)) (Err (Other t)))
-    ≡ cond (not template) (Err (faults.Product t)) (cond short (Err (faults.ProductLength n)) (cond (not (has_date i)) (Err faults.BadDate) (Ok (pairs_in discipline i p))))
+    → pairs_or discipline i (all_alone (cond template (cond short (Err (BadLength n)) (Ok p)) (Err (Other t))))
+    ≡ cond (not template) (Err (faults.Product t)) (cond short (Err (faults.ProductLength n)) (cond (not (has_date i)) (Err faults.BadDate) (Ok (origin_pairs i ++ field_pairs discipline p))))
 choice false short n t discipline i p = refl
 choice true true n t discipline i p = refl
-choice true false n t discipline i p = go (has_date i) (Ok (pairs_in discipline i p))
+choice true false n t discipline i p =
+    ap (λ (ps : List Pair). cond (has_date i) (Ok ps) (Err faults.BadDate)) (alone_pairs discipline i p) ∙ go (has_date i) (Ok (origin_pairs i ++ field_pairs discipline p))
   where
     go : (b : Bool) (pairs : Result (List Pair) KeyFault) → cond b pairs (Err faults.BadDate) ≡ cond (not b) (Err faults.BadDate) pairs
     go true pairs = refl
     go false pairs = refl
 
-pub by_octets : (m : Sections) → message_pairs m ≡ pairs_at m
+-- the pairs of a message with template 4.0
+pub by_octets : (m : Sections) → octets 8 9 m.product ≡ 0 → message_pairs m ≡ pairs_at m
 unfolding number message_pairs product_is
-by_octets m =
-    choice (eqb (octets 8 9 m.product) 0) (nat_lt (length m.product) 34) (length m.product) (octets 8 9 m.product) (discipline_of m.indicator) (identification_of m.identification) (product_of m.product)
+by_octets m base =
+    ap (pairs_or (discipline_of m.indicator) (identification_of m.identification)) (based_alone m.product base)
+    ∙ choice (eqb (octets 8 9 m.product) 0) (nat_lt (length m.product) 34) (length m.product) (octets 8 9 m.product) (discipline_of m.indicator) (identification_of m.identification) (product_of m.product)
     ∙ ap (λ (pairs : List Pair). cond (not (eqb (octets 8 9 m.product) 0)) (Err (faults.Product (octets 8 9 m.product))) (cond (nat_lt (length m.product) 34) (Err (faults.ProductLength (length m.product))) (cond (not (date_at m.identification)) (Err faults.BadDate) (Ok pairs))))
     (pairs_same m.indicator m.identification m.product ∙ ap (pairs_with m.indicator m.identification m.product) (levels_same m.product))

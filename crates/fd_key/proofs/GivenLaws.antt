@@ -1,20 +1,18 @@
 -- Reading pairs: one piece, and the next.
-use Rattle.std.proofs.Common.{◌≡◌, ◌<◌, ◌≤◌, ◌+◌, ℕ, Bool, true, false, cond, not, List, [], ◌∷◌, ◌++◌, length, ltb, eqb, Option, Some, None, Result, Ok, Err, refl, sym, ap, ◌∙◌, append_assoc, arith}
+use Rattle.std.proofs.Common.{◌≡◌, ◌<◌, ◌+◌, ℕ, Bool, true, false, cond, not, List, [], ◌∷◌, ◌++◌, length, Option, Some, None, Result, Ok, Err, refl, sym, ap, ◌∙◌, append_assoc, arith}
 use Rattle.std.specs.Prelude.{is_some, ◌&&◌}
-use Rattle.std.specs.List.{position_or_len, before_first, after_first}
-use Rattle.std.proofs.lemmas.Bool.{and_parts, and_from, ltb-true, ltb-false}
-use Rattle.std.proofs.lemmas.List.Splits.{slice_split_first, slice_split_none}
-use Rattle.std.proofs.lemmas.List.Sums.{fails_before_first}
-use Rattle.std.proofs.lemmas.List.{append-nil, length-take, length-drop}
+use Rattle.std.proofs.lemmas.Bool.{and_parts, and_from}
+use Rattle.std.proofs.lemmas.List.{append-nil}
 use Rattle.std.specs.Prelude.{◌^◌, string_bytes}
-use Rattle.fd_key.specs.Names.{is_name, is_value}
-use Rattle.fd_key.specs.Numerals.{cut, ◌>>=◌}
+use Rattle.fd_spelling.specs.Names.{is_name, is_value}
+use Rattle.fd_spelling.specs.Numerals.{cut, ◌>>=◌}
 use Rattle.fd_key.specs.Pairs.{Pair, text_of, rest_text, key_text}
-use Rattle.fd_key.specs.Given.{Refusal, Pair_at, Clash_of, Twice_of, is_reserved, are_free, differ_after, plain_pair, new_pair, with_piece, ◌and_then◌, pairs_from, pieces_of, IsGiven}
+use Rattle.fd_key.specs.Given.{Refusal, Pair_at, Clash_of, Twice_of, is_reserved, are_free, differ_after, plain_pair, new_pair, with_piece, ◌and_then◌, pairs_from, IsGiven}
 use Rattle.fd_key.specs.declared.fault.GivenFault.{GivenFault}
 use Rattle.fd_key.specs.declared.fault.GivenFault.TheVariants as faults
 use Rattle.fd_key.specs.Reading.{Refuses}
 use Rattle.fd_key.proofs.PairLaws.{length-rest_push, length-key_push}
+use Rattle.fd_spelling.proofs.PieceLaws.{cut_lengths}
 
 -- what holds of a pair that is taken
 pub record IsNew (before : List Pair) (o : Option Pair) (p : Pair) : Type 0 where
@@ -40,23 +38,6 @@ taken before (Some q) at p h = go (is_reserved q.0) (is_some (text_of before q.0
           free = sym (ap (λ (x : Pair). is_reserved x.0) same) ∙ er;
           other = sym (ap (λ (x : Pair). text_of before x.0) same) ∙ is_none (text_of before q.0) es;
         }
-
--- the lengths of the parts of a text that is cut
-pub cut_lengths : (mark : ℕ) (text : List ℕ) (parts : List ℕ × List ℕ) → cut mark text ≡ Some parts → length parts.0 + length parts.1 + 1 ≡ length text
-unfolding cut
-cut_lengths mark text parts h = go (ltb (position_or_len (λ b. eqb b mark) text) (length text)) refl h
-  where
-    at : ℕ
-    at = position_or_len (λ b. eqb b mark) text
-
-    go : (b : Bool) → ltb (position_or_len (λ b. eqb b mark) text) (length text) ≡ b
-        → cond b (Some (before_first (λ b. eqb b mark) text, after_first (λ b. eqb b mark) text)) None ≡ Some parts → length parts.0 + length parts.1 + 1 ≡ length text
-    go false e h = absurd (cc)
-    go true e h =
-        let within = ltb-true (position_or_len (λ b. eqb b mark) text) (length text) e in
-        let front : before_first (λ b. eqb b mark) text ≡ parts.0 = cc in
-        let back : after_first (λ b. eqb b mark) text ≡ parts.1 = cc in
-        omega (arith, within, ap length front, ap length back, length-take (position_or_len (λ b. eqb b mark) text) text, length-drop (position_or_len (λ b. eqb b mark) text + 1) text)
 
 -- a pair has the length of its piece
 pub plain_length : (piece : List ℕ) (p : Pair) → plain_pair piece ≡ Some p → length p.0 + length p.1 + 1 ≡ length piece
@@ -150,34 +131,6 @@ pub refused : (at : ℕ) (before : List Pair) (piece : List ℕ) (pieces : List 
     → pairs_from at before (piece ∷ pieces) ≡ Err r
 unfolding pairs_from
 refused at before piece pieces r h = ap (λ (x : Result (List Pair) Refusal). x and_then λ ps. pairs_from (at + length piece + 1) ps pieces) h
-
--- the text cut at its first comma
-pub pieces_cut : (text : List ℕ) (parts : List ℕ × List ℕ) → cut 44 text ≡ Some parts → pieces_of text ≡ parts.0 ∷ pieces_of parts.1
-unfolding cut
-pieces_cut text parts h = go (ltb (position_or_len (λ b. eqb b 44) text) (length text)) refl h
-  where
-    go : (b : Bool) → ltb (position_or_len (λ b. eqb b 44) text) (length text) ≡ b
-        → cond b (Some (before_first (λ b. eqb b 44) text, after_first (λ b. eqb b 44) text)) None ≡ Some parts → pieces_of text ≡ parts.0 ∷ pieces_of parts.1
-    go false e h = absurd (cc)
-    go true e h =
-        let within = ltb-true (position_or_len (λ b. eqb b 44) text) (length text) e in
-        let front : before_first (λ b. eqb b 44) text ≡ parts.0 = cc in
-        let back : after_first (λ b. eqb b 44) text ≡ parts.1 = cc in
-        slice_split_first (λ b. eqb b 44) text 0 within ∙ ap (λ t. t ∷ pieces_of (after_first (λ b. eqb b 44) text)) front ∙ ap (λ t. parts.0 ∷ pieces_of t) back
-
--- a text without a comma
-uncut_past : (mark : ℕ) (text : List ℕ) → cut mark text ≡ None → length text ≤ position_or_len (λ b. eqb b mark) text
-unfolding cut
-uncut_past mark text h = go (ltb (position_or_len (λ b. eqb b mark) text) (length text)) (before_first (λ b. eqb b mark) text, after_first (λ b. eqb b mark) text) refl h
-  where
-    go : (b : Bool) (parts : List ℕ × List ℕ) → ltb (position_or_len (λ b. eqb b mark) text) (length text) ≡ b → cond b (Some parts) None ≡ None → length text ≤ position_or_len (λ b. eqb b mark) text
-    go true parts e k = absurd (cc)
-    go false parts e k = ltb-false (position_or_len (λ b. eqb b mark) text) (length text) e
-
-pub pieces_uncut : (text : List ℕ) → cut 44 text ≡ None → pieces_of text ≡ text ∷ []
-pieces_uncut text h =
-    let past = uncut_past 44 text h in
-    slice_split_none (λ b. eqb b 44) text (λ k d within. fails_before_first (λ b. eqb b 44) text k d (omega (arith, past, within)))
 
 -- what refuses a piece refuses the whole
 pub refuses_all : (fault : GivenFault) (at : ℕ) (before : List Pair) (piece : List ℕ) (pieces : List (List ℕ)) → Refuses fault (with_piece before piece at) → Refuses fault (pairs_from at before (piece ∷ pieces))

@@ -3,12 +3,7 @@ use Rattle.std.proofs.Common.{◌≡◌, ℕ, Bool, true, false, cond, not, List
 use Rattle.std.specs.Prelude.{is_some, ◌&&◌}
 use Rattle.std.specs.Str.{bytes_eq}
 use Rattle.std.specs.Cmp.Lexicographic.{bytes_decides}
-use Rattle.std.proofs.Common.{◌<◌, ltb, leb, arith, length}
-use Rattle.std.specs.List.{list_all}
-use Rattle.std.specs.Char.{is_ascii_digit}
-use Rattle.std.proofs.lemmas.Bool.{and_parts, and_from, not-true, leb-true, lt-ltb}
-use Rattle.std.proofs.lemmas.Bool.Decides.{nat_tests}
-use Rattle.fd_key.specs.Names.{is_ascii, is_letter, is_digit, is_name_byte, is_value_byte, is_name, is_value}
+use Rattle.std.proofs.lemmas.Bool.{and_parts, not-true}
 use Rattle.fd_key.specs.Pairs.{Pair, text_of}
 use Rattle.fd_key.specs.Given.{is_reserved, are_reserved, are_free, differ_after}
 
@@ -53,40 +48,3 @@ differ_after_own own before (p ∷ ps) r f d =
     let others : differ_after (own ++ (before ++ p ∷ [])) ps ≡ true = differ_after_own own (before ++ p ∷ []) ps r names.1 first.1 in
     let moved : differ_after ((own ++ before) ++ p ∷ []) ps ≡ true = ap (λ qs. differ_after qs ps) (append_assoc own before (p ∷ [])) ∙ others in
     ap (λ o. not (is_some o) && differ_after ((own ++ before) ++ p ∷ []) ps) absent ∙ moved
-
--- what passes a test of ASCII bytes is ASCII
-all_ascii : (p : ℕ → Bool) → ((b : ℕ) → p b ≡ true → is_ascii b ≡ true) → (bs : List ℕ) → list_all p bs ≡ true → list_all is_ascii bs ≡ true
-all_ascii p each [] h = refl
-all_ascii p each (b ∷ bs) h =
-    let parts = and_parts (p b) (list_all p bs) h in
-    and_from (is_ascii b) (list_all is_ascii bs) (each b parts.0) (all_ascii p each bs parts.1)
-
-letter_below : (b : ℕ) → is_letter b ≡ true → b < 128
-letter_below b h = let parts = and_parts (leb 97 b) (leb b 122) h in omega (arith, leb-true b 122 parts.1)
-
-digit_below : (b : ℕ) → is_digit b ≡ true → b < 128
-digit_below b h = let parts = and_parts (leb 48 b) (leb b 57) h in omega (arith, leb-true b 57 parts.1)
-
-name_byte_below : (b : ℕ) → is_name_byte b ≡ true → is_ascii b ≡ true
-name_byte_below b h = lt-ltb b 128 (grind (arith, nat_tests))
-
-value_byte_below : (b : ℕ) → is_value_byte b ≡ true → is_ascii b ≡ true
-value_byte_below b h = lt-ltb b 128 (grind (arith, nat_tests))
-
-digit_is_ascii : (b : ℕ) → is_ascii_digit b ≡ true → is_ascii b ≡ true
-digit_is_ascii b h = lt-ltb b 128 (grind (arith, nat_tests))
-
--- names, values and digits are ASCII
-pub name_is_ascii : (text : List ℕ) → is_name text ≡ true → list_all is_ascii text ≡ true
-name_is_ascii [] h = refl
-name_is_ascii (b ∷ bs) h =
-    let parts = and_parts (is_letter b && leb (length bs) 15) (list_all is_name_byte bs) h in
-    let first = and_parts (is_letter b) (leb (length bs) 15) parts.0 in
-    and_from (is_ascii b) (list_all is_ascii bs) (lt-ltb b 128 (letter_below b first.0)) (all_ascii is_name_byte name_byte_below bs parts.1)
-
-pub value_is_ascii : (text : List ℕ) → is_value text ≡ true → list_all is_ascii text ≡ true
-value_is_ascii text h =
-    all_ascii is_value_byte value_byte_below text (and_parts (ltb 0 (length text) && leb (length text) 255) (list_all is_value_byte text) h).1
-
-pub digits_are_ascii : (text : List ℕ) → list_all is_ascii_digit text ≡ true → list_all is_ascii text ≡ true
-digits_are_ascii text h = all_ascii is_ascii_digit digit_is_ascii text h

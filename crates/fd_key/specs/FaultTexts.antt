@@ -3,8 +3,6 @@ use Rattle.std.specs.Prelude.{ℕ, List, ◌++◌, codes, string_bytes}
 use Rattle.std.specs.Fmt.{decimal}
 use Rattle.fd_key.specs.declared.fault.KeyFault.{KeyFault}
 use Rattle.fd_key.specs.declared.fault.KeyFault.TheVariants as key_faults
-use Rattle.fd_key.specs.declared.fault.ValueFault.{ValueFault}
-use Rattle.fd_key.specs.declared.fault.ValueFault.TheVariants as value_faults
 use Rattle.fd_key.specs.declared.fault.GivenFault.{GivenFault}
 use Rattle.fd_key.specs.declared.fault.GivenFault.TheVariants as given_faults
 
@@ -15,11 +13,6 @@ key_fault_text (key_faults.ProductLength said) = codes "ProductLength " ++ decim
 key_fault_text key_faults.BadDate = codes "BadDate"
 key_fault_text (key_faults.KeyTooLong len) = codes "KeyTooLong " ++ decimal len
 key_fault_text key_faults.NoMemory = codes "NoMemory"
-
--- why a text is no value
-abbrev pub value_fault_text : ValueFault → List ℕ
-value_fault_text value_faults.BadValue = codes "BadValue"
-value_fault_text value_faults.NoMemory = codes "NoMemory"
 
 -- why pairs are refused
 abbrev pub given_fault_text : GivenFault → List ℕ

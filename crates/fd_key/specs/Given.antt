@@ -1,12 +1,13 @@
 -- Pairs that a writer gives beside those of a message.
-use Rattle.std.specs.Prelude.{Option, Some, None, if◌then◌else◌, ◌+◌, ◌==◌, ◌≡◌, ◌<◌, ◌^◌, ℕ, Bool, true, List, [], ◌∷◌, ◌++◌, length, codes, not, is_some, ◌&&◌, Result, Ok, Err}
-use Rattle.std.specs.List.{list_all, list_any, slice_split}
+use Rattle.std.specs.Prelude.{Option, Some, None, if◌then◌else◌, ◌+◌, ◌≡◌, ◌<◌, ◌^◌, ℕ, Bool, true, List, [], ◌∷◌, ◌++◌, length, codes, not, is_some, ◌&&◌, Result, Ok, Err}
+use Rattle.std.specs.List.{list_all, list_any}
 use Rattle.std.specs.Str.{bytes_eq}
-use Rattle.fd_key.specs.Names.{lower, is_name, is_value}
-use Rattle.fd_key.specs.Numerals.{cut, ◌>>=◌}
+use Rattle.fd_spelling.specs.Names.{lower, is_name, is_value}
+use Rattle.fd_spelling.specs.Numerals.{cut, ◌>>=◌}
+use Rattle.fd_spelling.specs.Pieces.{pieces}
 use Rattle.fd_key.specs.Pairs.{Pair, text_of, key_text}
 
--- the names that messages have of their own, and two that are kept for later
+-- the names that messages have of their own
 abbrev pub reserved_names : List (List ℕ)
 reserved_names =
     codes "centre" ∷ codes "date" ∷ codes "time" ∷ codes "type" ∷ codes "param" ∷ codes "levtype" ∷ codes "levelist"
@@ -70,7 +71,7 @@ pairs_from at before (piece ∷ pieces) =
 
 -- the text cut at its commas
 abbrev pub pieces_of : List ℕ → List (List ℕ)
-pieces_of text = slice_split (λ b. b == 44) text
+pieces_of text = pieces 44 text
 
 -- the pairs of a text in lower case, which are joined by commas; the empty text has none
 abbrev pub pairs_in : List ℕ → Result (List Pair) Refusal

@@ -1,10 +1,5 @@
-pub mod Names
 pub mod Pairs
-pub mod Numerals
-pub mod Steps
-pub mod Civil
-pub mod Levels
-pub mod Canonical
+pub mod Fields
 pub mod Seen
 pub mod Given
 pub mod Reading

@@ -1,10 +1,11 @@
 -- What the call that reads pairs answers.
-use Rattle.std.specs.Prelude.{◌≡◌, ℕ, List, [], Option, Some, None, Result, Ok, Err, String, string_bytes}
+use Rattle.std.specs.Prelude.{◌≡◌, ℕ, List, Option, Result, Ok, Err, String, string_bytes}
 use Rattle.std.specs.declared.alloc.Global.{Global}
 use Rattle.fd_key.specs.declared.fault.GivenFault.{GivenFault}
 use Rattle.fd_key.specs.declared.fault.GivenFault.TheVariants.{Pair, Clash, Twice, NoMemory}
 use Rattle.fd_key.specs.Pairs as pairs
-use Rattle.fd_key.specs.Given.{Refusal, Pair_at, Clash_of, Twice_of, pieces_of}
+use Rattle.fd_key.specs.Given.{Refusal, Pair_at, Clash_of, Twice_of}
+use Rattle.fd_spelling.specs.Pieces.{pieces_behind}
 
 -- What a call answered in place of pairs is why there are none. It may also have run out of memory.
 abbrev pub Refuses : {A : Type 0} → GivenFault → Result A Refusal → Type 0
@@ -25,5 +26,4 @@ GivesNew (Err e) read = Refuses e read
 
 -- the pieces of what stands behind a comma, if there is one
 abbrev pub pieces_if : Option (List ℕ) → List (List ℕ)
-pieces_if None = []
-pieces_if (Some text) = pieces_of text
+pieces_if text = pieces_behind 44 text

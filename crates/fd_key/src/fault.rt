@@ -1,6 +1,5 @@
 ghost use Rattle.std.specs.Prelude.{◌≡◌};
 ghost use Rattle.fd_key.specs.declared.fault.KeyFault.TheVariants as key_faults;
-ghost use Rattle.fd_key.specs.declared.fault.ValueFault.TheVariants as value_faults;
 ghost use Rattle.fd_key.specs.declared.fault.GivenFault.TheVariants as given_faults;
 
 use std::error::Error;
@@ -9,7 +8,7 @@ use std::fmt;
 /// Why a message has no key.
 #[derive(Clone, Copy, Debug, PartialEq, Eq)]
 pub enum KeyFault {
-    /// The number of its product definition template, which isn't 0.
+    /// The number of its product definition template, which is none of 0, 1, 8 and 11.
     Product(u16),
     /// Section 4 has so many octets, which are too few for its template.
     ProductLength { said: u64 },
@@ -17,15 +16,6 @@ pub enum KeyFault {
     BadDate,
     /// The key's text has so many bytes, which are more than 255.
     KeyTooLong { len: u32 },
-    /// An allocation was refused.
-    NoMemory,
-}
-
-/// Why there is no value.
-#[derive(Clone, Copy, Debug, PartialEq, Eq)]
-pub enum ValueFault {
-    /// The text is no value of the name.
-    BadValue,
     /// An allocation was refused.
     NoMemory,
 }
@@ -48,14 +38,6 @@ impl From<fd_bytes::NoMemory> for KeyFault {
 
     fn from(_: fd_bytes::NoMemory) -> KeyFault {
         KeyFault::NoMemory
-    }
-}
-
-impl From<fd_bytes::NoMemory> for ValueFault {
-    ghost from_gives = { λ _ e. e ≡ value_faults.NoMemory };
-
-    fn from(_: fd_bytes::NoMemory) -> ValueFault {
-        ValueFault::NoMemory
     }
 }
 
@@ -85,22 +67,6 @@ impl fmt::Display for KeyFault {
 }
 
 impl Error for KeyFault {}
-
-impl fmt::Display for ValueFault {
-    ghost use Rattle.std.specs.Prelude.{Some};
-    ghost use Rattle.fd_key.specs.FaultTexts.{value_fault_text};
-
-    ghost output = { λ fault. Some (value_fault_text fault) };
-
-    fn fmt<W: fmt::Write>(&self, f: &mut fmt::Formatter<W>) -> fmt::Result {
-        match self {
-            ValueFault::BadValue => f.write_str("BadValue"),
-            ValueFault::NoMemory => f.write_str("NoMemory"),
-        }
-    }
-}
-
-impl Error for ValueFault {}
 
 impl fmt::Display for GivenFault {
     ghost use Rattle.std.specs.Prelude.{Some};

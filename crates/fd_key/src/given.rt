@@ -1,15 +1,12 @@
-ghost use Rattle.std.specs.Prelude.{◌≡◌, ◌<◌, ◌+◌, ◌-◌, ◌^◌, ◌∷◌, length, [], true, Some, Ok, IfNone, IfOk, IfSome, IfErr, OnOk, option_map, slice_get};
-ghost use Rattle.std.specs.Option.{option_copied};
-ghost use Rattle.fd_key.specs.Names.{is_name, is_value};
+ghost use Rattle.std.specs.Prelude.{◌≡◌, ◌<◌, ◌-◌, ◌^◌, length, [], true, Some, Ok, IfOk, IfSome, IfErr, OnOk, option_map, slice_get};
+ghost use Rattle.fd_spelling.specs.Names.{is_name, is_value};
 ghost use Rattle.fd_key.specs.Given.{IsGiven, given_of, pairs_from, with_piece, is_reserved, plain_pair, new_pair, pieces_of};
-ghost use Rattle.fd_key.specs.Reading.{GivesGiven, GivesNew, Refuses, pieces_if};
+ghost use Rattle.fd_key.specs.Reading.{GivesGiven, GivesNew, Refuses};
 
 use crate::fault::GivenFault;
 use crate::key::Key;
-use crate::meaning::{Meaning, meaning_of};
-use crate::names::{is_name, is_value, lower, text_from};
-use crate::numerals::cut;
 use fd_bytes::NoMemory;
+use fd_spelling::{Meaning, cut, first_piece, is_name, is_value, lower, meaning_of, text_from};
 use std::alloc::Global;
 use std::marker::Model;
 
@@ -37,7 +34,7 @@ impl Given {
     /// is no pair.
     ///
     /// The first cause from left to right is answered: `Pair` with the first byte of a pair that isn't one, `Clash` with a
-    /// name that messages have of their own or that is kept for later, and `Twice` with a name that came before.
+    /// name that messages have of their own, and `Twice` with a name that came before.
     #[tactic(auto, unfolding(crate::specs::Given::given_of))]
     pub fn read(alloc: Global, text: &str) -> Result<Given, GivenFault>
         requires { length text.now < 2 ^ 31 }
@@ -68,7 +65,7 @@ impl Given {
         let mut at = 0;
         let mut rest = text;
         'pairs: loop {
-            let (piece, behind) = first_piece(rest);
+            let (piece, behind) = first_piece(rest, b',');
             match put_piece(alloc, &mut pairs, piece, at) {
                 Ok(()) => {}
                 Err(fault) => return Err(fault),
@@ -97,18 +94,6 @@ impl Given {
         ensures { slice_get self.now i ≡ Some (result.0.now, result.1.now) }
     {
         self.pairs.pair(i)
-    }
-}
-
-/// What stands before the first comma, and what stands behind it.
-fn first_piece(text: &[u8]) -> (&[u8], Option<&[u8]>)
-    ensures pieces { pieces_of text.now ≡ result.0.now ∷ pieces_if (option_copied result.1) }
-    ensures last { IfNone result.1 (result.0.now ≡ text.now) }
-    ensures lengths { IfSome result.1 (λ o. length text.now ≡ length result.0.now + length o.now + 1) }
-{
-    match cut(text, b',') {
-        Some((piece, others)) => (piece, Some(others)),
-        None => (text, None),
     }
 }
 
@@ -162,12 +147,12 @@ fn plain_pair(piece: &[u8]) -> Option<(&[u8], &[u8])>
     }
 }
 
-/// Tells that messages have this name of their own, or that it is kept for later.
+/// Tells that messages have this name of their own.
 fn is_reserved(name: &str) -> bool
     ensures { result ≡ is_reserved name.now }
 {
     match meaning_of(name) {
-        Meaning::Other => name == "number" || name == "stat",
+        Meaning::Other => false,
         _ => true,
     }
 }

@@ -1,30 +1,31 @@
 // The key of a message: what its sections say, and then the given pairs.
-ghost use Rattle.std.specs.Prelude.{◌≡◌, ◌≤◌, ◌<◌, ◌+◌, ◌-◌, ◌^◌, length, true, codes, IfOk, OnOk, string_bytes};
+ghost use Rattle.std.specs.Prelude.{◌≡◌, ◌≤◌, ◌<◌, ◌+◌, ◌-◌, ◌^◌, ◌++◌, length, true, codes, IfOk, OnOk, string_bytes};
 ghost use Rattle.fd_templates.specs.Product.{Fits};
 ghost use Rattle.std.specs.Fmt.{decimal};
 ghost use Rattle.fd_sections.specs.Parts.{sections_of};
 ghost use Rattle.fd_key.specs.Pairs.{with_pair, with_pair_if, key_text};
 ghost use Rattle.fd_key.specs.Given.{are_reserved};
-ghost use Rattle.fd_key.specs.Levels.{levels_of};
-ghost use Rattle.fd_key.specs.Keys.{key_of, GivesKey, message_pairs, discipline_of, dated_pairs, has_date, date_of, time_of, param_in, levtype_of, step_of, origin_pairs, pairs_in};
+ghost use Rattle.fd_key.specs.Fields.{levels_of};
+ghost use Rattle.fd_key.specs.Keys.{key_of, GivesKey, message_pairs, discipline_of, dated_pairs, has_date, date_of, time_of, param_in, levtype_of, step_of, number_of, stat_of, origin_pairs, field_pairs, pairs_in};
 
-use crate::civil::{date_text, is_date, is_time, time_text};
 use crate::fault::KeyFault;
+use crate::fields::{levels_of, ranges_text};
 use crate::given::Given;
 use crate::key::Key;
-use crate::levels::{levels_of, levtype_text};
-use crate::steps::step_text;
-use crate::values::{number_text, param_text};
 use fd_bytes::NoMemory;
 use fd_sections::Message;
-use fd_templates::{Ident, Product, TemplateFault};
+use fd_spelling::{
+    date_text, is_date, is_time, levtype_text, number_text, param_text, step_text, time_text,
+};
+use fd_templates::{AnyFault, AnyProduct, Ensemble, Ident, Interval, Product, TemplateFault};
 use std::alloc::Global;
 
-/// The key of a message: `centre`, `date`, `time`, `type`, `param`, `levtype`, `levelist` and `step` of its sections, and
-/// then the given pairs in their order. A key has no `levelist` where neither surface has a value.
+/// The key of a message: `centre`, `date`, `time`, `type`, `param`, `levtype`, `levelist`, `step`, `number` and `stat` of its
+/// sections, and then the given pairs in their order. A key has no `levelist` where neither surface has a value, no `number`
+/// where the field is of no ensemble or the number is missing, and no `stat` where the field is at a point in time.
 ///
-/// `Product` comes where the template of section 4 isn't 4.0, `ProductLength` where section 4 is shorter than that
-/// template, `BadDate` where the reference time is no day of the years 0 to 9999 or no time of a day, and `KeyTooLong`
+/// `Product` comes where the template of section 4 is none of 4.0, 4.1, 4.8 and 4.11, `ProductLength` where section 4 is
+/// shorter than its template, `BadDate` where the reference time is no day of the years 0 to 9999 or no time of a day, and `KeyTooLong`
 /// where the key's text has more than 255 bytes, in this order.
 #[tactic(auto, unfolding(crate::specs::Keys::key_of, crate::specs::Keys::within_limit))]
 pub fn key_of(alloc: Global, message: &Message<'_>, given: &Given) -> Result<Key, KeyFault>
@@ -43,13 +44,16 @@ pub fn key_of(alloc: Global, message: &Message<'_>, given: &Given) -> Result<Key
 #[tactic(auto, unfolding(crate::specs::Keys::message_pairs))]
 fn message_key(alloc: Global, message: &Message<'_>) -> Result<Key, KeyFault>
     ensures key { GivesKey result (message_pairs (sections_of message.now)) }
-    ensures short { IfOk result (λ k. length (key_text k) ≤ 1100) }
+    ensures short { IfOk result (λ k. length (key_text k) ≤ 9000) }
     ensures own { IfOk result (λ k. are_reserved k ≡ true) }
 {
-    match Product::read(message) {
+    match AnyProduct::read(alloc, message) {
         Ok(product) => dated_key(alloc, discipline(message), &Ident::read(message), &product),
-        Err(TemplateFault::Other(template)) => Err(KeyFault::Product(template)),
-        Err(TemplateFault::BadLength { said }) => Err(KeyFault::ProductLength { said }),
+        Err(AnyFault::Template(TemplateFault::Other(template))) => Err(KeyFault::Product(template)),
+        Err(AnyFault::Template(TemplateFault::BadLength { said })) => {
+            Err(KeyFault::ProductLength { said })
+        }
+        Err(AnyFault::NoMemory) => Err(KeyFault::NoMemory),
     }
 }
 
@@ -66,11 +70,11 @@ fn dated_key(
     alloc: Global,
     discipline: u8,
     ident: &Ident,
-    product: &Product,
+    product: &AnyProduct,
 ) -> Result<Key, KeyFault>
-    requires { Fits product.now }
+    requires { Fits product.now.base }
     ensures key { GivesKey result (dated_pairs discipline ident.now product.now) }
-    ensures short { IfOk result (λ k. length (key_text k) ≤ 1100) }
+    ensures short { IfOk result (λ k. length (key_text k) ≤ 9000) }
     ensures own { IfOk result (λ k. are_reserved k ≡ true) }
 {
     if !has_date(ident) {
@@ -142,12 +146,30 @@ fn own_pairs(
     alloc: Global,
     discipline: u8,
     ident: &Ident,
+    product: &AnyProduct,
+) -> Result<Key, NoMemory>
+    requires { Fits product.now.base }
+    ensures pairs { IfOk result (λ k. k ≡ pairs_in discipline ident.now product.now) }
+    ensures short { IfOk result (λ k. length (key_text k) ≤ 9000) }
+    ensures own { IfOk result (λ k. are_reserved k ≡ true) }
+{
+    let mut key = base_key(alloc, discipline, ident, &product.base)?;
+    put_number_of(alloc, &mut key, &product.ensemble)?;
+    put_stat(alloc, &mut key, &product.interval)?;
+    Ok(key)
+}
+
+/// The pairs of sections 0, 1 and 4 that each of the templates has.
+fn base_key(
+    alloc: Global,
+    discipline: u8,
+    ident: &Ident,
     product: &Product,
 ) -> Result<Key, NoMemory>
     requires { Fits product.now }
-    ensures pairs { IfOk result (λ k. k ≡ pairs_in discipline ident.now product.now) }
+    ensures pairs { IfOk result (λ k. k ≡ origin_pairs ident.now ++ field_pairs discipline product.now) }
     ensures short { IfOk result (λ k. length (key_text k) ≤ 1100) }
-    ensures own { IfOk result (λ k. are_reserved k ≡ true) }
+    ensures few { IfOk result (λ k. length k ≤ 8) }
 {
     let mut key = origin_key(alloc, ident)?;
     put_field(alloc, &mut key, discipline, product)?;
@@ -155,6 +177,40 @@ fn own_pairs(
     let step = step_of(alloc, product)?;
     key.put(alloc, "step", step.as_str())?;
     Ok(key)
+}
+
+/// Puts the number of the member of an ensemble, unless it is missing.
+#[tactic(auto, using(crate::proofs::PairLaws::with_pair_longer))]
+fn put_number_of(alloc: Global, key: &mut Key, ensemble: &Option<Ensemble>) -> Result<(), NoMemory>
+    requires { length key.old < 100 }
+    ensures pairs { OnOk result (key.new ≡ with_pair_if key.old (codes "number") (number_of ensemble.now)) }
+    ensures short { OnOk result (length (key_text key.new) ≤ length (key_text key.old) + 20) }
+    ensures few { OnOk result (length key.new ≤ length key.old + 1) }
+{
+    match ensemble {
+        Some(ensemble) => {
+            if ensemble.number == 255 {
+                return Ok(());
+            }
+            put_number(alloc, key, "number", u32::from(ensemble.number))
+        }
+        None => Ok(()),
+    }
+}
+
+/// Puts the statistics over the time ranges of an interval, if there is one.
+fn put_stat(alloc: Global, key: &mut Key, interval: &Option<Interval>) -> Result<(), NoMemory>
+    requires { length key.old < 100 }
+    ensures pairs { OnOk result (key.new ≡ with_pair_if key.old (codes "stat") (stat_of interval.now)) }
+    ensures short { OnOk result (length (key_text key.new) ≤ length (key_text key.old) + 7500) }
+{
+    match interval {
+        Some(interval) => {
+            let text = ranges_text(alloc, interval.ranges.as_slice())?;
+            key.put(alloc, "stat", text.as_str())
+        }
+        None => Ok(()),
+    }
 }
 
 /// Tells that the reference time is a day of the years 0 to 9999 and a time of day.

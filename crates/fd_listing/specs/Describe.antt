@@ -1,44 +1,23 @@
 -- What a message holds, in lines: the numbers of its sections, and its key (FM 92 GRIB, sections 0 to 6).
-use Rattle.std.specs.Prelude.{ℕ, ℤ, pos, List, [], ◌∷◌, ◌++◌, codes, Option, Some, None, Result, Ok, Err}
-use Rattle.std.specs.Fmt.{decimal, signed_decimal}
+use Rattle.std.specs.Prelude.{ℕ, ℤ, List, [], ◌∷◌, ◌++◌, codes, Option, Some, Result, Ok, Err}
+use Rattle.std.specs.Fmt.{decimal}
 use Rattle.fd_bytes.specs.Numbers.{octets}
 use Rattle.fd_sections.specs.Message.{Sections}
 use Rattle.fd_templates.specs.declared.identification.Ident.{Ident}
 use Rattle.fd_templates.specs.declared.grid.LatLon.{LatLon}
-use Rattle.fd_templates.specs.declared.product.Product.{Product}
 use Rattle.fd_templates.specs.declared.simple.Simple.{Simple}
 use Rattle.fd_templates.specs.declared.fault.TemplateFault.{TemplateFault}
 use Rattle.fd_templates.specs.declared.fault.TemplateFault.TheVariants.{Other, BadLength}
 use Rattle.fd_templates.specs.Identification.{identification_of}
 use Rattle.fd_templates.specs.Grid.{grid_is}
-use Rattle.fd_templates.specs.Product.{product_is}
 use Rattle.fd_templates.specs.Simple.{simple_is}
 use Rattle.fd_key.specs.declared.fault.KeyFault.{KeyFault}
 use Rattle.fd_key.specs.Pairs.{Pair, key_text}
 use Rattle.fd_key.specs.Keys.{key_of}
 use Rattle.fd_key.specs.FaultTexts.{key_fault_text}
 use Rattle.fd_listing.specs.Lines.{blank, line}
-
--- ---- Numbers
-
--- a number, or a minus where it is missing
-abbrev pub number_or_minus : Option ℤ → List ℕ
-number_or_minus None = codes "-"
-number_or_minus (Some n) = signed_decimal n
-
--- numbers, with a blank before each
-abbrev pub numbers_text : List (Option ℤ) → List ℕ
-numbers_text [] = []
-numbers_text (n ∷ ns) = blank (number_or_minus n) ++ numbers_text ns
-
--- a number that is never missing
-abbrev pub plain : ℕ → Option ℤ
-plain n = Some (pos n)
-
--- the same of a number that may be missing
-abbrev pub plain_if : Option ℕ → Option ℤ
-plain_if None = None
-plain_if (Some n) = plain n
+use Rattle.fd_listing.specs.Numbers.{number_or_minus, numbers_text, plain, plain_if}
+use Rattle.fd_listing.specs.Products.{product_line}
 
 -- ---- Section 0: the number of the message in its stream, and its length
 
@@ -109,33 +88,6 @@ grid_text g = codes " points" ++ numbers_text (grid_numbers g)
 
 abbrev pub grid_line : List ℕ → List ℕ
 grid_line grid = template_line (codes "grid") (map_ok grid_text (grid_is grid))
-
--- ---- Section 4
-
-unfoldable pub product_numbers : Product → List (Option ℤ)
-product_numbers p =
-    plain p.category
-    ∷ plain p.parameter
-    ∷ plain p.generating_process_type
-    ∷ plain p.background_process
-    ∷ plain p.process_identifier
-    ∷ plain p.cutoff_hours
-    ∷ plain p.cutoff_minutes
-    ∷ plain p.time_unit
-    ∷ Some p.forecast_time
-    ∷ plain p.first_surface_type
-    ∷ p.first_surface_factor
-    ∷ p.first_surface_value
-    ∷ plain p.second_surface_type
-    ∷ p.second_surface_factor
-    ∷ p.second_surface_value
-    ∷ []
-
-abbrev pub product_text : Product → List ℕ
-product_text p = numbers_text (product_numbers p)
-
-abbrev pub product_line : List ℕ → List ℕ
-product_line product = template_line (codes "product") (map_ok product_text (product_is product))
 
 -- ---- Section 5
 

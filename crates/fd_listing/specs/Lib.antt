@@ -1,4 +1,6 @@
 pub mod Lines
 pub mod Sinks
 pub mod Values
+pub mod Numbers
+pub mod Products
 pub mod Describe

@@ -3,16 +3,17 @@ ghost use Rattle.fd_sections.specs.Parts.{sections_of};
 ghost use Rattle.fd_key.specs.Keys.{key_of};
 ghost use Rattle.fd_io.specs.Streams.{Takes, TakesFront};
 ghost use Rattle.fd_listing.specs.Sinks.{HasSinkCause};
-ghost use Rattle.fd_listing.specs.Describe.{ident_numbers, grid_numbers, product_numbers, formula_text, packing_text, template_line, message_line, ident_line, grid_line, product_line, packing_line, map_line, key_line, key_line_text, describe_text};
+ghost use Rattle.fd_listing.specs.Describe.{ident_numbers, grid_numbers, formula_text, packing_text, template_line, message_line, ident_line, grid_line, packing_line, map_line, key_line, key_line_text, describe_text};
 
 use crate::fault::TextFault;
 use crate::lines::write_text;
 use crate::numbers::{plain, plain_if, push_named, push_numbers, signed, signed_if};
+use crate::product::push_product;
 use fd_bytes::{NoMemory, be_u64};
 use fd_io::Sink;
 use fd_key::{Given, KeyFault, key_of};
 use fd_sections::Message;
-use fd_templates::{Ident, LatLon, Product, Simple, TemplateFault};
+use fd_templates::{Ident, LatLon, Simple, TemplateFault};
 use std::alloc::Global;
 
 /// The line of section 0.
@@ -114,45 +115,6 @@ fn push_grid(out: &mut String, message: &Message<'_>) -> Result<(), NoMemory>
     }
 }
 
-/// The numbers of section 4.
-#[tactic(auto, unfolding(crate::specs::Describe::product_numbers))]
-fn product_numbers(product: &Product) -> [Option<i64>; 15]
-    ensures { result ≡ product_numbers product.now }
-{
-    [
-        plain(u32::from(product.category)),
-        plain(u32::from(product.parameter)),
-        plain(u32::from(product.generating_process_type)),
-        plain(u32::from(product.background_process)),
-        plain(u32::from(product.process_identifier)),
-        plain(u32::from(product.cutoff_hours)),
-        plain(u32::from(product.cutoff_minutes)),
-        plain(u32::from(product.time_unit)),
-        signed(&product.forecast_time),
-        plain(u32::from(product.first_surface_type)),
-        signed_if(product.first_surface_factor),
-        signed_if(product.first_surface_value),
-        plain(u32::from(product.second_surface_type)),
-        signed_if(product.second_surface_factor),
-        signed_if(product.second_surface_value),
-    ]
-}
-
-/// The line of section 4.
-fn push_product(out: &mut String, message: &Message<'_>) -> Result<(), NoMemory>
-    ensures { OnOk result (string_bytes out.new ≡ string_bytes out.old ++ product_line (sections_of message.now).product) }
-{
-    match Product::read(message) {
-        Ok(product) => {
-            out.push_str("product 0")?;
-            push_numbers(out, &product_numbers(&product))?;
-            out.push('\n')?;
-            Ok(())
-        }
-        Err(fault) => push_unread(out, "product", fault),
-    }
-}
-
 /// What the values of section 7 are made of.
 #[tactic(auto, unfolding(crate::specs::Describe::formula_text))]
 fn push_formula(out: &mut String, simple: &Simple) -> Result<(), NoMemory>
@@ -239,7 +201,7 @@ fn description(alloc: Global, number: u64, message: &Message<'_>) -> Result<Stri
     push_message(&mut out, number, message.indicator())?;
     push_ident(&mut out, message)?;
     push_grid(&mut out, message)?;
-    push_product(&mut out, message)?;
+    push_product(alloc, &mut out, message)?;
     push_packing(&mut out, message)?;
     push_map(&mut out, message.bit_map())?;
     push_key(alloc, &mut out, message)?;

@@ -6,6 +6,7 @@ mod fault;
 mod lines;
 mod numbers;
 mod point_values;
+mod product;
 
 pub use description::describe;
 pub use fault::{TextFault, ValuesFault};

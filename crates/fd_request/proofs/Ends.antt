@@ -9,9 +9,9 @@ use Rattle.jiff_core.specs.declared.civil.date.Date.{Date}
 use Rattle.jiff_core.specs.Calendar.{days_from_civil, IsCivilDate, IsEpochDay}
 use Rattle.jiff_core.specs.Date.{epoch_day}
 use Rattle.jiff_core.proofs.DateLemmas.{civil, epoch_day_range, epoch_day_injective, days_from_civil-day, days_from_civil-next_month, days_from_civil-next_year, days_from_civil-max}
-use Rattle.fd_key.specs.Civil.{month_days, date_text}
-use Rattle.fd_key.specs.Names.{is_value}
-use Rattle.fd_key.proofs.ValueLaws.{value_from, joined, decimal_bytes, decimal_some}
+use Rattle.fd_spelling.specs.Civil.{month_days, date_text}
+use Rattle.fd_spelling.specs.Names.{is_value}
+use Rattle.fd_spelling.proofs.ValueLaws.{value_from, joined, decimal_bytes, decimal_some}
 use Rattle.fd_request.specs.declared.day.Day as code_day
 use Rattle.fd_request.specs.Ranges.{Day, Number, Hour, OnDay, place, later, next_day, text_behind}
 use Rattle.fd_request.specs.Seen.{seen_day, Fits, most}

@@ -2,10 +2,10 @@
 use Rattle.std.proofs.Common.{◌≡◌, ℕ, List, [], ◌∷◌, Result, Ok, codes, refl}
 use Rattle.std.specs.Fmt.{digits}
 use Rattle.jiff_core.specs.Calendar.{days_of_years, days_of_months, day_count, days_from_civil}
-use Rattle.fd_key.specs.Numerals.{number_up_to}
-use Rattle.fd_key.specs.Civil.{date_text, date_in, date_spelling}
-use Rattle.fd_key.specs.Steps.{step_text, unit_of, unsigned_step, step_spelling}
-use Rattle.fd_key.specs.Canonical.{canonical, spelling}
+use Rattle.fd_spelling.specs.Numerals.{number_up_to}
+use Rattle.fd_spelling.specs.Civil.{date_text, date_in, date_spelling}
+use Rattle.fd_spelling.specs.Steps.{step_text, unit_of, unsigned_step, step_spelling}
+use Rattle.fd_spelling.specs.Canonical.{canonical, spelling}
 use Rattle.fd_tokens.specs.Tokens.{tokens, parts}
 use Rattle.fd_request.specs.Expansion.{Keyword, expand, each_before}
 use Rattle.fd_request.specs.Ranges.{later, whole, signed_whole, day_of, end_in, end_of, place, distance, text_behind, values_from, step_of, between, range_of}

@@ -4,8 +4,8 @@ use Rattle.std.specs.Prelude.{◌&&◌}
 use Rattle.std.specs.List.{list_all}
 use Rattle.std.proofs.Math.Nat.{mul_assoc}
 use Rattle.std.proofs.lemmas.Bool.{cond-true, cond-false, lt-ltb, le-ltb, and_parts, leb-true}
-use Rattle.fd_key.specs.Names.{is_name, is_value, is_letter, is_name_byte}
-use Rattle.fd_key.proofs.ValueLaws.{value_few}
+use Rattle.fd_spelling.specs.Names.{is_name, is_value, is_letter, is_name_byte}
+use Rattle.fd_spelling.proofs.ValueLaws.{value_few}
 use Rattle.std.proofs.lemmas.List.{at_drop_more, at_drop_all}
 use Rattle.fd_key.specs.Pairs.{Pair, rest_text, key_text}
 use Rattle.fd_key.proofs.PairLaws.{length-rest_text, length-key_text}

@@ -6,7 +6,7 @@ use Rattle.std.specs.Str.{bytes_eq}
 use Rattle.std.specs.Char.{to_ascii_lowercase}
 use Rattle.std.proofs.lemmas.Bool.{ltb-true}
 use Rattle.std.proofs.lemmas.List.{length-map}
-use Rattle.fd_key.specs.Names.{is_name, is_name_byte, lower}
+use Rattle.fd_spelling.specs.Names.{is_name, is_name_byte, lower}
 use Rattle.fd_tokens.specs.Tokens.{Piece, Part, parts, tokens}
 use Rattle.fd_tokens.proofs.Places.{Ends, AllEnd, PartEnds, PartsEnd, tokens_end, parts_end}
 use Rattle.fd_schema.specs.Grammar.{spelled}

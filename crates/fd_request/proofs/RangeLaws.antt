@@ -12,10 +12,10 @@ use Rattle.std.proofs.lemmas.Bool.{and_from}
 use Rattle.std.proofs.lemmas.List.{at_drop_more, at_drop_all}
 use Rattle.std.proofs.lemmas.Fmt.{length-decimal-le_wide, digits_decimal, digits_value-decimal, decimal_nonempty}
 use Rattle.std.proofs.lemmas.Str.Parse.{digits_value_short}
-use Rattle.fd_key.specs.Civil.{date_text, time_text}
-use Rattle.fd_key.proofs.Digits.{numerals}
-use Rattle.fd_key.specs.Names.{is_value}
-use Rattle.fd_key.proofs.ValueLaws.{date_is_value, time_is_value}
+use Rattle.fd_spelling.specs.Civil.{date_text, time_text}
+use Rattle.fd_spelling.proofs.Digits.{numerals}
+use Rattle.fd_spelling.specs.Names.{is_value}
+use Rattle.fd_spelling.proofs.ValueLaws.{date_is_value, time_is_value}
 use Rattle.fd_schema.specs.Seen.{texts}
 use Rattle.fd_request.specs.declared.range.Range as code_range
 use Rattle.fd_request.specs.Ranges.{End, Number, Hour, OnDay, place, same_kind, distance, distance_if, later, text_behind, values_from}

@@ -8,11 +8,11 @@ use borrow.Author.Tests.{leb-true}
 use Rattle.jiff_core.specs.declared.civil.date.Date.{Date}
 use Rattle.jiff_core.specs.Calendar.{days_from_civil, IsCivilDate, IsEpochDay}
 use Rattle.jiff_core.proofs.DateLemmas.{epoch_day_range, epoch_day_injective}
-use Rattle.fd_key.specs.declared.meaning.Meaning.{Meaning}
-use Rattle.fd_key.specs.declared.meaning.Meaning.TheVariants as meanings
-use Rattle.fd_key.specs.Names.{meaning_of}
-use Rattle.fd_key.specs.Numerals.{number_up_to, ◌>>=◌}
-use Rattle.fd_key.specs.Civil.{month_days, is_date}
+use Rattle.fd_spelling.specs.declared.meaning.Meaning.{Meaning}
+use Rattle.fd_spelling.specs.declared.meaning.Meaning.TheVariants as meanings
+use Rattle.fd_spelling.specs.Names.{meaning_of}
+use Rattle.fd_spelling.specs.Numerals.{number_up_to, ◌>>=◌}
+use Rattle.fd_spelling.specs.Civil.{month_days, is_date}
 use Rattle.fd_schema.specs.Grammar.{spelled}
 use Rattle.fd_request.specs.Ranges.{Day, End, Number, Hour, OnDay, next_day, later, whole, signed_whole, hour_of, day_if, day_of, end_in, end_of, place, distance, text_behind, values_from, above_zero, step_of, between}
 use Rattle.fd_request.specs.Behind.{end_behind}
@@ -105,6 +105,8 @@ in_read meanings.Param text = tt
 in_read meanings.Levtype text = tt
 in_read meanings.Levelist text = number_read (whole text)
 in_read meanings.Step text = signed_read (signed_whole text)
+in_read meanings.Number text = number_read (whole text)
+in_read meanings.Stat text = tt
 in_read meanings.Other text = tt
 
 end_read : (name text : List ℕ) → ReadEnd (end_of name text)

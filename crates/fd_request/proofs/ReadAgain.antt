@@ -11,9 +11,9 @@ use lib.Signed.{mag}
 use Rattle.jiff_core.specs.Calendar.{IsCivilDate}
 use Rattle.jiff_core.specs.Date.{epoch_day}
 use Rattle.jiff_core.proofs.CalendarLemmas.{days_in_month_bounds}
-use Rattle.fd_key.specs.Numerals.{number_up_to}
-use Rattle.fd_key.specs.Civil.{is_date, month_days, two_digits, date_text, time_text}
-use Rattle.fd_key.proofs.Again.{number_is}
+use Rattle.fd_spelling.specs.Numerals.{number_up_to}
+use Rattle.fd_spelling.specs.Civil.{is_date, month_days, two_digits, date_text, time_text}
+use Rattle.fd_spelling.proofs.Again.{number_is}
 use Rattle.fd_request.specs.declared.day.Day as code_day
 use Rattle.fd_request.specs.declared.end.End as code_end
 use Rattle.fd_request.specs.declared.end.End.TheVariants as ends

@@ -5,11 +5,12 @@ use Rattle.std.specs.Fmt.{signed_decimal}
 use Rattle.std.specs.Str.{bytes_eq}
 use Rattle.std.specs.Str.Parse.{digits_value}
 use Rattle.jiff_core.specs.Calendar.{days_from_civil}
-use Rattle.fd_key.specs.declared.meaning.Meaning.{Meaning}
-use Rattle.fd_key.specs.declared.meaning.Meaning.TheVariants.{Centre, Date, Time, ProcessedType, Levelist, Step}
-use Rattle.fd_key.specs.Names.{meaning_of}
-use Rattle.fd_key.specs.Numerals.{is_numeral, number_up_to, ◌>>=◌}
-use Rattle.fd_key.specs.Civil.{month_days, is_date, date_text, time_text}
+use Rattle.fd_spelling.specs.declared.meaning.Meaning.{Meaning}
+use Rattle.fd_spelling.specs.declared.meaning.Meaning.TheVariants as meanings
+use Rattle.fd_spelling.specs.declared.meaning.Meaning.TheVariants.{Centre, Date, Time, ProcessedType, Levelist, Step}
+use Rattle.fd_spelling.specs.Names.{meaning_of}
+use Rattle.fd_spelling.specs.Numerals.{is_numeral, number_up_to, ◌>>=◌}
+use Rattle.fd_spelling.specs.Civil.{month_days, is_date, date_text, time_text}
 use Rattle.fd_schema.specs.Grammar.{spelled}
 
 -- a day of the Gregorian calendar
@@ -66,6 +67,7 @@ unfoldable pub end_in : Meaning → List ℕ → Option End
 end_in Centre text = option_map (λ n. Number (pos n)) (whole text)
 end_in ProcessedType text = option_map (λ n. Number (pos n)) (whole text)
 end_in Levelist text = option_map (λ n. Number (pos n)) (whole text)
+end_in meanings.Number text = option_map (λ n. Number (pos n)) (whole text)
 end_in Step text = option_map Number (signed_whole text)
 end_in Time text = option_map Hour (hour_of text)
 end_in Date text = option_map OnDay (day_of text)

@@ -1,16 +1,16 @@
 // The ends of ranges, and the values behind them.
 ghost use Rattle.std.specs.Prelude.{◌≡◌, ◌<◌, ◌≤◌, ◌+◌, ◌-◌, ◌*◌, ◌^◌, ◌==◌, ℕ, ℤ, pos, neg_ℤ, ◌+ℤ◌, ◌-ℤ◌, ◌≤ℤ◌, true, IsTrue, IfOk, IfSome, Some, None, Option, option_map, length, string_bytes, if◌then◌else◌};
 ghost use Rattle.std.specs.Fmt.{signed_decimal};
-ghost use Rattle.fd_key.specs.Names.{is_value, meaning_of};
-ghost use Rattle.fd_key.specs.Civil.{is_date};
+ghost use Rattle.fd_spelling.specs.Names.{is_value, meaning_of};
+ghost use Rattle.fd_spelling.specs.Civil.{is_date};
 ghost use Rattle.fd_request.specs.Ranges.{whole, signed_whole, hour_of, day_if, day_of, end_in, end_of, place, same_kind, distance, distance_if, text_behind, step_of};
 ghost use Rattle.fd_request.specs.Ranges.{Number, OnDay};
 ghost use Rattle.fd_request.specs.Seen.{seen_day, seen_date, seen_end, Fits, most};
 
 use crate::day::Day;
-use crate::value::spelled;
 use fd_bytes::NoMemory;
 use fd_key::{Meaning, date_text, is_numeral, meaning_of, number_of, number_up_to, time_text};
+use fd_schema::spelled;
 use jiff_core::civil::Date;
 use std::alloc::Global;
 
@@ -117,7 +117,9 @@ fn end_in(meaning: Meaning, text: &[u8]) -> Option<End>
     ensures fits { IfSome result (λ e. Fits (seen_end e) 0) }
 {
     match meaning {
-        Meaning::Centre | Meaning::ProcessedType | Meaning::Levelist => number_in(text),
+        Meaning::Centre | Meaning::ProcessedType | Meaning::Levelist | Meaning::Number => {
+            number_in(text)
+        }
         Meaning::Step => match signed_whole(text) {
             Some(number) => Some(End::Number(number)),
             None => None,

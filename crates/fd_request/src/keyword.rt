@@ -1,5 +1,5 @@
 ghost use Rattle.std.specs.Prelude.{◌≡◌, true, string_bytes};
-ghost use Rattle.fd_key.specs.Names.{is_name};
+ghost use Rattle.fd_spelling.specs.Names.{is_name};
 ghost use Rattle.fd_request.specs.Values.{seen_values, AreValues};
 
 use crate::values::Values;

@@ -13,7 +13,6 @@ mod partial;
 mod range;
 mod reading;
 mod request;
-mod value;
 mod values;
 mod word;
 

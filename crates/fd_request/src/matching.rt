@@ -3,7 +3,7 @@ ghost use Rattle.std.specs.Prelude.{◌≡◌, ◌↔◌, ◌==◌, ◌&&◌, �
 ghost use Rattle.std.specs.List.{list_any, Contains};
 ghost use Rattle.std.specs.Str.{bytes_eq};
 ghost use Rattle.std.specs.Fmt.{signed_decimal};
-ghost use Rattle.fd_key.specs.Civil.{date_text, time_text};
+ghost use Rattle.fd_spelling.specs.Civil.{date_text, time_text};
 ghost use Rattle.fd_schema.specs.Seen.{texts};
 ghost use Rattle.fd_request.specs.Ranges.{text_behind};
 ghost use Rattle.fd_request.specs.Seen.{seen_end};
@@ -64,7 +64,7 @@ fn is_number(text: &str, number: &i64) -> bool
 }
 
 /// Tells that a text is a whole hour, `HHMM`.
-#[tactic(auto, unfolding(fd_key::specs::Civil::time_text))]
+#[tactic(auto, unfolding(fd_spelling::specs::Civil::time_text))]
 fn is_hour(text: &[u8], hour: u32) -> bool
     ensures { result ≡ bytes_eq text.now (time_text hour 0 0) }
 {
@@ -72,7 +72,7 @@ fn is_hour(text: &[u8], hour: u32) -> bool
 }
 
 /// Tells that a text is a day, `YYYYMMDD`.
-#[tactic(auto, unfolding(fd_key::specs::Civil::date_text))]
+#[tactic(auto, unfolding(fd_spelling::specs::Civil::date_text))]
 fn is_day(text: &[u8], year: u32, month: u32, day: u32) -> bool
     ensures { result ≡ bytes_eq text.now (date_text year month day) }
 {

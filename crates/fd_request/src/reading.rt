@@ -2,7 +2,7 @@
 ghost use Rattle.std.specs.Prelude.{◌≡◌, ◌<◌, ◌≤◌, ◌+◌, ◌-◌, [], ◌∷◌, ◌++◌, ℕ, List, IsTrue, true, false, IfOk, option_map, Option, length, take, drop, string_bytes, codes};
 ghost use Rattle.std.specs.List.{list_any, prefix_len};
 ghost use Rattle.std.specs.Str.{bytes_eq};
-ghost use Rattle.fd_key.specs.Names.{is_name, is_name_byte, is_value, lower};
+ghost use Rattle.fd_spelling.specs.Names.{is_name, is_name_byte, is_value, lower};
 ghost use Rattle.fd_tokens.specs.Tokens.{view, views, parts, tokens};
 ghost use Rattle.fd_schema.specs.Seen.{texts};
 ghost use Rattle.fd_request.specs.Ranges.{range_of};
@@ -15,14 +15,13 @@ ghost use Rattle.fd_request.specs.Reading.{Gives, Fails};
 use crate::fault::{Refusal, RequestKind};
 use crate::found::Found;
 use crate::keyword::Keyword;
-use crate::value::spelled;
 use crate::values::{Values, range_of};
 use crate::word::{
     Word, begins, behind_words, first_place, has_range_word, led_place, past, words_of,
 };
 use fd_bytes::NoMemory;
 use fd_key::is_name;
-use fd_schema::{name_end, name_text};
+use fd_schema::{name_end, name_text, spelled};
 use fd_tokens::{Token, part_from, tokens_of};
 use std::alloc::Global;
 

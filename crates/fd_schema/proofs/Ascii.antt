@@ -7,7 +7,7 @@ use Rattle.std.proofs.lemmas.Str.{IsUtf8-from_ascii}
 use Rattle.std.proofs.lemmas.Bool.{and_parts}
 use Rattle.std.proofs.lemmas.Bool.Decides.{nat_tests}
 use borrow.Author.Tests.{ltb-true}
-use Rattle.fd_key.specs.Names.{is_name, is_name_byte, is_letter}
+use Rattle.fd_spelling.specs.Names.{is_name, is_name_byte, is_letter}
 use Rattle.fd_schema.specs.Grammar.{is_ascii}
 
 below : (bs : List ℕ) → is_ascii bs ≡ true → (i : ℕ) → get_or bs i 0 < 128

@@ -2,18 +2,19 @@
 use Rattle.std.proofs.Common.{◌≡◌, ◌<◌, ◌≤◌, ◌+◌, ◌∙◌, ℕ, zero, suc, Bool, true, false, cond, not, List, [], ◌∷◌, ◌++◌, length, take, eqb, ltb, leb, Option, Some, None, Result, Ok, Err, refl, sym, ap, subst, append_assoc, arith}
 use Rattle.std.specs.Prelude.{◌&&◌}
 use Rattle.std.specs.List.{prefix_len}
-use Rattle.std.proofs.lemmas.Bool.{cond-true, leb-false, not-false}
+use Rattle.std.proofs.lemmas.Bool.{cond-true, cond-false, leb-false, not-false}
 use Rattle.std.proofs.lemmas.List.{append-nil}
-use Rattle.fd_key.specs.Names.{is_name, is_name_byte, is_value}
-use Rattle.fd_key.specs.Canonical.{canonical}
-use Rattle.fd_key.proofs.NameLaws.{value_is_ascii}
-use Rattle.fd_key.proofs.Spelled.{spelled_again}
+use Rattle.fd_spelling.specs.Names.{is_name, is_name_byte, is_value}
+use Rattle.fd_spelling.specs.Canonical.{canonical}
+use Rattle.fd_spelling.proofs.AsciiLaws.{value_is_ascii}
+use Rattle.fd_spelling.proofs.Spelled.{spelled_again}
 use Rattle.fd_schema.specs.declared.rule.Level.{Level}
 use Rattle.fd_schema.specs.declared.rule.Level.TheVariants.{Dataset, Index, Datum}
+use Rattle.fd_schema.specs.declared.rule.Version.{Version}
 use Rattle.fd_tokens.specs.Tokens.{Piece, Part, is_token, parts}
 use Rattle.fd_tokens.proofs.Cuts.{parts_some}
-use Rattle.fd_schema.specs.Rules.{Want, Needed, Optional, OneOf, Item, has_name, Rule}
-use Rattle.fd_schema.specs.Grammar.{Fault, Wrong, TooLong, Byte, Name, Twice, Depth, NoneRequired, TooMany, wrong, ◌>>=◌, each_of, begins_value, is_ascii, spelled, value_or, value_of, value_in, values_of, name_of, nothing_behind, want_of, item_of, item_in, items_of, inside, behind, front, level_of, opened, has_required, closed, rule_of, rules_of, some_rule, schema_of}
+use Rattle.fd_schema.specs.Rules.{Want, Needed, Optional, OneOf, Item, has_name, has_meaning, Rule}
+use Rattle.fd_schema.specs.Grammar.{Fault, Wrong, TooLong, Byte, Name, Twice, Depth, NoneRequired, TooMany, wrong, ◌>>=◌, each_of, begins_value, is_ascii, spelled, spelled_in, plain_value, value_or, value_of, value_in, values_of, name_of, nothing_behind, want_of, item_of, item_in, items_of, inside, behind, front, level_of, opened, has_required, closed, rule_of, rules_of, version_of, rules_in, some_rule, schema_of}
 
 -- ---- answers
 
@@ -60,59 +61,80 @@ each_added read P each before (p ∷ ps) out h =
 
 -- ---- values
 
--- the one spelling of a value
-pub record IsValueOf (name : List ℕ) (before : List (List ℕ)) (value : List ℕ) : Type 0 where
-  pub again : spelled name value ≡ Some value
+-- a value that is read as itself
+pub record IsValueOf (version : Version) (name : List ℕ) (before : List (List ℕ)) (value : List ℕ) : Type 0 where
+  pub again : spelled_in version name value ≡ Some value
   pub is : is_value value ≡ true
 
-spelled_value : (name text value : List ℕ) (before : List (List ℕ)) → spelled name text ≡ Some value → IsValueOf name before value
-spelled_value name text value before h = go (is_ascii text) h
+-- the one spelling of a value
+record IsSpelling (name value : List ℕ) : Type 0 where
+  again : spelled name value ≡ Some value
+  is : is_value value ≡ true
+
+spelling_is : (name text value : List ℕ) → spelled name text ≡ Some value → IsSpelling name value
+spelling_is name text value h = go (is_ascii text) h
   where
-    go : (b : Bool) → cond b (canonical name text) None ≡ Some value → IsValueOf name before value
+    go : (b : Bool) → cond b (canonical name text) None ≡ Some value → IsSpelling name value
     go true e =
         let s = spelled_again name text value e in
         record { again = cond-true (is_ascii value) (canonical name value) None (value_is_ascii value s.value) ∙ s.again; is = s.value }
     go false e = absurd (cc)
+
+-- a value as it stands
+plain_is : (b : Bool) (text value : List ℕ) → is_value text ≡ b → cond b (Some text) None ≡ Some value → is_value value ≡ true
+plain_is true text value e h = let same : text ≡ value = cc in ap is_value (sym same) ∙ e
+plain_is false text value e h = absurd (cc)
+
+spelled_value : (version : Version) (name text value : List ℕ) (before : List (List ℕ)) → spelled_in version name text ≡ Some value → IsValueOf version name before value
+spelled_value version name text value before h = go (has_meaning version name) refl h
+  where
+    go : (b : Bool) → has_meaning version name ≡ b → cond b (spelled name text) (plain_value text) ≡ Some value → IsValueOf version name before value
+    go true m e =
+        let s = spelling_is name text value e in
+        record { again = cond-true (has_meaning version name) (spelled name value) (plain_value value) m ∙ s.again; is = s.is }
+    go false m e =
+        let v = plain_is (is_value text) text value refl e in
+        record { again = cond-false (has_meaning version name) (spelled name value) (plain_value value) m ∙ cond-true (is_value value) (Some value) None v; is = v }
 
 of_spelled : (o : Option (List ℕ)) (at : ℕ) (others : List Piece) (value : List ℕ) → value_or o at others ≡ Ok value → o ≡ Some value
 of_spelled None at others value h = absurd (cc)
 of_spelled (Some v) at [] value h = cc
 of_spelled (Some v) at (u ∷ us) value h = absurd (cc)
 
-value_is : (name : List ℕ) (stop : Piece) (ts : List Piece) (before : List (List ℕ)) (value : List ℕ) → value_of name stop ts ≡ Ok value → IsValueOf name before value
+value_is : (version : Version) (name : List ℕ) (stop : Piece) (ts : List Piece) (before : List (List ℕ)) (value : List ℕ) → value_of version name stop ts ≡ Ok value → IsValueOf version name before value
 unfolding value_of
-value_is name stop [] before value h = absurd (cc)
-value_is name stop (t ∷ ts) before value h =
-    let c = ok_choice (begins_value t.text) (value_or (spelled name t.text) t.at ts) t.at Byte value h in
-    spelled_value name t.text value before (of_spelled (spelled name t.text) t.at ts value c.1)
+value_is version name stop [] before value h = absurd (cc)
+value_is version name stop (t ∷ ts) before value h =
+    let c = ok_choice (begins_value t.text) (value_or (spelled_in version name t.text) t.at ts) t.at Byte value h in
+    spelled_value version name t.text value before (of_spelled (spelled_in version name t.text) t.at ts value c.1)
 
 -- ---- items
 
-abbrev pub IsWantOf : List ℕ → Want → Type 0
-IsWantOf name Needed = Unit {0}
-IsWantOf name Optional = Unit {0}
-IsWantOf name (OneOf values) = (0 < length values) × Follow (IsValueOf name) [] values
+abbrev pub IsWantOf : Version → List ℕ → Want → Type 0
+IsWantOf version name Needed = Unit {0}
+IsWantOf version name Optional = Unit {0}
+IsWantOf version name (OneOf values) = (0 < length values) × Follow (IsValueOf version name) [] values
 
-optional_is : (name : List ℕ) (ts : List Piece) (want : Want) → nothing_behind ts ≡ Ok want → IsWantOf name want
-optional_is name [] want h = let same : Optional ≡ want = cc in subst (λ w. IsWantOf name w) same tt
-optional_is name (u ∷ us) want h = absurd (cc)
+optional_is : (version : Version) (name : List ℕ) (ts : List Piece) (want : Want) → nothing_behind ts ≡ Ok want → IsWantOf version name want
+optional_is version name [] want h = let same : Optional ≡ want = cc in subst (λ w. IsWantOf version name w) same tt
+optional_is version name (u ∷ us) want h = absurd (cc)
 
-values_are : (name : List ℕ) (stop : Piece) (ts : List Piece) (want : Want) → (values_of name stop ts >>= λ vs. Ok (OneOf vs)) ≡ Ok want → IsWantOf name want
-values_are name stop ts want h =
-    let vs = ok_bind (values_of name stop ts) (λ vs. Ok (OneOf vs)) want h in
-    let a : Added (IsValueOf name) [] vs.0 (length (parts 47 stop ts)) = each_added (value_in name) (IsValueOf name) (λ before p x e. value_is name p.stop p.tokens before x e) [] (parts 47 stop ts) vs.0 vs.1 in
+values_are : (version : Version) (name : List ℕ) (stop : Piece) (ts : List Piece) (want : Want) → (values_of version name stop ts >>= λ vs. Ok (OneOf vs)) ≡ Ok want → IsWantOf version name want
+values_are version name stop ts want h =
+    let vs = ok_bind (values_of version name stop ts) (λ vs. Ok (OneOf vs)) want h in
+    let a : Added (IsValueOf version name) [] vs.0 (length (parts 47 stop ts)) = each_added (value_in version name) (IsValueOf version name) (λ before p x e. value_is version name p.stop p.tokens before x e) [] (parts 47 stop ts) vs.0 vs.1 in
     let some : 0 < length vs.0 = omega (arith, parts_some 47 stop ts, a.count, ap length a.is) in
     let same : OneOf vs.0 ≡ want = cc in
-    subst (λ w. IsWantOf name w) same (some, subst (λ (x : List (List ℕ)). Follow (IsValueOf name) [] x) (sym a.is) a.all)
+    subst (λ w. IsWantOf version name w) same (some, subst (λ (x : List (List ℕ)). Follow (IsValueOf version name) [] x) (sym a.is) a.all)
 
-want_is : (name : List ℕ) (stop : Piece) (ts : List Piece) (want : Want) → want_of name stop ts ≡ Ok want → IsWantOf name want
+want_is : (version : Version) (name : List ℕ) (stop : Piece) (ts : List Piece) (want : Want) → want_of version name stop ts ≡ Ok want → IsWantOf version name want
 unfolding want_of
-want_is name stop [] want h = let same : Needed ≡ want = cc in subst (λ w. IsWantOf name w) same tt
-want_is name stop (t ∷ ts) want h = go (is_token 63 t) (is_token 61 t) h
+want_is version name stop [] want h = let same : Needed ≡ want = cc in subst (λ w. IsWantOf version name w) same tt
+want_is version name stop (t ∷ ts) want h = go (is_token 63 t) (is_token 61 t) h
   where
-    go : (x y : Bool) → cond x (nothing_behind ts) (cond y (values_of name stop ts >>= λ vs. Ok (OneOf vs)) (wrong t.at Byte)) ≡ Ok want → IsWantOf name want
-    go true y e = optional_is name ts want e
-    go false true e = values_are name stop ts want e
+    go : (x y : Bool) → cond x (nothing_behind ts) (cond y (values_of version name stop ts >>= λ vs. Ok (OneOf vs)) (wrong t.at Byte)) ≡ Ok want → IsWantOf version name want
+    go true y e = optional_is version name ts want e
+    go false true e = values_are version name stop ts want e
     go false false e = absurd (cc)
 
 -- a name that is new in its rule, which has room for it
@@ -138,40 +160,40 @@ new_name before t name h =
       room = leb-false 32 (length before) d.0;
     }
 
-pub record IsItem (level : Level) (before : List Item) (item : Item) : Type 0 where
+pub record IsItem (version : Version) (level : Level) (before : List Item) (item : Item) : Type 0 where
   pub at : item.level ≡ level
   pub named : IsNew before item.name
-  pub want : IsWantOf item.name item.want
+  pub want : IsWantOf version item.name item.want
 
-item_is : (level : Level) (before : List Item) (stop : Piece) (ts : List Piece) (item : Item) → item_of level before stop ts ≡ Ok item → IsItem level before item
+item_is : (version : Version) (level : Level) (before : List Item) (stop : Piece) (ts : List Piece) (item : Item) → item_of version level before stop ts ≡ Ok item → IsItem version level before item
 unfolding item_of
-item_is level before stop [] item h = absurd (cc)
-item_is level before stop (t ∷ ts) item h =
+item_is version level before stop [] item h = absurd (cc)
+item_is version level before stop (t ∷ ts) item h =
     let name = ok_bind (name_of before t) _ item h in
-    let want = ok_bind (want_of name.0 stop ts) _ item name.2 in
+    let want = ok_bind (want_of version name.0 stop ts) _ item name.2 in
     let made : Item = record { level = level; name = name.0; want = want.0 } in
     let same : made ≡ item = cc in
-    subst (λ i. IsItem level before i) same record { at = refl; named = new_name before t name.0 name.1; want = want_is name.0 stop ts want.0 want.1 }
+    subst (λ i. IsItem version level before i) same record { at = refl; named = new_name before t name.0 name.1; want = want_is version name.0 stop ts want.0 want.1 }
 
 -- ---- levels
 
 -- the items of a level, behind those before it
-pub record LevelAdded (level : Level) (before out : List Item) : Type 0 where
+pub record LevelAdded (version : Version) (level : Level) (before out : List Item) : Type 0 where
   pub added : List Item
   pub is : out ≡ before ++ added
-  pub all : Follow (IsItem level) before added
+  pub all : Follow (IsItem version level) before added
 
-level_added : (level : Level) (before : List Item) (end : Piece) (ts : List Piece) (out : List Item) → level_of level before end ts ≡ Ok out → LevelAdded level before out
+level_added : (version : Version) (level : Level) (before : List Item) (end : Piece) (ts : List Piece) (out : List Item) → level_of version level before end ts ≡ Ok out → LevelAdded version level before out
 unfolding level_of
-level_added level before end ts out h = go (eqb (length (inside ts)) 0 && is_token 93 (front (behind ts) end)) h
+level_added version level before end ts out h = go (eqb (length (inside ts)) 0 && is_token 93 (front (behind ts) end)) h
   where
     stop : Piece
     stop = front (behind ts) end
 
-    go : (b : Bool) → cond b (Ok before) (items_of level before stop (inside ts)) ≡ Ok out → LevelAdded level before out
+    go : (b : Bool) → cond b (Ok before) (items_of version level before stop (inside ts)) ≡ Ok out → LevelAdded version level before out
     go true e = let same : before ≡ out = cc in record { added = []; is = sym same ∙ sym (append-nil before); all = tt }
     go false e =
-        let a = each_added (item_in level) (IsItem level) (λ b p x k. item_is level b p.stop p.tokens x k) before (parts 44 stop (inside ts)) out e in
+        let a = each_added (item_in version level) (IsItem version level) (λ b p x k. item_is version level b p.stop p.tokens x k) before (parts 44 stop (inside ts)) out e in
         record { added = a.added; is = a.is; all = a.all }
 
 closed_required : (otherwise : Wrong) (level : Level) (items : List Item) (end : Piece) (ts rest : List Piece) → closed otherwise level items end ts ≡ Ok rest → has_required level items ≡ true
@@ -185,17 +207,21 @@ closed_required otherwise level items end (t ∷ ts) rest h = go (is_token 93 t)
 
 -- ---- rules
 
-pub record IsRule (before : List Rule) (rule : Rule) : Type 0 where
+pub record IsRule (version : Version) (before : List Rule) (rule : Rule) : Type 0 where
+  pub version_is : rule.version ≡ version
   pub dataset : List Item
   pub index : List Item
   pub datum : List Item
-  pub is : rule ≡ (dataset ++ index) ++ datum
-  pub datasets : Follow (IsItem Dataset) [] dataset
-  pub indexes : Follow (IsItem Index) dataset index
-  pub datums : Follow (IsItem Datum) (dataset ++ index) datum
-  pub has_dataset : has_required Dataset rule ≡ true
-  pub has_index : has_required Index rule ≡ true
-  pub has_datum : has_required Datum rule ≡ true
+  pub is : rule.items ≡ (dataset ++ index) ++ datum
+  pub datasets : Follow (IsItem version Dataset) [] dataset
+  pub indexes : Follow (IsItem version Index) dataset index
+  pub datums : Follow (IsItem version Datum) (dataset ++ index) datum
+  pub has_dataset : has_required Dataset rule.items ≡ true
+  pub has_index : has_required Index rule.items ≡ true
+  pub has_datum : has_required Datum rule.items ≡ true
+
+abbrev ruled : Version → List Item → Rule
+ruled version items = record { version = version; items = items }
 
 abbrev ok_rule : Rule → List Piece → Result (Rule × List Piece) Fault
 ok_rule rule ts = Ok (rule, ts)
@@ -203,84 +229,89 @@ ok_rule rule ts = Ok (rule, ts)
 rule_in : (rule : Rule) (ts : List Piece) (r : Rule × List Piece) → ok_rule rule ts ≡ Ok r → rule ≡ r.0
 rule_in rule ts r h = cc
 
-rule_is : (end : Piece) (ts : List Piece) (before : List Rule) (r : Rule × List Piece) → rule_of end ts ≡ Ok r → IsRule before r.0
+rule_is : (version : Version) (end : Piece) (ts : List Piece) (before : List Rule) (r : Rule × List Piece) → rule_of version end ts ≡ Ok r → IsRule version before r.0
 unfolding rule_of
-rule_is end ts before r h =
-    let dataset = ok_bind (level_of Dataset [] end ts) _ r h in
+rule_is version end ts before r h =
+    let dataset = ok_bind (level_of version Dataset [] end ts) _ r h in
     let second = ok_bind (opened end (behind ts)) _ r dataset.2 in
-    let index = ok_bind (level_of Index dataset.0 end second.0) _ r second.2 in
+    let index = ok_bind (level_of version Index dataset.0 end second.0) _ r second.2 in
     let third = ok_bind (opened end (behind second.0)) _ r index.2 in
-    let datum = ok_bind (level_of Datum index.0 end third.0) _ r third.2 in
+    let datum = ok_bind (level_of version Datum index.0 end third.0) _ r third.2 in
     let after_datum = ok_bind (closed Depth Datum datum.0 end (behind third.0)) _ r datum.2 in
     let after_index = ok_bind (closed Byte Index datum.0 end after_datum.0) _ r after_datum.2 in
     let after_dataset = ok_bind (closed Byte Dataset datum.0 end after_index.0) _ r after_index.2 in
-    let d = level_added Dataset [] end ts dataset.0 dataset.1 in
-    let i = level_added Index dataset.0 end second.0 index.0 index.1 in
-    let t = level_added Datum index.0 end third.0 datum.0 datum.1 in
+    let d = level_added version Dataset [] end ts dataset.0 dataset.1 in
+    let i = level_added version Index dataset.0 end second.0 index.0 index.1 in
+    let t = level_added version Datum index.0 end third.0 datum.0 datum.1 in
     let first : dataset.0 ≡ d.added = d.is in
     let both : index.0 ≡ d.added ++ i.added = i.is ∙ ap (λ (x : List Item). x ++ i.added) first in
     let all : datum.0 ≡ (d.added ++ i.added) ++ t.added = t.is ∙ ap (λ (x : List Item). x ++ t.added) both in
-    let same : datum.0 ≡ r.0 = rule_in datum.0 after_dataset.0 r after_dataset.2 in
+    let made : ruled version datum.0 ≡ r.0 = rule_in (ruled version datum.0) after_dataset.0 r after_dataset.2 in
+    let same : datum.0 ≡ r.0.items = ap (λ (x : Rule). x.items) made in
     record {
       dataset = d.added;
       index = i.added;
       datum = t.added;
+      version_is = sym (ap (λ (x : Rule). x.version) made);
       is = sym same ∙ all;
       datasets = d.all;
-      indexes = subst (λ (x : List Item). Follow (IsItem Index) x i.added) first i.all;
-      datums = subst (λ (x : List Item). Follow (IsItem Datum) x t.added) both t.all;
+      indexes = subst (λ (x : List Item). Follow (IsItem version Index) x i.added) first i.all;
+      datums = subst (λ (x : List Item). Follow (IsItem version Datum) x t.added) both t.all;
       has_dataset = ap (has_required Dataset) (sym same) ∙ closed_required Byte Dataset datum.0 end after_index.0 after_dataset.0 after_dataset.1;
       has_index = ap (has_required Index) (sym same) ∙ closed_required Byte Index datum.0 end after_datum.0 after_index.0 after_index.1;
       has_datum = ap (has_required Datum) (sym same) ∙ closed_required Depth Datum datum.0 end (behind third.0) after_datum.0 after_datum.1;
     }
 
-pub record RulesAdded (before out : List Rule) (left : ℕ) : Type 0 where
+pub record RulesAdded (version : Version) (before out : List Rule) (left : ℕ) : Type 0 where
   pub added : List Rule
   pub is : out ≡ before ++ added
   pub few : length added ≤ left
-  pub all : Follow IsRule before added
+  pub all : Follow (IsRule version) before added
 
 abbrev ok : List Rule → Result (List Rule) Fault
 ok rules = Ok rules
 
-no_more : (left : ℕ) (before out : List Rule) → ok before ≡ Ok out → RulesAdded before out left
-no_more left before out h = let same : before ≡ out = cc in record { added = []; is = sym same ∙ sym (append-nil before); few = omega arith; all = tt }
+no_more : (version : Version) (left : ℕ) (before out : List Rule) → ok before ≡ Ok out → RulesAdded version before out left
+no_more version left before out h = let same : before ≡ out = cc in record { added = []; is = sym same ∙ sym (append-nil before); few = omega arith; all = tt }
 
-rules_added : (left : ℕ) (end : Piece) (before : List Rule) (ts : List Piece) (out : List Rule) → rules_of left end before ts ≡ Ok out → RulesAdded before out left
+rules_added : (left : ℕ) (version : Version) (end : Piece) (before : List Rule) (ts : List Piece) (out : List Rule) → rules_of left version end before ts ≡ Ok out → RulesAdded version before out left
 unfolding rules_of
-rules_added zero end before [] out h = no_more zero before out h
-rules_added zero end before (t ∷ ts) out h = absurd (cc)
-rules_added (suc left) end before [] out h = no_more (suc left) before out h
-rules_added (suc left) end before (t ∷ ts) out h =
-    let c = ok_choice (is_token 91 t) (rule_of end ts >>= λ r. rules_of left end (before ++ r.0 ∷ []) r.1) t.at Byte out h in
-    let r = ok_bind (rule_of end ts) (λ r. rules_of left end (before ++ r.0 ∷ []) r.1) out c.1 in
-    let rest = rules_added left end (before ++ r.0.0 ∷ []) r.0.1 out r.2 in
+rules_added zero version end before [] out h = no_more version zero before out h
+rules_added zero version end before (t ∷ ts) out h = absurd (cc)
+rules_added (suc left) version end before [] out h = no_more version (suc left) before out h
+rules_added (suc left) version end before (t ∷ ts) out h =
+    let c = ok_choice (is_token 91 t) (rule_of version end ts >>= λ r. rules_of left version end (before ++ r.0 ∷ []) r.1) t.at Byte out h in
+    let r = ok_bind (rule_of version end ts) (λ r. rules_of left version end (before ++ r.0 ∷ []) r.1) out c.1 in
+    let rest = rules_added left version end (before ++ r.0.0 ∷ []) r.0.1 out r.2 in
     record {
       added = r.0.0 ∷ rest.added;
       is = rest.is ∙ append_assoc before (r.0.0 ∷ []) rest.added;
       few = omega (arith, rest.few);
-      all = (rule_is end ts before r.0 r.1, rest.all);
+      all = (rule_is version end ts before r.0 r.1, rest.all);
     }
 
--- the rules of a text: 1 to 256
+-- the rules of a text: 1 to 256, of one version
 pub record AreRules (rules : List Rule) : Type 0 where
+  pub version : Version
   pub some : 0 < length rules
   pub few : length rules ≤ 256
-  pub all : Follow IsRule [] rules
+  pub all : Follow (IsRule version) [] rules
 
 some_is : (end : ℕ) (rs rules : List Rule) → some_rule end rs ≡ Ok rules → (rs ≡ rules) × (0 < length rs)
 some_is end [] rules h = absurd (cc)
 some_is end (r ∷ rs) rules h = (cc, omega arith)
 
 pub are_rules : (text : List ℕ) (rules : List Rule) → schema_of text ≡ Ok rules → AreRules rules
-unfolding schema_of
+unfolding schema_of rules_in
 are_rules text rules h =
     let u = ok_unless (ltb 65536 (length text)) _ 0 TooLong rules h in
-    let rs = ok_bind (rules_of 256 (record { at = length text; text = [] }) [] _) _ rules u.1 in
+    let rs = ok_bind (rules_in text) _ rules u.1 in
+    let v = ok_bind (version_of text _) _ rs.0 rs.1 in
     let s = some_is (length text) rs.0 rules rs.2 in
-    let a = rules_added 256 (record { at = length text; text = [] }) [] _ rs.0 rs.1 in
+    let a = rules_added 256 v.0.0 (record { at = length text; text = [] }) [] _ rs.0 v.2 in
     subst (λ (x : List Rule). AreRules x) s.0 record {
+      version = v.0.0;
       some = s.1;
       few = omega (arith, a.few, ap length a.is);
-      all = subst (λ (x : List Rule). Follow IsRule [] x) (sym a.is) a.all;
+      all = subst (λ (x : List Rule). Follow (IsRule v.0.0) [] x) (sym a.is) a.all;
     }

@@ -5,7 +5,7 @@ use Rattle.std.specs.List.{list_all}
 use Rattle.std.specs.Char.{to_ascii_lowercase}
 use Rattle.std.proofs.lemmas.Bool.{and_parts, and_from, ltb-true}
 use Rattle.std.proofs.lemmas.Bool.Decides.{nat_tests}
-use Rattle.fd_key.specs.Names.{is_name, is_name_byte, is_letter, is_value, is_value_byte}
+use Rattle.fd_spelling.specs.Names.{is_name, is_name_byte, is_letter, is_value, is_value_byte}
 use Rattle.fd_tokens.specs.Tokens.{is_word, Piece, Part, begins_word, tokens, is_token, parts}
 use Rattle.fd_tokens.proofs.Written.{are_word, piece, word_token}
 use Rattle.fd_tokens.proofs.Cuts.{are_apart, no_cut, first_cut}

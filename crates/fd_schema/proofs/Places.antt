@@ -7,6 +7,7 @@ use Rattle.std.proofs.lemmas.Slice.Eq.{bytes_eq-Decides}
 use Rattle.fd_key.specs.Pairs.{Pair, key_text, pair_text, rest_text, text_of}
 use Rattle.fd_schema.specs.declared.rule.Level.{Level}
 use Rattle.fd_schema.specs.declared.rule.Level.TheVariants.{Dataset, Index, Datum}
+use Rattle.fd_schema.specs.declared.rule.Version.{Version}
 use Rattle.fd_schema.specs.Rules.{IsShort, Item, Rule, Texts, admits, has_name, level_pairs, level_text, pair_if, place_from, same_level, texts_of}
 use Rattle.fd_schema.specs.Grammar.{IsSchema}
 use Rattle.fd_schema.specs.declared.place.Place.{Place}
@@ -44,19 +45,19 @@ abbrev News : List Item → List Item → Type 0
 News before [] = Unit {0}
 News before (i ∷ is) = (has_name before i.name ≡ false) × News (before ++ i ∷ []) is
 
-news_follow : (level : Level) (before is : List Item) → Follow (IsItem level) before is → News before is
-news_follow level before [] f = tt
-news_follow level before (i ∷ is) f = (f.0.named.new, news_follow level (before ++ i ∷ []) is f.1)
+news_follow : (version : Version) (level : Level) (before is : List Item) → Follow (IsItem version level) before is → News before is
+news_follow version level before [] f = tt
+news_follow version level before (i ∷ is) f = (f.0.named.new, news_follow version level (before ++ i ∷ []) is f.1)
 
 news_both : (before is js : List Item) → News before is → News (before ++ is) js → News before (is ++ js)
 news_both before [] js n m = subst (λ (b : List Item). News b js) (append-nil before) m
 news_both before (i ∷ is) js n m = (n.0, news_both (before ++ i ∷ []) is js n.1 (subst (λ (b : List Item). News b js) (sym (append_assoc before (i ∷ []) is)) m))
 
-news_rule : (before : List Rule) (rule : Rule) → IsRule before rule → News [] rule
-news_rule before rule r = subst (News []) (sym r.is)
+news_rule : (version : Version) (before : List Rule) (rule : Rule) → IsRule version before rule → News [] rule.items
+news_rule version before rule r = subst (News []) (sym r.is)
     (news_both [] (r.dataset ++ r.index) r.datum
-    (news_both [] r.dataset r.index (news_follow Dataset [] r.dataset r.datasets) (news_follow Index r.dataset r.index r.indexes))
-    (news_follow Datum (r.dataset ++ r.index) r.datum r.datums))
+    (news_both [] r.dataset r.index (news_follow version Dataset [] r.dataset r.datasets) (news_follow version Index r.dataset r.index r.indexes))
+    (news_follow version Datum (r.dataset ++ r.index) r.datum r.datums))
 
 -- none of the items has the name
 abbrev NoneIs : List ℕ → List Item → Type 0
@@ -152,30 +153,30 @@ three_levels (i ∷ is) key =
     go Index own rest whole d n t = omega (arith, rest, whole, d, n, t)
     go Datum own rest whole d n t = omega (arith, rest, whole, d, n, t)
 
-short_by : (number : ℕ) (rule : Rule) (key : List Pair) → News [] rule → length (key_text key) ≤ 255 → IsShort (texts_of number rule key)
+short_by : (number : ℕ) (rule : Rule) (key : List Pair) → News [] rule.items → length (key_text key) ≤ 255 → IsShort (texts_of number rule key)
 short_by number rule key news short =
-    let all = at_most_key rule key news in
-    let three = three_levels rule key in
-    let d = size_text (level_pairs Dataset rule key) in
-    let n = size_text (level_pairs Index rule key) in
-    let t = size_text (level_pairs Datum rule key) in
+    let all = at_most_key rule.items key news in
+    let three = three_levels rule.items key in
+    let d = size_text (level_pairs Dataset rule.items key) in
+    let n = size_text (level_pairs Index rule.items key) in
+    let t = size_text (level_pairs Datum rule.items key) in
     let k = size_text key in
-    let joined = length-append (level_text Index rule key) (124 ∷ level_text Datum rule key) in
+    let joined = length-append (level_text Index rule.items key) (124 ∷ level_text Datum rule.items key) in
     record { dataset = omega (arith, all, three, d, k, short); key = omega (arith, all, three, n, t, k, short, joined) }
 
-short_from : (number : ℕ) (before rules : List Rule) (key : List Pair) (place : Texts) → Follow IsRule before rules → place_from number rules key ≡ Some place → length (key_text key) ≤ 255 → IsShort place
+short_from : (version : Version) (number : ℕ) (before rules : List Rule) (key : List Pair) (place : Texts) → Follow (IsRule version) before rules → place_from number rules key ≡ Some place → length (key_text key) ≤ 255 → IsShort place
 unfolding place_from
-short_from number before [] key place all is short = absurd (cc is)
-short_from number before (r ∷ rs) key place all is short = elim (true_or_false (admits r key)) as (λ _. IsShort place) [
+short_from version number before [] key place all is short = absurd (cc is)
+short_from version number before (r ∷ rs) key place all is short = elim (true_or_false (admits r key)) as (λ _. IsShort place) [
   | inl first ↦
       let one : Some (texts_of number r key) ≡ Some place = sym (ap (λ (b : Bool). if b then Some (texts_of number r key) else place_from (number + 1) rs key) first) ∙ is in
       let same : texts_of number r key ≡ place = cc one in
-      subst IsShort same (short_by number r key (news_rule before r all.0) short)
-  | inr later ↦ short_from (number + 1) (before ++ r ∷ []) rs key place all.1 (sym (ap (λ (b : Bool). if b then Some (texts_of number r key) else place_from (number + 1) rs key) later) ∙ is) short
+      subst IsShort same (short_by number r key (news_rule version before r all.0) short)
+  | inr later ↦ short_from version (number + 1) (before ++ r ∷ []) rs key place all.1 (sym (ap (λ (b : Bool). if b then Some (texts_of number r key) else place_from (number + 1) rs key) later) ∙ is) short
 ]
 
 pub short_place : (rules : List Rule) (key : List Pair) (place : Texts) → IsSchema rules → place_from 0 rules key ≡ Some place → length (key_text key) ≤ 255 → IsShort place
-short_place rules key place schema is short = short_from 0 [] rules key place (are_rules schema.0 rules schema.1).all is short
+short_place rules key place schema is short = let are = are_rules schema.0 rules schema.1 in short_from are.version 0 [] rules key place are.all is short
 
 -- what a call answered is short
 pub if_placed : (rules : List Rule) (key : List Pair) (answer : Result Place PlaceFault) → IsSchema rules → GivesPlace answer (place_from 0 rules key) → IfOk answer (λ p. length (key_text key) ≤ 255 → IsShort (seen_place p))

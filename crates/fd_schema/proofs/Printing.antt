@@ -15,5 +15,6 @@ named_text (kinds.Twice name) byte wrong names = ap (schema_wrong_text byte) (sy
 named_text kinds.Depth byte wrong names = ap (schema_wrong_text byte) (sym names)
 named_text kinds.Level byte wrong names = ap (schema_wrong_text byte) (sym names)
 named_text (kinds.TooMany count) byte wrong names = ap (schema_wrong_text byte) (sym names)
+named_text kinds.Version byte wrong names = ap (schema_wrong_text byte) (sym names)
 named_text kinds.End byte wrong names = ap (schema_wrong_text byte) (sym names)
 named_text kinds.Empty byte wrong names = ap (schema_wrong_text byte) (sym names)

@@ -6,6 +6,7 @@ use Rattle.fd_schema.specs.declared.fault.Refusal.TheVariants as refusals
 use Rattle.fd_schema.specs.Reading.{Fails}
 use Rattle.std.proofs.lemmas.List.{take_rest}
 use Rattle.fd_tokens.specs.Tokens.{Piece, Part, is_token, view, views}
+use Rattle.fd_schema.specs.declared.rule.Version.{Version}
 use Rattle.fd_schema.specs.Rules.{Rule}
 use Rattle.fd_schema.specs.Grammar.{Fault, ◌>>=◌, wrong, Byte, TooMany, each_of, rule_of, rules_of}
 
@@ -39,30 +40,30 @@ parts_end read before qs total is so_far = sym so_far ∙ ap (each_of read befor
 
 -- ---- rules
 
-pub rules_end : (left : ℕ) (end : Piece) (before : List Rule) → rules_of left end before [] ≡ Ok before
+pub rules_end : (left : ℕ) (version : Version) (end : Piece) (before : List Rule) → rules_of left version end before [] ≡ Ok before
 unfolding rules_of
-rules_end zero end before = refl
-rules_end (suc left) end before = refl
+rules_end zero version end before = refl
+rules_end (suc left) version end before = refl
 
-pub rules_byte : (left : ℕ) (end : Piece) (before : List Rule) (t : Piece) (ts : List Piece) → is_token 91 t ≡ false → rules_of left end before (t ∷ ts) ≡ wrong t.at Byte
+pub rules_byte : (left : ℕ) (version : Version) (end : Piece) (before : List Rule) (t : Piece) (ts : List Piece) → is_token 91 t ≡ false → rules_of left version end before (t ∷ ts) ≡ wrong t.at Byte
 unfolding rules_of
-rules_byte zero end before t ts e = rw e refl
-rules_byte (suc left) end before t ts e = rw e refl
+rules_byte zero version end before t ts e = rw e refl
+rules_byte (suc left) version end before t ts e = rw e refl
 
-pub rules_many : (end : Piece) (before : List Rule) (t : Piece) (ts : List Piece) → is_token 91 t ≡ true → rules_of 0 end before (t ∷ ts) ≡ wrong t.at (TooMany 257)
+pub rules_many : (version : Version) (end : Piece) (before : List Rule) (t : Piece) (ts : List Piece) → is_token 91 t ≡ true → rules_of 0 version end before (t ∷ ts) ≡ wrong t.at (TooMany 257)
 unfolding rules_of
-rules_many end before t ts e = rw e refl
+rules_many version end before t ts e = rw e refl
 
-one_rule : (left : ℕ) (end : Piece) (before : List Rule) (t : Piece) (ts : List Piece) → is_token 91 t ≡ true
-    → rules_of (suc left) end before (t ∷ ts) ≡ (rule_of end ts >>= λ r. rules_of left end (before ++ r.0 ∷ []) r.1)
+one_rule : (left : ℕ) (version : Version) (end : Piece) (before : List Rule) (t : Piece) (ts : List Piece) → is_token 91 t ≡ true
+    → rules_of (suc left) version end before (t ∷ ts) ≡ (rule_of version end ts >>= λ r. rules_of left version end (before ++ r.0 ∷ []) r.1)
 unfolding rules_of
-one_rule left end before t ts e = rw e refl
+one_rule left version end before t ts e = rw e refl
 
-pub rules_more : (n : ℕ) (end : Piece) (before : List Rule) (t : Piece) (ts : List Piece) → n < 256 → is_token 91 t ≡ true
-    → rules_of (256 - n) end before (t ∷ ts) ≡ (rule_of end ts >>= λ r. rules_of (256 - (n + 1)) end (before ++ r.0 ∷ []) r.1)
-rules_more n end before t ts lt e =
+pub rules_more : (n : ℕ) (version : Version) (end : Piece) (before : List Rule) (t : Piece) (ts : List Piece) → n < 256 → is_token 91 t ≡ true
+    → rules_of (256 - n) version end before (t ∷ ts) ≡ (rule_of version end ts >>= λ r. rules_of (256 - (n + 1)) version end (before ++ r.0 ∷ []) r.1)
+rules_more n version end before t ts lt e =
     let k : 256 - n ≡ suc (256 - (n + 1)) = omega arith in
-    ap (λ left. rules_of left end before (t ∷ ts)) k ∙ one_rule (256 - (n + 1)) end before t ts e
+    ap (λ left. rules_of left version end before (t ∷ ts)) k ∙ one_rule (256 - (n + 1)) version end before t ts e
 
 -- the first token and the others
 pub first_and : (ts : List Token) (m : Token) → 1 ≤ length ts → m ≡ get_or ts 0 m → views ts ≡ view m ∷ views (take (length ts - 1) (drop 1 ts))
@@ -73,6 +74,6 @@ pub nothing : (ts : List Token) → length ts < 1 → views ts ≡ []
 nothing [] none = refl
 nothing (t ∷ ts) none = absurd (omega arith)
 
-pub rule_stops : (e : Refusal) (n : ℕ) (end : Piece) (before : List Rule) (t : Piece) (ts : List Piece) → n < 256 → is_token 91 t ≡ true → Fails e (rule_of end ts) → Fails e (rules_of (256 - n) end before (t ∷ ts))
-rule_stops (refusals.At at kind) n end before t ts lt open_ h = rules_more n end before t ts lt open_ ∙ ap (λ r. r >>= λ r. rules_of (256 - (n + 1)) end (before ++ r.0 ∷ []) r.1) h
-rule_stops refusals.NoMemory n end before t ts lt open_ h = tt
+pub rule_stops : (e : Refusal) (n : ℕ) (version : Version) (end : Piece) (before : List Rule) (t : Piece) (ts : List Piece) → n < 256 → is_token 91 t ≡ true → Fails e (rule_of version end ts) → Fails e (rules_of (256 - n) version end before (t ∷ ts))
+rule_stops (refusals.At at kind) n version end before t ts lt open_ h = rules_more n version end before t ts lt open_ ∙ ap (λ r. r >>= λ r. rules_of (256 - (n + 1)) version end (before ++ r.0 ∷ []) r.1) h
+rule_stops refusals.NoMemory n version end before t ts lt open_ h = tt

@@ -7,7 +7,7 @@ use Rattle.fd_schema.specs.declared.fault.SchemaFault.{SchemaFault}
 use Rattle.fd_schema.specs.declared.fault.SchemaFault.TheVariants as faults
 use Rattle.fd_schema.specs.declared.fault.PlaceFault.{PlaceFault}
 use Rattle.fd_schema.specs.declared.fault.PlaceFault.TheVariants as place_faults
-use Rattle.fd_schema.specs.Grammar.{Wrong, TooLong, Byte, Name, Value, Twice, Depth, NoneRequired, TooMany, End, Empty}
+use Rattle.fd_schema.specs.Grammar.{Wrong, TooLong, Byte, Name, Value, Twice, Depth, NoneRequired, TooMany, OtherVersion, End, Empty}
 
 -- what is wrong in a schema where this byte stands
 abbrev pub schema_wrong_text : ℕ → Wrong → List ℕ
@@ -19,6 +19,7 @@ schema_wrong_text byte (Twice name) = codes "Twice " ++ name
 schema_wrong_text byte Depth = codes "Depth"
 schema_wrong_text byte NoneRequired = codes "Level"
 schema_wrong_text byte (TooMany count) = codes "TooMany " ++ decimal count
+schema_wrong_text byte OtherVersion = codes "Version"
 schema_wrong_text byte End = codes "End"
 schema_wrong_text byte Empty = codes "Empty"
 
@@ -32,6 +33,7 @@ schema_kind_text (kinds.Twice name) = schema_wrong_text 0 (Twice (string_bytes n
 schema_kind_text kinds.Depth = schema_wrong_text 0 Depth
 schema_kind_text kinds.Level = schema_wrong_text 0 NoneRequired
 schema_kind_text (kinds.TooMany count) = schema_wrong_text 0 (TooMany count)
+schema_kind_text kinds.Version = schema_wrong_text 0 OtherVersion
 schema_kind_text kinds.End = schema_wrong_text 0 End
 schema_kind_text kinds.Empty = schema_wrong_text 0 Empty
 

@@ -12,7 +12,7 @@ use Rattle.fd_schema.specs.declared.fault.PlaceFault.{PlaceFault}
 use Rattle.fd_schema.specs.declared.fault.PlaceFault.TheVariants as place_faults
 use Rattle.fd_schema.specs.declared.place.Place.{Place}
 use Rattle.fd_schema.specs.Rules.{Rule, Texts}
-use Rattle.fd_schema.specs.Grammar.{Wrong, TooLong, Byte, Name, Value, Twice, Depth, NoneRequired, TooMany, End, Empty, Fault, wrong, schema_of}
+use Rattle.fd_schema.specs.Grammar.{Wrong, TooLong, Byte, Name, Value, Twice, Depth, NoneRequired, TooMany, OtherVersion, End, Empty, Fault, wrong, schema_of}
 
 abbrev pub seen_wrong : code_wrong.Wrong → Wrong
 seen_wrong wrongs.Byte = Byte
@@ -22,6 +22,7 @@ seen_wrong (wrongs.Twice name) = Twice (string_bytes name)
 seen_wrong wrongs.Depth = Depth
 seen_wrong wrongs.NoneRequired = NoneRequired
 seen_wrong (wrongs.TooMany count) = TooMany count
+seen_wrong wrongs.OtherVersion = OtherVersion
 seen_wrong wrongs.End = End
 seen_wrong wrongs.Empty = Empty
 
@@ -48,6 +49,7 @@ Names (kinds.Twice name) byte kind = kind ≡ Twice (string_bytes name)
 Names kinds.Depth byte kind = kind ≡ Depth
 Names kinds.Level byte kind = kind ≡ NoneRequired
 Names (kinds.TooMany count) byte kind = kind ≡ TooMany count
+Names kinds.Version byte kind = kind ≡ OtherVersion
 Names kinds.End byte kind = kind ≡ End
 Names kinds.Empty byte kind = kind ≡ Empty
 

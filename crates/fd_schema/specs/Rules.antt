@@ -5,6 +5,8 @@ use Rattle.std.specs.Str.{bytes_eq}
 use Rattle.fd_key.specs.Pairs.{Pair, text_of, pair_text, key_text}
 use Rattle.fd_schema.specs.declared.rule.Level.{Level}
 use Rattle.fd_schema.specs.declared.rule.Level.TheVariants.{Dataset, Index, Datum}
+use Rattle.fd_schema.specs.declared.rule.Version.{Version}
+use Rattle.fd_schema.specs.declared.rule.Version.TheVariants.{One, Two}
 
 -- what a rule wants of a name: that a key has it, nothing, or that the key has it with one of these values
 pub data Want : Type 0 where
@@ -24,9 +26,10 @@ same_level Index Index = true
 same_level Datum Datum = true
 same_level a b = false
 
--- a rule: its names from left to right, each with its level
-abbrev pub Rule : Type 0
-Rule = List Item
+-- a rule: the version of its schema, and its names from left to right, each with its level
+pub record Rule : Type 0 where
+  pub version : Version
+  pub items : List Item
 
 -- ---- which keys a rule admits
 
@@ -44,17 +47,18 @@ suits_key key item = suits item.want (text_of key item.name)
 abbrev pub has_name : List Item → List ℕ → Bool
 has_name items name = list_any (λ i. bytes_eq i.name name) items
 
--- `number` and `stat` have no meaning yet, and no rule admits a key with either
-abbrev pub has_meaning : List ℕ → Bool
-has_meaning name = not (bytes_eq name (codes "number") || bytes_eq name (codes "stat"))
+-- in version 1 `number` and `stat` have no meaning, and no rule admits a key with either
+abbrev pub has_meaning : Version → List ℕ → Bool
+has_meaning One name = not (bytes_eq name (codes "number") || bytes_eq name (codes "stat"))
+has_meaning Two name = true
 
 -- a name of the key has a meaning, and is in the rule
 abbrev pub is_known : Rule → Pair → Bool
-is_known rule p = has_meaning p.0 && has_name rule p.0
+is_known rule p = has_meaning rule.version p.0 && has_name rule.items p.0
 
 -- All required names are in the key, each restricted one has one of its values, and all names of the key are in the rule.
 abbrev pub admits : Rule → List Pair → Bool
-admits rule key = list_all (suits_key key) rule && list_all (is_known rule) key
+admits rule key = list_all (suits_key key) rule.items && list_all (is_known rule) key
 
 -- ---- the place of a key
 
@@ -64,13 +68,13 @@ pair_if name None = []
 pair_if name (Some text) = (name, text) ∷ []
 
 -- the pairs of one level that the key has, in the rule's order
-unfoldable pub level_pairs : Level → Rule → List Pair → List Pair
+unfoldable pub level_pairs : Level → List Item → List Pair → List Pair
 level_pairs level [] key = []
 level_pairs level (i ∷ is) key = (if same_level i.level level then pair_if i.name (text_of key i.name) else []) ++ level_pairs level is key
 
 -- the text of one level: `name=value` pairs joined by commas
-abbrev pub level_text : Level → Rule → List Pair → List ℕ
-level_text level rule key = key_text (level_pairs level rule key)
+abbrev pub level_text : Level → List Item → List Pair → List ℕ
+level_text level items key = key_text (level_pairs level items key)
 
 -- a pair behind the text of the pairs before it
 abbrev pub joined_behind : List ℕ → Pair → List ℕ
@@ -96,9 +100,9 @@ pub record IsShort (t : Texts) : Type 0 where
 abbrev pub texts_of : ℕ → Rule → List Pair → Texts
 texts_of number rule key = record {
   rule = number;
-  dataset = level_text Dataset rule key;
-  index = level_text Index rule key;
-  datum = level_text Datum rule key;
+  dataset = level_text Dataset rule.items key;
+  index = level_text Index rule.items key;
+  datum = level_text Datum rule.items key;
 }
 
 -- the place by the first rule that admits the key; the first of these rules has this number

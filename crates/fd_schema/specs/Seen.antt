@@ -22,7 +22,7 @@ abbrev pub seen_items : List code_item.Item → List Item
 seen_items is = map seen_item is
 
 abbrev pub seen_rule : code_rule.Rule → Rule
-seen_rule r = seen_items r.items.items
+seen_rule r = record { version = r.version; items = seen_items r.items.items }
 
 abbrev pub seen_rules : List code_rule.Rule → List Rule
 seen_rules rs = map seen_rule rs

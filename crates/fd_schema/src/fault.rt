@@ -26,6 +26,8 @@ pub enum SchemaKind {
     Level,
     /// The 257th rule or the 33rd name of a rule begins.
     TooMany { count: u32 },
+    /// What stands behind `version` isn't `2`.
+    Version,
     /// The text ends inside a rule.
     End,
     /// There is no rule.
@@ -60,6 +62,7 @@ pub(crate) enum Wrong {
     Depth,
     NoneRequired,
     TooMany(u32),
+    OtherVersion,
     End,
     Empty,
 }
@@ -119,6 +122,7 @@ impl fmt::Display for SchemaKind {
             SchemaKind::Depth => f.write_str("Depth"),
             SchemaKind::Level => f.write_str("Level"),
             SchemaKind::TooMany { count } => write!(f, "TooMany {count}"),
+            SchemaKind::Version => f.write_str("Version"),
             SchemaKind::End => f.write_str("End"),
             SchemaKind::Empty => f.write_str("Empty"),
         }

@@ -8,7 +8,7 @@ ghost use Rattle.fd_schema.specs.Reading.{Gives, Fails, seen_wrong};
 
 use crate::fault::{Refusal, Wrong};
 use crate::items::{behind, level_of};
-use crate::rule::{Item, Level, Rule, Want};
+use crate::rule::{Item, Level, Rule, Version, Want};
 use fd_tokens::{Token, is_token};
 use std::alloc::Global;
 
@@ -93,31 +93,33 @@ fn closed<'s, 't>(
 #[tactic(auto, unfolding(crate::specs::Grammar::rule_of))]
 fn rule_of<'s, 't>(
     alloc: Global,
+    version: Version,
     end: &'s Token<'t>,
     tokens: &'s [Token<'t>],
 ) -> Result<(Rule, &'s [Token<'t>]), Refusal>
-    ensures { Gives (λ r. (seen_rule r.0, views r.1.now)) result (rule_of (view end.now) (views tokens.now)) }
+    ensures { Gives (λ r. (seen_rule r.0, views r.1.now)) result (rule_of version (view end.now) (views tokens.now)) }
 {
-    let dataset = level_of(alloc, Level::Dataset, Vec::new(alloc), end, tokens)?;
+    let dataset = level_of(alloc, version, Level::Dataset, Vec::new(alloc), end, tokens)?;
     let second = opened(end, behind(tokens))?;
-    let index = level_of(alloc, Level::Index, dataset, end, second)?;
+    let index = level_of(alloc, version, Level::Index, dataset, end, second)?;
     let third = opened(end, behind(second))?;
-    let items = level_of(alloc, Level::Datum, index, end, third)?;
+    let items = level_of(alloc, version, Level::Datum, index, end, third)?;
     let after_datum = closed(Wrong::Depth, Level::Datum, &items, end, behind(third))?;
     let after_index = closed(Wrong::Byte, Level::Index, &items, end, after_datum)?;
     let after_dataset = closed(Wrong::Byte, Level::Dataset, &items, end, after_index)?;
-    Ok((Rule { items }, after_dataset))
+    Ok((Rule { version, items }, after_dataset))
 }
 
 /// The rules before, and those that follow.
 pub(crate) fn rules_of<'s, 't>(
     alloc: Global,
+    version: Version,
     before: Vec<Rule>,
     end: &'s Token<'t>,
     tokens: &'s [Token<'t>],
 ) -> Result<Vec<Rule>, Refusal>
     requires { length before.items ≤ 256 }
-    ensures rules { Gives (λ v. seen_rules v.items) result (rules_of (256 - length before.items) (view end.now) (seen_rules before.items) (views tokens.now)) }
+    ensures rules { Gives (λ v. seen_rules v.items) result (rules_of (256 - length before.items) version (view end.now) (seen_rules before.items) (views tokens.now)) }
     ensures few { IfOk result (λ v. length v.items ≤ 256) }
 {
     let mut rules = before;
@@ -130,10 +132,10 @@ pub(crate) fn rules_of<'s, 't>(
     if RULES <= rules.len() {
         return Err(Refusal::At(first.at, Wrong::TooMany(257)));
     }
-    match rule_of(alloc, end, behind) {
+    match rule_of(alloc, version, end, behind) {
         Ok((rule, rest)) => {
             rules.push(rule)?;
-            rules_of(alloc, rules, end, rest)
+            rules_of(alloc, version, rules, end, rest)
         }
         Err(refusal) => Err(refusal),
     }

@@ -1,7 +1,7 @@
 // The items of a level.
 ghost use Rattle.std.specs.Prelude.{◌≡◌, ◌≤◌, ◌<◌, ℕ, List, [], ◌∷◌, IsTrue, length, take, string_bytes, IfOk};
 ghost use Rattle.std.specs.List.{prefix_len};
-ghost use Rattle.fd_key.specs.Names.{is_name, is_name_byte};
+ghost use Rattle.fd_spelling.specs.Names.{is_name, is_name_byte};
 ghost use Rattle.fd_tokens.specs.Tokens.{view, views, parts};
 ghost use Rattle.fd_schema.specs.Rules.{has_name};
 ghost use Rattle.fd_schema.specs.Grammar.{absent, name_of, want_of, item_of, items_of, level_of, is_bracket, bracket_place, behind, front};
@@ -9,7 +9,7 @@ ghost use Rattle.fd_schema.specs.Seen.{seen_items, seen_item, seen_want};
 ghost use Rattle.fd_schema.specs.Reading.{Gives, Fails};
 
 use crate::fault::{Refusal, Wrong};
-use crate::rule::{Item, Level, Want};
+use crate::rule::{Item, Level, Version, Want};
 use crate::values::{absent, ascii_text, values};
 use fd_bytes::NoMemory;
 use fd_key::{is_name, is_name_byte};
@@ -83,8 +83,14 @@ fn name_of(alloc: Global, before: &[Item], token: &Token) -> Result<String, Refu
 
 /// What stands behind a name.
 #[tactic(auto, unfolding(crate::specs::Grammar::want_of))]
-fn want_of(alloc: Global, name: &str, stop: &Token, tokens: &[Token]) -> Result<Want, Refusal>
-    ensures { Gives seen_want result (want_of name.now (view stop.now) (views tokens.now)) }
+fn want_of(
+    alloc: Global,
+    version: Version,
+    name: &str,
+    stop: &Token,
+    tokens: &[Token],
+) -> Result<Want, Refusal>
+    ensures { Gives seen_want result (want_of version name.now (view stop.now) (views tokens.now)) }
 {
     let [first, others @ ..] = tokens else {
         return Ok(Want::Needed);
@@ -98,43 +104,45 @@ fn want_of(alloc: Global, name: &str, stop: &Token, tokens: &[Token]) -> Result<
     if !is_token(b'=', first) {
         return Err(Refusal::At(first.at, Wrong::Byte));
     }
-    Ok(Want::OneOf(values(alloc, name, stop, others)?))
+    Ok(Want::OneOf(values(alloc, version, name, stop, others)?))
 }
 
 /// An item of a level, in a rule that has these items before it.
 #[tactic(auto, unfolding(crate::specs::Grammar::item_of))]
 fn item_of(
     alloc: Global,
+    version: Version,
     level: Level,
     before: &[Item],
     stop: &Token,
     tokens: &[Token],
 ) -> Result<Item, Refusal>
-    ensures { Gives seen_item result (item_of level (seen_items before.now) (view stop.now) (views tokens.now)) }
+    ensures { Gives seen_item result (item_of version level (seen_items before.now) (view stop.now) (views tokens.now)) }
 {
     let [first, others @ ..] = tokens else {
         return Err(absent(stop));
     };
     let name = name_of(alloc, before, first)?;
-    let want = want_of(alloc, name.as_str(), stop, others)?;
+    let want = want_of(alloc, version, name.as_str(), stop, others)?;
     Ok(Item { level, name, want })
 }
 
 /// The items of a rule, and those of a level with commas between them.
 fn items_of<'s, 't>(
     alloc: Global,
+    version: Version,
     level: Level,
     before: Vec<Item>,
     stop: &'s Token<'t>,
     tokens: &'s [Token<'t>],
 ) -> Result<Vec<Item>, Refusal>
-    ensures { Gives (λ v. seen_items v.items) result (items_of level (seen_items before.items) (view stop.now) (views tokens.now)) }
+    ensures { Gives (λ v. seen_items v.items) result (items_of version level (seen_items before.items) (view stop.now) (views tokens.now)) }
 {
     let mut items = before;
     let mut from = 0;
     'parts: loop {
         let (inside, behind, next) = part_from(b',', stop, tokens, from);
-        match item_of(alloc, level, &items, behind, inside) {
+        match item_of(alloc, version, level, &items, behind, inside) {
             Ok(item) => items.push(item)?,
             Err(refusal) => return Err(refusal),
         }
@@ -186,17 +194,18 @@ fn front<'s, 't>(tokens: &'s [Token<'t>], end: &'s Token<'t>) -> &'s Token<'t>
 #[tactic(auto, unfolding(crate::specs::Grammar::level_of))]
 pub(crate) fn level_of<'s, 't>(
     alloc: Global,
+    version: Version,
     level: Level,
     before: Vec<Item>,
     end: &'s Token<'t>,
     tokens: &'s [Token<'t>],
 ) -> Result<Vec<Item>, Refusal>
-    ensures { Gives (λ v. seen_items v.items) result (level_of level (seen_items before.items) (view end.now) (views tokens.now)) }
+    ensures { Gives (λ v. seen_items v.items) result (level_of version level (seen_items before.items) (view end.now) (views tokens.now)) }
 {
     let (inside, behind) = tokens.split_at(bracket_place(tokens));
     let stop = front(behind, end);
     if inside.is_empty() && is_token(b']', stop) {
         return Ok(before);
     }
-    items_of(alloc, level, before, stop, inside)
+    items_of(alloc, version, level, before, stop, inside)
 }

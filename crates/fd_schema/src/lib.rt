@@ -15,4 +15,4 @@ pub use fault::{PlaceFault, SchemaFault, SchemaKind};
 pub use items::{name_end, name_text};
 pub use place::Place;
 pub use schema::Schema;
-pub use values::ascii_text;
+pub use values::{ascii_text, spelled};

@@ -4,13 +4,13 @@ ghost use Rattle.std.specs.List.{list_all, list_any};
 ghost use Rattle.std.specs.Str.{bytes_eq};
 ghost use Rattle.std.specs.Option.{option_copied};
 ghost use Rattle.fd_schema.specs.Rules.{suits, suits_key, has_meaning, is_known, admits, file_key, joined_behind, level_text, place_from};
-ghost use Rattle.fd_schema.specs.Seen.{seen_items, seen_want, seen_rules, texts};
+ghost use Rattle.fd_schema.specs.Seen.{seen_items, seen_want, seen_rule, seen_rules, texts};
 ghost use Rattle.fd_schema.specs.Reading.{GivesPlace, seen_place};
 
 use crate::fault::PlaceFault;
 use crate::grammar::same_level;
 use crate::items::has_name;
-use crate::rule::{Item, Level, Rule, Want};
+use crate::rule::{Item, Level, Rule, Version, Want};
 use arrayvec::ArrayString;
 use fd_bytes::NoMemory;
 use fd_key::Key;
@@ -93,22 +93,26 @@ fn suits_all(rule: &[Item], key: &Key) -> bool
     true
 }
 
-fn has_meaning(name: &str) -> bool
-    ensures { result ≡ has_meaning name.now }
+/// Tells that a name has a meaning in a schema of this version.
+pub(crate) fn has_meaning(version: Version, name: &str) -> bool
+    ensures { result ≡ has_meaning version name.now }
 {
-    !(name == "number" || name == "stat")
+    match version {
+        Version::One => !(name == "number" || name == "stat"),
+        Version::Two => true,
+    }
 }
 
 /// Tells that the rule has a name of the key, and that it has a meaning.
-fn is_known(rule: &[Item], name: &str) -> bool
-    ensures { (text : List ℕ) → result ≡ is_known (seen_items rule.now) (name.now, text) }
+fn is_known(rule: &Rule, name: &str) -> bool
+    ensures { (text : List ℕ) → result ≡ is_known (seen_rule rule.now) (name.now, text) }
 {
-    has_meaning(name) && has_name(rule, name)
+    has_meaning(rule.version, name) && has_name(&rule.items, name)
 }
 
 /// Tells that the rule has each name of the key, and that each has a meaning.
-fn are_known(rule: &[Item], key: &Key) -> bool
-    ensures { result ≡ list_all (is_known (seen_items rule.now)) key.now }
+fn are_known(rule: &Rule, key: &Key) -> bool
+    ensures { result ≡ list_all (is_known (seen_rule rule.now)) key.now }
 {
     for i in 0..key.len() {
         let (name, _) = key.pair(i);
@@ -120,10 +124,10 @@ fn are_known(rule: &[Item], key: &Key) -> bool
 }
 
 /// Tells that the rule admits the key.
-fn admits(rule: &[Item], key: &Key) -> bool
-    ensures { result ≡ admits (seen_items rule.now) key.now }
+fn admits(rule: &Rule, key: &Key) -> bool
+    ensures { result ≡ admits (seen_rule rule.now) key.now }
 {
-    suits_all(rule, key) && are_known(rule, key)
+    suits_all(&rule.items, key) && are_known(rule, key)
 }
 
 /// Appends one pair, behind a comma where a pair stands before.
@@ -161,7 +165,7 @@ pub(crate) fn has_place(rules: &[Rule], key: &Key) -> bool
     ensures { result ≡ is_some (place_from 0 (seen_rules rules.now) key.now) }
 {
     for candidate in rules {
-        if admits(&candidate.items, key) {
+        if admits(candidate, key) {
             return true;
         }
     }
@@ -175,7 +179,7 @@ pub(crate) fn place_of(alloc: Global, rules: &[Rule], key: &Key) -> Result<Place
     ensures { GivesPlace result (place_from 0 (seen_rules rules.now) key.now) }
 {
     for (i, rule) in rules.iter().enumerate() {
-        if admits(&rule.items, key) {
+        if admits(rule, key) {
             return Ok(Place {
                 rule: i as u32,
                 dataset: level_text(alloc, Level::Dataset, &rule.items, key)?,

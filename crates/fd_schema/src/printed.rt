@@ -1,10 +1,10 @@
 // The text of a schema.
 ghost use Rattle.std.specs.Prelude.{◌≡◌, ◌++◌, IfOk, OnOk, true, string_bytes};
-ghost use Rattle.fd_schema.specs.Seen.{texts, seen_want, seen_item, seen_items, seen_rules};
-ghost use Rattle.fd_schema.specs.Printed.{values_text, want_text, item_text, level_items_text, rule_text, schema_text};
+ghost use Rattle.fd_schema.specs.Seen.{texts, seen_want, seen_item, seen_items, seen_rule, seen_rules};
+ghost use Rattle.fd_schema.specs.Printed.{values_text, want_text, item_text, level_items_text, rule_text, rules_text, version_line, schema_text};
 
 use crate::grammar::same_level;
-use crate::rule::{Item, Level, Rule, Want};
+use crate::rule::{Item, Level, Rule, Version, Want};
 use fd_bytes::NoMemory;
 use std::alloc::Global;
 
@@ -67,16 +67,40 @@ fn push_level(out: &mut String, level: Level, rule: &[Item]) -> Result<(), NoMem
 }
 
 /// Appends a rule and a line feed.
-fn push_rule(out: &mut String, rule: &[Item]) -> Result<(), NoMemory>
-    ensures { OnOk result (string_bytes out.new ≡ string_bytes out.old ++ rule_text (seen_items rule.now)) }
+fn push_rule(out: &mut String, rule: &Rule) -> Result<(), NoMemory>
+    ensures { OnOk result (string_bytes out.new ≡ string_bytes out.old ++ rule_text (seen_rule rule.now)) }
 {
     out.push('[')?;
-    push_level(out, Level::Dataset, rule)?;
+    push_level(out, Level::Dataset, &rule.items)?;
     out.push_str(" [")?;
-    push_level(out, Level::Index, rule)?;
+    push_level(out, Level::Index, &rule.items)?;
     out.push_str(" [")?;
-    push_level(out, Level::Datum, rule)?;
+    push_level(out, Level::Datum, &rule.items)?;
     out.push_str("]]]\n")?;
+    Ok(())
+}
+
+/// The line of the version, which is that of the first rule.
+fn version_line(rules: &[Rule]) -> &'static str
+    ensures { result.now ≡ version_line (seen_rules rules.now) }
+{
+    match rules {
+        [] => "",
+        [first, ..] => match first.version {
+            Version::One => "",
+            Version::Two => "version 2\n",
+        },
+    }
+}
+
+/// Appends rules.
+#[tactic(auto, unfolding(crate::specs::Printed::rules_text))]
+fn push_rules(out: &mut String, rules: &[Rule]) -> Result<(), NoMemory>
+    ensures { OnOk result (string_bytes out.new ≡ string_bytes out.old ++ rules_text (seen_rules rules.now)) }
+{
+    for rule in rules {
+        push_rule(out, rule)?;
+    }
     Ok(())
 }
 
@@ -85,9 +109,7 @@ fn push_rule(out: &mut String, rule: &[Item]) -> Result<(), NoMemory>
 pub(crate) fn text_of(alloc: Global, rules: &[Rule]) -> Result<String, NoMemory>
     ensures { IfOk result (λ s. string_bytes s ≡ schema_text (seen_rules rules.now)) }
 {
-    let mut out = String::new(alloc);
-    for rule in rules {
-        push_rule(&mut out, &rule.items)?;
-    }
+    let mut out = String::from_str(alloc, version_line(rules))?;
+    push_rules(&mut out, rules)?;
     Ok(out)
 }

@@ -9,6 +9,15 @@ pub(crate) enum Level {
     Datum,
 }
 
+/// The version of a schema.
+#[derive(Clone, Copy, Debug)]
+pub(crate) enum Version {
+    /// `number` and `stat` have no meaning.
+    One,
+    /// They have.
+    Two,
+}
+
 /// What a rule wants of a name.
 #[derive(Debug, Drop)]
 pub(crate) enum Want {
@@ -28,8 +37,9 @@ pub(crate) struct Item {
     pub(crate) want: Want,
 }
 
-/// A rule: its names from left to right.
+/// A rule: the version of its schema, and its names from left to right.
 #[derive(Debug, Drop)]
 pub(crate) struct Rule {
+    pub(crate) version: Version,
     pub(crate) items: Vec<Item>,
 }

@@ -1,7 +1,8 @@
-ghost use Rattle.std.specs.Prelude.{◌≡◌, ◌≤◌, ◌+◌, ◌==◌, ℕ, List, [], IfOk, Ok, length, take, count_by, slice_index, string_bytes, is_some};
+ghost use Rattle.std.specs.Prelude.{◌≡◌, ◌≤◌, ◌+◌, ◌==◌, ℕ, List, [], IfOk, Ok, length, take, drop, count_by, slice_index, string_bytes, is_some};
 ghost use Rattle.fd_key.specs.Pairs.{key_text};
 ghost use Rattle.fd_schema.specs.Rules.{IsShort, place_from};
-ghost use Rattle.fd_schema.specs.Grammar.{marks, schema_of};
+ghost use Rattle.fd_tokens.specs.Tokens.{view, views};
+ghost use Rattle.fd_schema.specs.Grammar.{marks, written, version_behind, version_of, rules_in, schema_of};
 ghost use Rattle.fd_schema.specs.Seen.{seen_rules};
 ghost use Rattle.fd_schema.specs.Printed.{schema_text};
 ghost use Rattle.fd_schema.specs.Reading.{Gives, GivesSchema, GivesPlace, Names, line_of, seen_place, seen_wrong};
@@ -11,7 +12,7 @@ use crate::grammar::rules_of;
 use crate::place::{Place, has_place, place_of};
 use crate::plain::plain;
 use crate::printed::text_of;
-use crate::rule::Rule;
+use crate::rule::{Rule, Version};
 use fd_bytes::NoMemory;
 use fd_key::Key;
 use fd_tokens::{Token, tokens_of};
@@ -93,16 +94,74 @@ fn kind_of(wrong: Wrong, byte: u8) -> SchemaKind
         Wrong::Depth => SchemaKind::Depth,
         Wrong::NoneRequired => SchemaKind::Level,
         Wrong::TooMany(count) => SchemaKind::TooMany { count },
+        Wrong::OtherVersion => SchemaKind::Version,
         Wrong::End => SchemaKind::End,
         Wrong::Empty => SchemaKind::Empty,
     }
 }
 
-/// The rules of a text that isn't too long, or the first place that is wrong.
-#[tactic(auto, unfolding(crate::specs::Grammar::schema_of))]
+/// What stands from a place on.
+fn from(text: &[u8], at: usize) -> &[u8]
+    ensures { result.now ≡ drop at text.now }
+{
+    if at < text.len() {
+        let (_, behind) = text.split_at(at);
+        behind
+    } else {
+        b""
+    }
+}
+
+/// A token as it is written in the text.
+fn written<'a>(text: &'a [u8], token: &Token) -> &'a [u8]
+    ensures { result.now ≡ written text.now (view token.now) }
+{
+    before(from(text, token.at), token.text.len())
+}
+
+/// The version behind the word `version`, which stands at this place, and the tokens behind it.
+fn version_behind<'s, 't>(
+    at: usize,
+    tokens: &'s [Token<'t>],
+) -> Result<(Version, &'s [Token<'t>]), Refusal>
+    ensures { Gives (λ v. (v.0, views v.1.now)) result (version_behind at (views tokens.now)) }
+{
+    match tokens {
+        [] => Err(Refusal::At(at, Wrong::OtherVersion)),
+        [first, rest @ ..] => {
+            if first.text == b"2".as_slice() {
+                Ok((Version::Two, rest))
+            } else {
+                Err(Refusal::At(first.at, Wrong::OtherVersion))
+            }
+        }
+    }
+}
+
+/// The version of a text with these tokens, and the tokens of its rules.
+#[tactic(auto, unfolding(crate::specs::Grammar::version_of))]
+fn version_of<'s, 't>(
+    text: &[u8],
+    tokens: &'s [Token<'t>],
+) -> Result<(Version, &'s [Token<'t>]), Refusal>
+    ensures { Gives (λ v. (v.0, views v.1.now)) result (version_of text.now (views tokens.now)) }
+{
+    match tokens {
+        [] => Ok((Version::One, tokens)),
+        [first, rest @ ..] => {
+            if written(text, first) == b"version".as_slice() {
+                version_behind(first.at, rest)
+            } else {
+                Ok((Version::One, tokens))
+            }
+        }
+    }
+}
+
+/// The rules of a text that isn't too long, which may be none, or the first place that is wrong.
+#[tactic(auto, unfolding(crate::specs::Grammar::rules_in))]
 fn rules_in(alloc: Global, text: &[u8]) -> Result<Vec<Rule>, Refusal>
-    requires { length text.now ≤ 65536 }
-    ensures rules { Gives (λ v. seen_rules v.items) result (schema_of text.now) }
+    ensures rules { Gives (λ v. seen_rules v.items) result (rules_in text.now) }
     ensures few { IfOk result (λ v. length v.items ≤ 256) }
 {
     let shown = plain(alloc, text)?;
@@ -111,7 +170,20 @@ fn rules_in(alloc: Global, text: &[u8]) -> Result<Vec<Rule>, Refusal>
         at: text.len(),
         text: b"",
     };
-    let rules = rules_of(alloc, Vec::new(alloc), &end, &tokens)?;
+    match version_of(text, &tokens) {
+        Ok((version, others)) => rules_of(alloc, version, Vec::new(alloc), &end, others),
+        Err(refusal) => Err(refusal),
+    }
+}
+
+/// The rules of a text that isn't too long, or the first place that is wrong.
+#[tactic(auto, unfolding(crate::specs::Grammar::schema_of))]
+fn some_rules(alloc: Global, text: &[u8]) -> Result<Vec<Rule>, Refusal>
+    requires { length text.now ≤ 65536 }
+    ensures rules { Gives (λ v. seen_rules v.items) result (schema_of text.now) }
+    ensures few { IfOk result (λ v. length v.items ≤ 256) }
+{
+    let rules = rules_in(alloc, text)?;
     if rules.is_empty() {
         return Err(Refusal::At(text.len(), Wrong::Empty));
     }
@@ -119,9 +191,12 @@ fn rules_in(alloc: Global, text: &[u8]) -> Result<Vec<Rule>, Refusal>
 }
 
 impl Schema {
-    /// Reads a schema: rules `[ items [ items [ items ]]]`, the items of a level joined by commas. An item is a name, or
+    /// Reads a schema: `version 2` or nothing, and rules `[ items [ items [ items ]]]`, the items of a level joined by commas. An item is a name, or
     /// `name?` where a key needn't have it, or `name=v/w` where its value is one of these. `#` begins a comment to the end
     /// of its line. Spaces, tabs and line feeds stand anywhere between names, values and marks.
+    ///
+    /// In version 2 `number` and `stat` have a meaning, in version 1, which is that of a text without `version 2`, no rule admits
+    /// a key with either.
     ///
     /// The answer `At` names the first place that is wrong, by its line.
     pub fn read(alloc: Global, text: &[u8]) -> Result<Schema, SchemaFault>
@@ -133,7 +208,7 @@ impl Schema {
                 kind: SchemaKind::TooLong,
             });
         }
-        match rules_in(alloc, text) {
+        match some_rules(alloc, text) {
             Ok(rules) => Ok(Schema { rules }),
             Err(Refusal::At(at, wrong)) => Err(SchemaFault::At {
                 line: line_of(text, at),
@@ -160,7 +235,7 @@ impl Schema {
         has_place(&self.rules, key)
     }
 
-    /// The text of the schema: each rule on a line, as `[a, b [c=v/w [d, e?]]]`. A text that isn't too long for a schema
+    /// The text of the schema: the line `version 2`, if that is its version, and each rule on a line, as `[a, b [c=v/w [d, e?]]]`. A text that isn't too long for a schema
     /// reads as the same schema.
     pub fn text(&self, alloc: Global) -> Result<String, NoMemory>
         ensures text { IfOk result (λ s. string_bytes s ≡ schema_text self.now) }

@@ -1,13 +1,17 @@
 // The values of a restriction.
-ghost use Rattle.std.specs.Prelude.{◌≡◌, ℕ, List, [], ◌∷◌, Some, None, option_map, string_bytes, nat_lt, if◌then◌else◌};
+ghost use Rattle.std.specs.Prelude.{◌≡◌, ℕ, List, [], ◌∷◌, Some, None, IfOk, IfSome, IsTrue, option_map, string_bytes, nat_lt, if◌then◌else◌};
+ghost use Rattle.fd_spelling.specs.Names.{is_value};
 ghost use Rattle.std.specs.List.{list_all};
 ghost use Rattle.fd_tokens.specs.Tokens.{view, views, parts};
-ghost use Rattle.fd_schema.specs.Grammar.{is_ascii, absent, begins_value, value_of, values_of};
+ghost use Rattle.fd_schema.specs.Grammar.{is_ascii, absent, begins_value, spelled, spelled_in, plain_value, value_of, values_of};
 ghost use Rattle.fd_schema.specs.Seen.{texts};
 ghost use Rattle.fd_schema.specs.Reading.{Gives, Fails};
 
 use crate::fault::{Refusal, Wrong};
-use fd_key::{ValueFault, canonical, is_value_byte};
+use crate::place::has_meaning;
+use crate::rule::Version;
+use fd_bytes::NoMemory;
+use fd_key::{ValueFault, canonical, is_value, is_value_byte};
 use fd_tokens::{Token, part_from};
 use std::alloc::Global;
 
@@ -50,10 +54,68 @@ pub fn ascii_text(bytes: &[u8]) -> Option<&str>
     }
 }
 
-/// One token, which is a value of the name, in its one spelling.
+/// The one spelling of a text as a value of the name, if it is one.
+pub fn spelled(alloc: Global, name: &str, text: &[u8]) -> Result<Option<String>, NoMemory>
+    ensures text { IfOk result (λ o. option_map string_bytes o ≡ spelled name.now text.now) }
+    ensures value { IfOk result (λ o. IfSome o (λ s. IsTrue (is_value (string_bytes s)))) }
+{
+    let Some(text) = ascii_text(text) else {
+        return Ok(None);
+    };
+    match canonical(alloc, name, text) {
+        Ok(value) => Ok(Some(value)),
+        Err(ValueFault::BadValue) => Ok(None),
+        Err(ValueFault::NoMemory) => Err(NoMemory),
+    }
+}
+
+/// A value as it stands, if it is one.
+fn plain_value(alloc: Global, text: &[u8]) -> Result<Option<String>, NoMemory>
+    ensures { IfOk result (λ o. option_map string_bytes o ≡ plain_value text.now) }
+{
+    if !is_value(text) {
+        return Ok(None);
+    }
+    Ok(Some(String::from_str(alloc, value_text(text))?))
+}
+
+/// A value as a text.
+fn value_text(value: &[u8]) -> &str
+    requires { IsTrue (is_value value.now) }
+    ensures { result.now ≡ value.now }
+{
+    match ascii_text(value) {
+        Some(text) => text,
+        None => "",
+    }
+}
+
+/// A value in a schema of this version.
+fn spelled_in(
+    alloc: Global,
+    version: Version,
+    name: &str,
+    text: &[u8],
+) -> Result<Option<String>, NoMemory>
+    ensures { IfOk result (λ o. option_map string_bytes o ≡ spelled_in version name.now text.now) }
+{
+    if has_meaning(version, name) {
+        spelled(alloc, name, text)
+    } else {
+        plain_value(alloc, text)
+    }
+}
+
+/// One token, which is a value of the name.
 #[tactic(auto, unfolding(crate::specs::Grammar::value_of))]
-fn value(alloc: Global, name: &str, stop: &Token, tokens: &[Token]) -> Result<String, Refusal>
-    ensures { Gives string_bytes result (value_of name.now (view stop.now) (views tokens.now)) }
+fn value(
+    alloc: Global,
+    version: Version,
+    name: &str,
+    stop: &Token,
+    tokens: &[Token],
+) -> Result<String, Refusal>
+    ensures { Gives string_bytes result (value_of version name.now (view stop.now) (views tokens.now)) }
 {
     let [first, others @ ..] = tokens else {
         return Err(absent(stop));
@@ -61,33 +123,30 @@ fn value(alloc: Global, name: &str, stop: &Token, tokens: &[Token]) -> Result<St
     if !begins_value(first.text) {
         return Err(Refusal::At(first.at, Wrong::Byte));
     }
-    let Some(text) = ascii_text(first.text) else {
+    let Some(value) = spelled_in(alloc, version, name, first.text)? else {
         return Err(Refusal::At(first.at, Wrong::Value));
     };
-    match canonical(alloc, name, text) {
-        Ok(value) => match others {
-            [] => Ok(value),
-            [next, ..] => Err(Refusal::At(next.at, Wrong::Byte)),
-        },
-        Err(ValueFault::BadValue) => Err(Refusal::At(first.at, Wrong::Value)),
-        Err(ValueFault::NoMemory) => Err(Refusal::NoMemory),
+    match others {
+        [] => Ok(value),
+        [next, ..] => Err(Refusal::At(next.at, Wrong::Byte)),
     }
 }
 
 /// Values with slashes between them.
 pub(crate) fn values<'s, 't>(
     alloc: Global,
+    version: Version,
     name: &str,
     stop: &'s Token<'t>,
     tokens: &'s [Token<'t>],
 ) -> Result<Vec<String>, Refusal>
-    ensures { Gives (λ v. texts v.items) result (values_of name.now (view stop.now) (views tokens.now)) }
+    ensures { Gives (λ v. texts v.items) result (values_of version name.now (view stop.now) (views tokens.now)) }
 {
     let mut values = Vec::new(alloc);
     let mut from = 0;
     'parts: loop {
         let (inside, behind, next) = part_from(b'/', stop, tokens, from);
-        match value(alloc, name, behind, inside) {
+        match value(alloc, version, name, behind, inside) {
             Ok(value) => values.push(value)?,
             Err(refusal) => return Err(refusal),
         }

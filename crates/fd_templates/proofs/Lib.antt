@@ -1,3 +1,7 @@
 pub mod Reading
 pub mod Again
 pub mod SectionsAgain
+pub mod Based
+pub mod RangesAgain
+pub mod Growing
+pub mod AnyAgain

@@ -1,5 +1,5 @@
 -- Numbers by their single octets.
-use Rattle.std.proofs.Common.{◌≡◌, ℕ, suc, ◌+◌, ◌-◌, ◌*◌, ◌≤◌, List, ap, ◌∙◌, arith}
+use Rattle.std.proofs.Common.{◌≡◌, ℕ, zero, suc, ◌+◌, ◌-◌, ◌*◌, ◌≤◌, ◌<◌, List, [], ◌∷◌, length, refl, ap, ◌∙◌, arith}
 use Rattle.std.specs.Prelude.{slice_index, Some, None, if◌then◌else◌}
 use Rattle.byteorder.specs.Endian.{big_from}
 use Rattle.fd_bytes.specs.Numbers.{octets, signed, is_missing}
@@ -8,6 +8,15 @@ use Rattle.fd_templates.specs.Octets.{number, signed_number, number_or_missing, 
 pub one_octet : (o : ℕ) (s : List ℕ) → number o o s ≡ slice_index s (o - 1)
 unfolding number
 one_octet o s = ap (λ n. big_from (o - 1) n s) (let e : o + 1 - o ≡ 1 = omega arith in e) ∙ omega arith
+
+past : (s : List ℕ) (i : ℕ) → length s ≤ i → slice_index s i ≡ 0
+past [] i le = refl
+past (x ∷ s) zero le = absurd (omega arith)
+past (x ∷ s) (suc i) le = past s i (omega arith)
+
+-- an octet that isn't there reads as 0
+pub number_past : (o : ℕ) (s : List ℕ) → length s < o → number o o s ≡ 0
+number_past o s lt = one_octet o s ∙ past s (o - 1) (omega arith)
 
 pub two_octets : (o : ℕ) (s : List ℕ) → 1 ≤ o → number o (o + 1) s ≡ slice_index s (o - 1) * 256 + slice_index s o
 unfolding number

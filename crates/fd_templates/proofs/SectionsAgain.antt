@@ -16,18 +16,19 @@ use Rattle.fd_templates.specs.Product as product
 use Rattle.fd_templates.specs.Product.{product_is, product_octets, process_octets, surface_octets}
 use Rattle.fd_templates.specs.Simple as simple
 use Rattle.fd_templates.specs.Simple.{simple_is, simple_octets, packing_octets}
+use Rattle.fd_templates.specs.Widths.{ProductRanges}
 use Rattle.fd_templates.proofs.Again.{one_again, two_again, four_again, signed_again, signed_fits, missing_fits, missing_again, number_missing_fits, number_missing_again}
 
 fits_two : (z : ℤ) → FitsSigned 2 z → sign_and_magnitude 16 z < 2 ^ 16
 fits_two z f = signed_fits 2 z refl f
 
-fits_four : (z : ℤ) → FitsSigned 4 z → sign_and_magnitude 32 z < 2 ^ 32
+pub fits_four : (z : ℤ) → FitsSigned 4 z → sign_and_magnitude 32 z < 2 ^ 32
 fits_four z f = signed_fits 4 z refl f
 
-missing_one_fits : (o : Option ℤ) → IfSome o (FitsOrMissing 1) → signed_raw_or_ones 1 o < 2 ^ 8
+pub missing_one_fits : (o : Option ℤ) → IfSome o (FitsOrMissing 1) → signed_raw_or_ones 1 o < 2 ^ 8
 missing_one_fits o f = missing_fits 1 o refl (omega arith) f
 
-missing_four_fits : (o : Option ℤ) → IfSome o (FitsOrMissing 4) → signed_raw_or_ones 4 o < 2 ^ 32
+pub missing_four_fits : (o : Option ℤ) → IfSome o (FitsOrMissing 4) → signed_raw_or_ones 4 o < 2 ^ 32
 missing_four_fits o f = missing_fits 4 o refl (omega arith) f
 
 number_four_fits : (o : Option ℕ) → IfSome o (λ x. x < 2 ^ 32 - 1) → raw_or_ones 4 o < 2 ^ 32
@@ -116,20 +117,6 @@ latlon_again g f r =
       four_again g.dj r.dj,
       one_again g.scanning_mode r.scanning_mode,
     ) refl
-
--- the range of each number
-pub record ProductRanges (p : Product) : Type 0 where
-  pub coordinates : p.coordinates < 2 ^ 16
-  pub category : p.category < 2 ^ 8
-  pub parameter : p.parameter < 2 ^ 8
-  pub generating_process_type : p.generating_process_type < 2 ^ 8
-  pub background_process : p.background_process < 2 ^ 8
-  pub process_identifier : p.process_identifier < 2 ^ 8
-  pub cutoff_hours : p.cutoff_hours < 2 ^ 16
-  pub cutoff_minutes : p.cutoff_minutes < 2 ^ 8
-  pub time_unit : p.time_unit < 2 ^ 8
-  pub first_surface_type : p.first_surface_type < 2 ^ 8
-  pub second_surface_type : p.second_surface_type < 2 ^ 8
 
 pub product_again : (p : Product) → product.Fits p → ProductRanges p → product_is (product_octets p) ≡ Ok p
 unfolding number signed_number signed_or_missing octets_of signed_octets signed_or_ones product_is product_octets product.header_octets process_octets product.time_octets surface_octets

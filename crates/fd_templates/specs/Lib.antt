@@ -3,3 +3,7 @@ pub mod Identification
 pub mod Grid
 pub mod Product
 pub mod Simple
+pub mod Ensemble
+pub mod Interval
+pub mod AnyProduct
+pub mod Widths

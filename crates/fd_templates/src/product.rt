@@ -89,7 +89,7 @@ fn read_section(section: &[u8]) -> Result<Product, TemplateFault>
     Ok(numbers(section))
 }
 
-fn numbers(section: &[u8]) -> Product
+pub(crate) fn numbers(section: &[u8]) -> Product
     requires { 34 ≤ length section.now }
     ensures numbers { result ≡ product_of section.now }
     ensures fits { Fits result }
@@ -123,7 +123,7 @@ fn header(product: Product) -> [u8; 9]
 }
 
 /// The quantity, and what made it.
-fn process(product: Product) -> [u8; 5]
+pub(crate) fn process(product: Product) -> [u8; 5]
     ensures { result ≡ process_octets product }
 {
     [
@@ -136,7 +136,7 @@ fn process(product: Product) -> [u8; 5]
 }
 
 /// The cutoff and the forecast time.
-fn time(product: Product) -> [u8; 8]
+pub(crate) fn time(product: Product) -> [u8; 8]
     requires { Fits product }
     ensures { result ≡ time_octets product }
 {
@@ -155,7 +155,7 @@ fn time(product: Product) -> [u8; 8]
 }
 
 /// Both surfaces.
-fn surfaces(product: Product) -> [u8; 12]
+pub(crate) fn surfaces(product: Product) -> [u8; 12]
     requires { Fits product }
     ensures { result ≡ surface_octets product }
 {

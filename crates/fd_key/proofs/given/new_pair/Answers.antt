@@ -1,4 +1,4 @@
-use Rattle.fd_key.proofs.NameLaws.{name_is_ascii, value_is_ascii}
+use Rattle.fd_spelling.proofs.AsciiLaws.{name_is_ascii, value_is_ascii}
 use Rattle.fd_key.proofs.given.new_pair.Goals as goal
 
 pub text_from-requires : goal.text_from-requires

@@ -1,5 +1,5 @@
 use Rattle.std.proofs.Common.{◌++◌, string_bytes, add-one, arith}
-use Rattle.fd_listing.specs.Describe.{numbers_text}
+use Rattle.fd_listing.specs.Numbers.{numbers_text}
 use Rattle.fd_listing.proofs.NumberLaws.{next_number, all_numbers}
 use Rattle.fd_listing.proofs.numbers.push_numbers.Goals as goal
 

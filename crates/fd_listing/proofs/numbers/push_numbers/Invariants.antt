@@ -1,5 +1,5 @@
 use Rattle.std.proofs.Common.{◌≡◌, ◌++◌, drop, string_bytes}
-use Rattle.fd_listing.specs.Describe.{numbers_text}
+use Rattle.fd_listing.specs.Numbers.{numbers_text}
 use Rattle.fd_listing.proofs.numbers.push_numbers.Given as goal
 
 abbrev pub invariant-loop-number : goal.invariant-loop-number

@@ -1,5 +1,5 @@
 use Rattle.std.proofs.Common.{ap, ◌∙◌}
-use Rattle.fd_key.specs.Names.{is_value}
+use Rattle.fd_spelling.specs.Names.{is_value}
 use Rattle.fd_request.proofs.Ends.{signed_value}
 use Rattle.fd_request.proofs.end.number_text.Goals as goal
 

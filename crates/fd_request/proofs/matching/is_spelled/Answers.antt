@@ -3,7 +3,7 @@ use Rattle.std.proofs.lemmas.Int.{ints}
 use Rattle.std.specs.Str.{bytes_eq}
 use Rattle.std.specs.Fmt.{signed_decimal}
 use Rattle.jiff_core.specs.Date.{epoch_day}
-use Rattle.fd_key.specs.Civil.{date_text, time_text}
+use Rattle.fd_spelling.specs.Civil.{date_text, time_text}
 use Rattle.fd_request.specs.declared.end.End as code_end
 use Rattle.fd_request.specs.Ranges.{text_behind}
 use Rattle.fd_request.specs.Seen.{seen_end}

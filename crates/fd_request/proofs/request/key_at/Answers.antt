@@ -1,6 +1,6 @@
 use Rattle.std.proofs.Common.{◌≡◌, ◌+◌, ◌/◌, ◌∷◌, [], ◌++◌, List, ℕ, length, Some, ap, sym, ◌∙◌, arith, length-append}
 use Rattle.std.specs.Prelude.{string_bytes}
-use Rattle.fd_key.specs.Names.{is_value}
+use Rattle.fd_spelling.specs.Names.{is_value}
 use Rattle.fd_key.specs.Pairs.{Pair, text_of, with_pair}
 use Rattle.fd_request.specs.Expansion.{expand}
 use Rattle.fd_request.specs.Keywords.{seen_keyword, seen_keywords}

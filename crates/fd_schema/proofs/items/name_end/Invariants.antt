@@ -1,6 +1,6 @@
 use Rattle.std.proofs.Common.{◌≡◌, ◌+◌, drop}
 use Rattle.std.specs.List.{prefix_len}
-use Rattle.fd_key.specs.Names.{is_name_byte}
+use Rattle.fd_spelling.specs.Names.{is_name_byte}
 use Rattle.fd_schema.proofs.items.name_end.Given as goal
 
 abbrev pub invariant-loop-i : goal.invariant-loop-i

@@ -5,7 +5,7 @@ use Rattle.fd_schema.specs.Seen.{texts}
 use Rattle.fd_schema.proofs.values.values.Given as goal
 
 abbrev pub invariant-parts : goal.invariant-parts
-invariant-parts l = (l.from ≤ length l.tokens) × (each_of (value_in l.name) (texts l.values.items) (parts 47 (view l.stop) (views (drop l.from l.tokens))) ≡ values_of l.name (view l.stop) (views l.tokens))
+invariant-parts l = (l.from ≤ length l.tokens) × (each_of (value_in l.version l.name) (texts l.values.items) (parts 47 (view l.stop) (views (drop l.from l.tokens))) ≡ values_of l.version l.name (view l.stop) (views l.tokens))
 
 abbrev pub decreases-parts : goal.decreases-parts
 decreases-parts l = (length l.tokens + 1) - l.from

@@ -1,4 +1,4 @@
-use Rattle.std.proofs.Common.{◌≡◌, refl, ℕ, ◌%◌, arith}
+use Rattle.std.proofs.Common.{◌≡◌, refl, ◌%◌, arith}
 use Rattle.fd_templates.specs.Octets.{octets_of}
 use Rattle.fd_templates.specs.Identification.{identification_octets, origin_octets, time_octets}
 use Rattle.fd_templates.proofs.identification.section.Goals as goal

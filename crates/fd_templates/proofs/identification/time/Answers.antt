@@ -1,4 +1,4 @@
-use Rattle.std.proofs.Common.{◌≡◌, refl, ℕ, ◌%◌, arith}
+use Rattle.std.proofs.Common.{◌≡◌, refl, ◌%◌, arith}
 use Rattle.fd_templates.specs.Octets.{octets_of}
 use Rattle.fd_templates.specs.Identification.{time_octets}
 use Rattle.fd_templates.proofs.identification.time.Goals as goal

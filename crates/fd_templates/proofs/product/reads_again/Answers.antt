@@ -1,5 +1,6 @@
 use Rattle.std.proofs.Common.{arith}
-use Rattle.fd_templates.proofs.SectionsAgain.{product_again, product_section, ProductRanges}
+use Rattle.fd_templates.specs.Widths.{ProductRanges}
+use Rattle.fd_templates.proofs.SectionsAgain.{product_again, product_section}
 use Rattle.fd_templates.proofs.product.reads_again.Goals as goal
 
 pub returns-clause-section : goal.returns-clause-section

@@ -1,4 +1,4 @@
-use Rattle.std.proofs.Common.{◌≡◌, refl, ℕ, ◌%◌, arith}
+use Rattle.std.proofs.Common.{◌≡◌, refl, ◌%◌, arith}
 use Rattle.fd_templates.specs.Octets.{octets_of, signed_octets}
 use Rattle.fd_templates.specs.Simple.{packing_octets}
 use Rattle.fd_templates.proofs.simple.packing.Goals as goal

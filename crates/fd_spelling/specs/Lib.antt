@@ -1,0 +1,9 @@
+pub mod Names
+pub mod Numerals
+pub mod Steps
+pub mod Civil
+pub mod Levels
+pub mod Pieces
+pub mod Stats
+pub mod Canonical
+pub mod FaultTexts

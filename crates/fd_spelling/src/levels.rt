@@ -1,0 +1,271 @@
+// Levels: the types and values of the two fixed surfaces of a field.
+ghost use Rattle.std.specs.Prelude.{◌≡◌, ◌≤◌, ◌<◌, ◌+◌, ◌++◌, ◌^◌, ◌==◌, ◌∷◌, [], ◌&&◌, not, if◌then◌else◌, true, IfOk, OnOk, IsTrue, Some, None, length, replicate, string_bytes};
+ghost use Rattle.std.specs.List.{list_all};
+ghost use Rattle.std.specs.Char.{is_ascii_digit};
+ghost use Rattle.fd_spelling.specs.Names.{is_ascii, is_value};
+ghost use Rattle.fd_spelling.specs.Levels.{IsDecimal};
+ghost use Rattle.fd_spelling.specs.Levels.{levtype_text, types_in, levtype_spelling, without_first_zeros, without_last_zeros, or_zero, with_point, is_zero, level_text, unsigned_level, level_spelling, levels_text, levelist_spelling, scaled_text};
+ghost use Rattle.std.specs.Prelude.{take, drop, unsigned_abs, option_map, IfSome};
+ghost use Rattle.std.specs.Fmt.{decimal};
+ghost use Rattle.fd_spelling.specs.Canonical.{GivesText};
+
+use crate::fault::ValueFault;
+use crate::names::push_bytes;
+use crate::numerals::{cut, is_numeral, number_up_to};
+use fd_bytes::NoMemory;
+use std::alloc::Global;
+
+/// The type of the first surface, and that of the second unless it is missing.
+#[tactic(auto, unfolding(crate::specs::Levels::levtype_text))]
+pub fn levtype_text(alloc: Global, first: u8, second: u8) -> Result<String, NoMemory>
+    ensures text { IfOk result (λ s. string_bytes s ≡ levtype_text first second) }
+    ensures short { IfOk result (λ s. length (string_bytes s) ≤ 32) }
+    ensures value { IfOk result (λ s. IsTrue (is_value (string_bytes s))) }
+{
+    if second == 255 {
+        Ok(format!(in alloc; "{first}")?)
+    } else {
+        Ok(format!(in alloc; "{first}-{second}")?)
+    }
+}
+
+/// The types that two texts write, in their one spelling.
+#[tactic(auto, unfolding(crate::specs::Levels::types_in))]
+fn types_in(alloc: Global, first: &[u8], second: &[u8]) -> Result<String, ValueFault>
+    ensures text { GivesText result (types_in first.now second.now) }
+    ensures value { IfOk result (λ s. IsTrue (is_value (string_bytes s))) }
+{
+    let Some(first) = number_up_to(first, 255) else {
+        return Err(ValueFault::BadValue);
+    };
+    let Some(second) = number_up_to(second, 255) else {
+        return Err(ValueFault::BadValue);
+    };
+    Ok(levtype_text(alloc, first as u8, second as u8)?)
+}
+
+/// `t` or `t-u` in its one spelling.
+#[tactic(auto, unfolding(crate::specs::Levels::levtype_spelling))]
+pub(crate) fn levtype_spelling(alloc: Global, text: &[u8]) -> Result<String, ValueFault>
+    ensures text { GivesText result (levtype_spelling text.now) }
+    ensures value { IfOk result (λ s. IsTrue (is_value (string_bytes s))) }
+{
+    match cut(text, b'-') {
+        Some((first, second)) => types_in(alloc, first, second),
+        None => types_in(alloc, text, b"255"),
+    }
+}
+
+/// The digits without the zeros before them.
+fn without_first_zeros(digits: &[u8]) -> &[u8]
+    ensures { result.now ≡ without_first_zeros digits.now }
+{
+    for (i, b) in digits.iter().enumerate() {
+        if *b != b'0' {
+            let (_, others) = digits.split_at(i);
+            return others;
+        }
+    }
+    b""
+}
+
+/// The digits without the zeros behind them.
+fn without_last_zeros(digits: &[u8]) -> &[u8]
+    ensures { result.now ≡ without_last_zeros digits.now }
+{
+    let mut end = 0;
+    for (i, b) in digits.iter().enumerate() {
+        if *b != b'0' {
+            end = i + 1;
+        }
+    }
+    let (front, _) = digits.split_at(end);
+    front
+}
+
+/// Tells that all bytes are `0`.
+fn is_zero(digits: &[u8]) -> bool
+    ensures { result ≡ is_zero digits.now }
+{
+    digits.iter().all(|b| *b == b'0')
+}
+
+/// Appends the digits before a point, at least one.
+fn push_whole(out: &mut String, digits: &[u8]) -> Result<(), NoMemory>
+    requires { list_all is_ascii digits.now ≡ true }
+    ensures { OnOk result (string_bytes out.new ≡ string_bytes out.old ++ or_zero digits.now) }
+{
+    match digits {
+        [] => push_bytes(out, b"0"),
+        _ => push_bytes(out, digits),
+    }
+}
+
+/// Appends a point and the digits behind it, if there are any.
+fn push_fraction(out: &mut String, digits: &[u8]) -> Result<(), NoMemory>
+    requires { list_all is_ascii digits.now ≡ true }
+    ensures { OnOk result (string_bytes out.new ≡ string_bytes out.old ++ with_point digits.now) }
+{
+    if digits.is_empty() {
+        return Ok(());
+    }
+    out.push('.')?;
+    push_bytes(out, digits)
+}
+
+/// `-` before a decimal that is negative and isn't 0.
+fn sign_of(negative: bool, whole: &[u8], fraction: &[u8]) -> &'static str
+    ensures { result.now ≡ (if negative && not (is_zero whole.now && is_zero fraction.now) then 45 ∷ [] else []) }
+{
+    if negative && !(is_zero(whole) && is_zero(fraction)) {
+        "-"
+    } else {
+        ""
+    }
+}
+
+/// The decimal with these digits before its point and these behind it, in its one spelling.
+#[tactic(auto, unfolding(crate::specs::Levels::level_text))]
+fn level_text(
+    alloc: Global,
+    negative: bool,
+    whole: &[u8],
+    fraction: &[u8],
+) -> Result<String, NoMemory>
+    requires whole { list_all is_ascii_digit whole.now ≡ true }
+    requires fraction { list_all is_ascii_digit fraction.now ≡ true }
+    ensures { IfOk result (λ s. string_bytes s ≡ level_text negative whole.now fraction.now) }
+{
+    let mut out = String::from_str(alloc, sign_of(negative, whole, fraction))?;
+    push_whole(&mut out, without_first_zeros(whole))?;
+    push_fraction(&mut out, without_last_zeros(fraction))?;
+    Ok(out)
+}
+
+/// Digits, and a point with digits or none, in their one spelling.
+#[tactic(auto, unfolding(crate::specs::Levels::unsigned_level))]
+fn unsigned_level(alloc: Global, negative: bool, text: &[u8]) -> Result<String, ValueFault>
+    ensures text { GivesText result (unsigned_level negative text.now) }
+    ensures decimal { IfOk result (λ s. IsDecimal (length text.now + (if negative then 1 else 0)) (string_bytes s)) }
+{
+    match cut(text, b'.') {
+        Some((whole, fraction)) => {
+            if !is_numeral(whole) || !is_numeral(fraction) {
+                return Err(ValueFault::BadValue);
+            }
+            Ok(level_text(alloc, negative, whole, fraction)?)
+        }
+        None => {
+            if !is_numeral(text) {
+                return Err(ValueFault::BadValue);
+            }
+            Ok(level_text(alloc, negative, text, b"")?)
+        }
+    }
+}
+
+/// A decimal in its one spelling.
+#[tactic(auto, unfolding(crate::specs::Levels::level_spelling))]
+fn level_spelling(alloc: Global, text: &[u8]) -> Result<String, ValueFault>
+    ensures text { GivesText result (level_spelling text.now) }
+    ensures decimal { IfOk result (λ s. IsDecimal (length text.now) (string_bytes s)) }
+{
+    match text {
+        [] => Err(ValueFault::BadValue),
+        [b'-', others @ ..] => unsigned_level(alloc, true, others),
+        _ => unsigned_level(alloc, false, text),
+    }
+}
+
+/// `v`, `v_w` or `_w` in its one spelling.
+#[tactic(auto, unfolding(crate::specs::Levels::levelist_spelling))]
+pub(crate) fn levelist_spelling(alloc: Global, text: &[u8]) -> Result<String, ValueFault>
+    requires { length text.now ≤ 255 }
+    ensures text { GivesText result (levelist_spelling text.now) }
+    ensures value { IfOk result (λ s. IsTrue (is_value (string_bytes s))) }
+{
+    match cut(text, b'_') {
+        None => level_spelling(alloc, text),
+        Some(([], second)) => {
+            let second = level_spelling(alloc, second)?;
+            Ok(second_alone(alloc, second.as_str())?)
+        }
+        Some((first, second)) => {
+            let first = level_spelling(alloc, first)?;
+            let second = level_spelling(alloc, second)?;
+            Ok(both_levels(alloc, first.as_str(), second.as_str())?)
+        }
+    }
+}
+
+/// The value of the second surface alone, `_w`.
+pub fn second_alone(alloc: Global, second: &str) -> Result<String, NoMemory>
+    ensures text { IfOk result (λ s. Some (string_bytes s) ≡ levels_text None (Some second.now)) }
+    ensures short { IfOk result (λ s. length (string_bytes s) ≡ length second.now + 1) }
+{
+    Ok(format!(in alloc; "_{second}")?)
+}
+
+/// The values of both surfaces, `v_w`.
+pub fn both_levels(alloc: Global, first: &str, second: &str) -> Result<String, NoMemory>
+    ensures text { IfOk result (λ s. Some (string_bytes s) ≡ levels_text (Some first.now) (Some second.now)) }
+    ensures short { IfOk result (λ s. length (string_bytes s) ≡ length first.now + length second.now + 1) }
+{
+    Ok(format!(in alloc; "{first}_{second}")?)
+}
+
+/// So many zeros.
+fn zeros(alloc: Global, count: u64) -> Result<String, NoMemory>
+    ensures zeros { IfOk result (λ s. string_bytes s ≡ replicate count 48) }
+    ensures digits { IfOk result (λ s. list_all is_ascii_digit (string_bytes s) ≡ true) }
+{
+    let mut out = String::new(alloc);
+    for _i in 0..count {
+        out.push('0')?;
+    }
+    Ok(out)
+}
+
+/// The number of these digits with zeros behind them.
+fn enlarged(alloc: Global, negative: bool, digits: &str, zeros: &str) -> Result<String, NoMemory>
+    requires digits { list_all is_ascii_digit digits.now ≡ true }
+    requires zeros { list_all is_ascii_digit zeros.now ≡ true }
+    ensures { IfOk result (λ s. string_bytes s ≡ level_text negative (digits.now ++ zeros.now) []) }
+{
+    let whole = format!(in alloc; "{digits}{zeros}")?;
+    level_text(alloc, negative, whole.as_bytes(), b"")
+}
+
+/// The number of these digits with zeros before them, and the point behind as many digits as it had.
+fn reduced(alloc: Global, negative: bool, digits: &str, zeros: &str) -> Result<String, NoMemory>
+    requires digits { list_all is_ascii_digit digits.now ≡ true }
+    requires zeros { list_all is_ascii_digit zeros.now ≡ true }
+    ensures { IfOk result (λ s. string_bytes s ≡ level_text negative (take (length digits.now) (zeros.now ++ digits.now)) (drop (length digits.now) (zeros.now ++ digits.now))) }
+{
+    let all = format!(in alloc; "{zeros}{digits}")?;
+    let (whole, fraction) = all.as_bytes().split_at(digits.len());
+    level_text(alloc, negative, whole, fraction)
+}
+
+/// The digits of a number.
+fn digits_of(alloc: Global, number: u64) -> Result<String, NoMemory>
+    ensures text { IfOk result (λ s. string_bytes s ≡ decimal number) }
+    ensures digits { IfOk result (λ s. list_all is_ascii_digit (string_bytes s) ≡ true) }
+{
+    Ok(format!(in alloc; "{number}")?)
+}
+
+/// The text of value × 10 ^ -factor.
+#[tactic(auto, unfolding(crate::specs::Levels::scaled_text))]
+pub fn scaled_text(alloc: Global, factor: &i64, value: &i64) -> Result<String, NoMemory>
+    requires { unsigned_abs factor.now < 256 }
+    ensures { IfOk result (λ s. string_bytes s ≡ scaled_text factor.now value.now) }
+{
+    let digits = digits_of(alloc, value.unsigned_abs())?;
+    let zeros = zeros(alloc, factor.unsigned_abs())?;
+    if factor.is_negative() {
+        enlarged(alloc, value.is_negative(), digits.as_str(), zeros.as_str())
+    } else {
+        reduced(alloc, value.is_negative(), digits.as_str(), zeros.as_str())
+    }
+}
