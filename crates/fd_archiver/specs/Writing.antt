@@ -4,8 +4,8 @@ use Rattle.fd_disk.specs.declared.folders.FileName.{FileName}
 use Rattle.fd_disk.specs.declared.folders.FileKind.TheVariants.{Fields, Index}
 use Rattle.fd_disk.specs.Names.{name_of}
 use Rattle.fd_entries.specs.declared.batch.Pair.{Pair}
-use Rattle.fd_entries.specs.Batches.{distinct, total}
-use Rattle.fd_segment.specs.Filling.{Filling, Puts}
+use Rattle.fd_entries.specs.Batches.{distinct}
+use Rattle.fd_segment.specs.Filling.{Filling, Puts, stored}
 use Rattle.fd_segment.specs.Held.{Alike, Standing, batch_of}
 
 -- What contracts see of an archiver: its writer and the dataset's text, whether its shelf tells what it keeps, the
@@ -29,7 +29,7 @@ pub record Writing (H : Type 0) : Type 0 where
 pub record IsSealedFrom (told : Bool) (b : List Pair) (s : Standing) : Type 0 where
   pub some : b ≢ []
   pub fields : s.files.entry.fields ≡ distinct b
-  pub fields_len : s.files.entry.fields_len ≡ total b
+  pub fields_len : s.files.entry.fields_len ≡ stored b
   pub batch : told ≡ true → IsSome (batch_of s.files)
   pub alike : (c : List Pair) → batch_of s.files ≡ Some c → Alike b c
 

@@ -127,7 +127,7 @@ impl<F: Send, H: Shelf<F>> Archiver<F, H> {
     }
 
     /// Puts a field of this dataset into the batch, under the key of its place, which has at most 256 bytes. The bytes
-    /// are at most 128 MiB, and all of a batch together are fewer than 2^63. It takes no memory. After a refusal the batch
+    /// are at most 128 MiB, and all of a batch together, with 32 for the digest of each, are fewer than 2^63. It takes no memory. After a refusal the batch
     /// is as before.
     ///
     /// `Unlisted` comes exactly while a sealed batch waits to be listed, `Full` exactly where the batch has no room for
@@ -136,10 +136,10 @@ impl<F: Send, H: Shelf<F>> Archiver<F, H> {
         requires dataset { (seen_place place.now).dataset ≡ self.old.dataset }
         requires key { length (file_key (seen_place place.now)) ≤ 256 }
         requires bytes { length bytes.now ≤ 134217728 }
-        requires sum { self.old.draft.end + length bytes.now < 2 ^ 63 }
+        requires sum { self.old.draft.end + (length bytes.now + 32) < 2 ^ 63 }
         ensures unlisted { (result ≡ Err ArchiveFault.Unlisted) ↔ IsSome self.old.unlisted }
         ensures ok { OnOk result ((b : List Pair) → IsPending self.old b → IsPending self.new (b ++ record { key = file_key (seen_place place.now); bytes = bytes.now } ∷ [])) }
-        ensures end { OnOk result (self.new.draft.end ≡ self.old.draft.end + length bytes.now) }
+        ensures end { OnOk result (self.new.draft.end ≡ self.old.draft.end + (length bytes.now + 32)) }
         ensures err { OnErr result ((b : List Pair) → IsPending self.old b → IsPending self.new b) }
         ensures refused { OnErr result ((self.new.draft.held ≡ self.old.draft.held) × (self.new.draft.end ≡ self.old.draft.end)) }
         ensures untouched { IfErr result (λ e. OnUntouched e (self.new ≡ self.old)) }
@@ -159,10 +159,10 @@ impl<F: Send, H: Shelf<F>> Archiver<F, H> {
     fn put(&mut self, place: &Place, bytes: &[u8]) -> Result<(), ArchiveFault<F>>
         requires none { self.old.unlisted ≡ None }
         requires key { length (file_key (seen_place place.now)) ≤ 256 }
-        requires sum { self.old.draft.end + length bytes.now < 2 ^ 63 }
+        requires sum { self.old.draft.end + (length bytes.now + 32) < 2 ^ 63 }
         ensures listed { result ≢ Err ArchiveFault.Unlisted }
         ensures ok { OnOk result ((b : List Pair) → IsPending self.old b → IsPending self.new (b ++ record { key = file_key (seen_place place.now); bytes = bytes.now } ∷ [])) }
-        ensures end { OnOk result (self.new.draft.end ≡ self.old.draft.end + length bytes.now) }
+        ensures end { OnOk result (self.new.draft.end ≡ self.old.draft.end + (length bytes.now + 32)) }
         ensures err { OnErr result ((b : List Pair) → IsPending self.old b → IsPending self.new b) }
         ensures refused { OnErr result ((self.new.draft.held ≡ self.old.draft.held) × (self.new.draft.end ≡ self.old.draft.end)) }
         ensures untouched { IfErr result (λ e. OnUntouched e (self.new ≡ self.old)) }

@@ -1,9 +1,9 @@
 -- How far a stream was gone over, and what was dealt of it.
-use Rattle.std.proofs.Common.{◌≡◌, inl, inr, ◌≤◌, ◌<◌, ◌^◌, ℕ, ◌+◌, Bool, false, List, [], ◌∷◌, ◌++◌, length, Option, Some, IfSome, Ok, Err, sym, ap, subst, ◌∙◌, arith, append_assoc, append-nil, length-append}
+use Rattle.std.proofs.Common.{◌≡◌, inl, inr, ◌≤◌, ◌<◌, ◌^◌, ℕ, ◌+◌, Bool, false, List, [], ◌∷◌, ◌++◌, length, Option, Some, IfSome, Ok, Err, refl, sym, ap, subst, ◌∙◌, arith, append_assoc, append-nil, length-append}
 use Rattle.fd_disk.specs.declared.folders.FileName.{FileName}
 use Rattle.fd_disk.specs.Folders.{Contents, Holdings, folder_at}
 use Rattle.fd_sections.specs.declared.refusal.BadAt.{BadAt}
-use Rattle.fd_sections.specs.Message.{Sections, message_octets}
+use Rattle.fd_sections.specs.Message.{Sections, end_section, if_present, message_octets}
 use Rattle.fd_sections.specs.Progress.{Progress}
 use Rattle.fd_sections.specs.Joining.{RefusesAs, SplitsOn}
 use Rattle.fd_key.specs.Keys.{key_of}
@@ -27,9 +27,27 @@ use Rattle.fd_bulk.specs.Taking.{StoredOn}
 use Rattle.fd_bulk.proofs.Opened.{deals_closes}
 use Rattle.fd_bulk.proofs.Steps.{ended_later, ended_now, ends_there, placed_ends, stored_is, stored_more, stored_nothing, too_many_ends, unopened_ends, went_none, went_one}
 
-octets_push : (all : List Stored) (s : Stored) → octets_of (all ++ s ∷ []) ≡ octets_of all + length s.pair.bytes
+octets_push : (all : List Stored) (s : Stored) → octets_of (all ++ s ∷ []) ≡ octets_of all + (length s.pair.bytes + 32)
 octets_push [] s = omega arith
 octets_push (x ∷ xs) s = omega (arith, octets_push xs s)
+
+-- a message has octets
+still : (a b : List ℕ) → 1 ≤ length b → 1 ≤ length (a ++ b)
+still a b some = omega (arith, length-append a b, some)
+
+end_octets : 1 ≤ length end_section
+end_octets = let four : length end_section ≡ 4 = refl in omega (arith, four)
+
+some_octets : (m : Sections) → 1 ≤ length (message_octets m)
+some_octets m =
+    let values : List ℕ = m.values ++ end_section in
+    let bit_map : List ℕ = m.bit_map ++ values in
+    let representation : List ℕ = m.representation ++ bit_map in
+    let product : List ℕ = m.product ++ representation in
+    let grid : List ℕ = m.grid ++ product in
+    let local_use : List ℕ = if_present m.local_use ++ grid in
+    let identification : List ℕ = m.identification ++ local_use in
+    still m.indicator identification (still m.identification local_use (still (if_present m.local_use) grid (still m.grid product (still m.product representation (still m.representation bit_map (still m.bit_map values (still m.values end_section end_octets)))))))
 
 module _ {D H X Y F : Type 0} (has : D → Option Contents) (kept : H → Option (FileName → Option (List ℕ))) where
   -- ---- why a message isn't dealt, and what stands then
@@ -103,15 +121,16 @@ module _ {D H X Y F : Type 0} (has : D → Option Contents) (kept : H → Option
           let came = t.fed in
           let one = t.given in
           let so_far = g.given in
+          let some : 1 ≤ length octets = subst (λ (x : List ℕ). 1 ≤ length x) (sym whole) (some_octets m) in
           let all_is : all ++ (waits ++ s ∷ []) ≡ (all ++ waits) ++ s ∷ [] = sym (append_assoc all waits (s ∷ [])) in
-          let size : octets_of (all ++ (waits ++ s ∷ [])) ≡ octets_of (all ++ waits) + length octets = ap octets_of all_is ∙ octets_push (all ++ waits) s in
+          let size : octets_of (all ++ (waits ++ s ∷ [])) ≡ octets_of (all ++ waits) + (length octets + 32) = ap octets_of all_is ∙ octets_push (all ++ waits) s in
           let number : length (all ++ (waits ++ s ∷ [])) ≡ length (all ++ waits) + 1 = ap length all_is ∙ length-append (all ++ waits) (s ∷ []) in
           record {
             all = all;
             waiting = waits ++ s ∷ [];
             on = went_one rules given p q m n s (all ++ waits) (all ++ (waits ++ s ∷ [])) t count
                 (stored_is rules given (datasets_in (all ++ waits)) (n + 1) m key keyed_is place placed room ∙ ap (λ (x : Stored). Ok x) message_is) all_is;
-            going = record { deals = d; sum = omega (arith, size, fits, sum, came); given = omega (arith, one, so_far, number) };
+            going = record { deals = d; sum = omega (arith, size, fits, sum, came, some); given = omega (arith, one, so_far, number) };
           }
 
       -- its dataset isn't opened, or the store failed

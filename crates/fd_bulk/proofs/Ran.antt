@@ -5,7 +5,7 @@ use Rattle.std.proofs.lemmas.List.{length-map}
 use Rattle.fd_disk.specs.declared.folders.FileName.{FileName}
 use Rattle.fd_disk.specs.Folders.{Contents, Holdings}
 use Rattle.fd_entries.specs.declared.batch.Pair.{Pair}
-use Rattle.fd_entries.specs.Batches.{total}
+use Rattle.fd_segment.specs.Filling.{stored}
 use Rattle.fd_turn.specs.declared.board.Pass.{Pass}
 use Rattle.fd_turn.specs.Passes.{BoardId}
 use Rattle.fd_archiver.specs.declared.fault.FlushFault.{FlushFault}
@@ -31,33 +31,33 @@ use Rattle.fd_bulk.proofs.Shares.{at_place, met_on, same_met}
 use Rattle.fd_bulk.proofs.Stored.{round_stored}
 use Rattle.fd_bulk.proofs.Texts.{one_text}
 use Rattle.fd_bulk.proofs.Turns.{get_place}
-use Rattle.fd_bulk.proofs.Storing.{total_both}
+use Rattle.fd_bulk.proofs.Storing.{stored_both}
 
 -- ---- there is room in number
 
-total_dealt : (deal : List ℕ → ℕ) (w : ℕ) (ps : List Pair) → total (dealt_to deal w ps) ≤ total ps
-total_dealt deal w [] = omega arith
-total_dealt deal w (p ∷ ps) = go (deal p.key == w) (total_dealt deal w ps)
+stored_dealt : (deal : List ℕ → ℕ) (w : ℕ) (ps : List Pair) → stored (dealt_to deal w ps) ≤ stored ps
+stored_dealt deal w [] = omega arith
+stored_dealt deal w (p ∷ ps) = go (deal p.key == w) (stored_dealt deal w ps)
   where
-    go : (b : Bool) → total (dealt_to deal w ps) ≤ total ps → total (if b then p ∷ dealt_to deal w ps else dealt_to deal w ps) ≤ length p.bytes + total ps
+    go : (b : Bool) → stored (dealt_to deal w ps) ≤ stored ps → stored (if b then p ∷ dealt_to deal w ps else dealt_to deal w ps) ≤ (length p.bytes + 32) + stored ps
     go true le = omega (arith, le)
     go false le = omega (arith, le)
 
-total_for : (all : List Stored) (name : List ℕ) → total (pairs_for all name) ≤ octets_of all
-total_for [] name = omega arith
-total_for (s ∷ all) name = go (bytes_eq s.dataset name) (total_for all name)
+stored_for : (all : List Stored) (name : List ℕ) → stored (pairs_for all name) ≤ octets_of all
+stored_for [] name = omega arith
+stored_for (s ∷ all) name = go (bytes_eq s.dataset name) (stored_for all name)
   where
-    go : (b : Bool) → total (pairs_for all name) ≤ octets_of all → total (if b then s.pair ∷ pairs_for all name else pairs_for all name) ≤ length s.pair.bytes + octets_of all
+    go : (b : Bool) → stored (pairs_for all name) ≤ octets_of all → stored (if b then s.pair ∷ pairs_for all name else pairs_for all name) ≤ (length s.pair.bytes + 32) + octets_of all
     go true le = omega (arith, le)
     go false le = omega (arith, le)
 
-total_share : (workers : ℕ) (names : List (List ℕ)) (w n : ℕ) (ss : List Stored) (ps : List Parcel) → AreParcels workers names ss ps → total (share w n ps) ≤ octets_of ss
-total_share workers names w n [] [] are = omega arith
-total_share workers names w n [] (p ∷ ps) are = absurd are
-total_share workers names w n (s ∷ ss) [] are = absurd are
-total_share workers names w n (s ∷ ss) (p ∷ ps) are = go ((p.worker == w) && (p.dataset == n)) (total_share workers names w n ss ps are.1) (ap (λ (q : Pair). length q.bytes) are.0.pair)
+stored_share : (workers : ℕ) (names : List (List ℕ)) (w n : ℕ) (ss : List Stored) (ps : List Parcel) → AreParcels workers names ss ps → stored (share w n ps) ≤ octets_of ss
+stored_share workers names w n [] [] are = omega arith
+stored_share workers names w n [] (p ∷ ps) are = absurd are
+stored_share workers names w n (s ∷ ss) [] are = absurd are
+stored_share workers names w n (s ∷ ss) (p ∷ ps) are = go ((p.worker == w) && (p.dataset == n)) (stored_share workers names w n ss ps are.1) (ap (λ (q : Pair). length q.bytes) are.0.pair)
   where
-    go : (b : Bool) → total (share w n ps) ≤ octets_of ss → length (pair_of p).bytes ≡ length s.pair.bytes → total (if b then pair_of p ∷ share w n ps else share w n ps) ≤ length s.pair.bytes + octets_of ss
+    go : (b : Bool) → stored (share w n ps) ≤ octets_of ss → length (pair_of p).bytes ≡ length s.pair.bytes → stored (if b then pair_of p ∷ share w n ps else share w n ps) ≤ (length s.pair.bytes + 32) + octets_of ss
     go true le same = omega (arith, le, same)
     go false le same = omega (arith, le)
 
@@ -65,12 +65,12 @@ octets_both : (a b : List Stored) → octets_of (a ++ b) ≡ octets_of a + octet
 octets_both [] b = omega arith
 octets_both (s ∷ a) b = let e = octets_both a b in omega (arith, e)
 
-pub room_for : (workers : ℕ) (names : List (List ℕ)) (w n : ℕ) (all waiting : List Stored) (ps : List Parcel) → AreParcels workers names waiting ps → octets_of (all ++ waiting) < 2 ^ 63 → total (its_pairs workers names w all n ++ share w n ps) < 2 ^ 63
+pub room_for : (workers : ℕ) (names : List (List ℕ)) (w n : ℕ) (all waiting : List Stored) (ps : List Parcel) → AreParcels workers names waiting ps → octets_of (all ++ waiting) < 2 ^ 63 → stored (its_pairs workers names w all n ++ share w n ps) < 2 ^ 63
 room_for workers names w n all waiting ps are sum =
-    let a = total_both (its_pairs workers names w all n) (share w n ps) in
-    let b = total_dealt (dealt workers (name_at names n)) w (pairs_for all (name_at names n)) in
-    let c = total_for all (name_at names n) in
-    let d = total_share workers names w n waiting ps are in
+    let a = stored_both (its_pairs workers names w all n) (share w n ps) in
+    let b = stored_dealt (dealt workers (name_at names n)) w (pairs_for all (name_at names n)) in
+    let c = stored_for all (name_at names n) in
+    let d = stored_share workers names w n waiting ps are in
     let e = octets_both all waiting in
     omega (arith, a, b, c, d, e, sum)
 

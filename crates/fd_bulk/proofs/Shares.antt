@@ -2,7 +2,7 @@
 use Rattle.std.proofs.Common.{◌≡◌, ◌==◌, ◌&&◌, ◌<◌, ◌≤◌, ◌+◌, ◌^◌, ℕ, zero, suc, Bool, if◌then◌else◌, List, [], ◌∷◌, ◌++◌, take, drop, length, get_or, slice_get, slice_set, Option, Some, None, Result, Ok, Err, refl, sym, ap, ap₂, subst, ◌∙◌, arith}
 use Rattle.fd_disk.specs.declared.folders.FileName.{FileName}
 use Rattle.fd_entries.specs.declared.batch.Pair.{Pair}
-use Rattle.fd_entries.specs.Batches.{total}
+use Rattle.fd_segment.specs.Filling.{stored}
 use Rattle.fd_turn.specs.declared.board.Pass.{Pass}
 use Rattle.fd_turn.specs.Passes.{BoardId, IsSame, view}
 use Rattle.fd_archiver.specs.declared.fault.FlushFault.{FlushFault}
@@ -15,7 +15,7 @@ use Rattle.fd_bulk.specs.Sharing.{AllFit, AllWork, IsFit, IsFullAt, SameDesk, Sa
 use Rattle.fd_bulk.proofs.Dealing.{equal_not, equal_to}
 use Rattle.fd_bulk.proofs.Rounds.{share_both}
 use Rattle.fd_bulk.proofs.Sharing.{refused_stops, stopped_in, stored_at, work_at, work_same}
-use Rattle.fd_bulk.proofs.Storing.{total_both}
+use Rattle.fd_bulk.proofs.Storing.{stored_both}
 
 split_here : {X : Type 0} (xs : List X) (i : ℕ) (x : X) → i < length xs → x ≡ get_or xs i x → xs ≡ take i xs ++ (x ∷ drop (suc i) xs)
 split_here [] i x lt is = absurd (omega arith)
@@ -52,13 +52,13 @@ share_first : (w : ℕ) (p : Parcel) (rest : List Parcel) → p.worker ≡ w →
 share_first w p rest is = ap₂ (λ (a b : Bool). if a && b then pair_of p ∷ share w p.dataset rest else share w p.dataset rest) (equal_to p.worker w is) (equal_to p.dataset p.dataset refl)
 
 -- there is room in number for the message
-pub share_room : (w : ℕ) (ps : List Parcel) (i : ℕ) (p : Parcel) (before : List Pair) → i < length ps → p ≡ get_or ps i p → p.worker ≡ w → total (before ++ share w p.dataset ps) < 2 ^ 63 → total (before ++ share w p.dataset (take i ps)) + length p.bytes < 2 ^ 63
+pub share_room : (w : ℕ) (ps : List Parcel) (i : ℕ) (p : Parcel) (before : List Pair) → i < length ps → p ≡ get_or ps i p → p.worker ≡ w → stored (before ++ share w p.dataset ps) < 2 ^ 63 → stored (before ++ share w p.dataset (take i ps)) + (length p.bytes + 32) < 2 ^ 63
 share_room w ps i p before lt is mine sum =
     let whole : share w p.dataset ps ≡ share w p.dataset (take i ps) ++ (pair_of p ∷ share w p.dataset (drop (suc i) ps)) =
     ap (share w p.dataset) (split_here ps i p lt is) ∙ share_both w p.dataset (take i ps) (p ∷ drop (suc i) ps) ∙ ap (λ (xs : List Pair). share w p.dataset (take i ps) ++ xs) (share_first w p (drop (suc i) ps) mine) in
-    let a = total_both before (share w p.dataset ps) in
-    let b = ap total whole ∙ total_both (share w p.dataset (take i ps)) (pair_of p ∷ share w p.dataset (drop (suc i) ps)) in
-    let c = total_both before (share w p.dataset (take i ps)) in
+    let a = stored_both before (share w p.dataset ps) in
+    let b = ap stored whole ∙ stored_both (share w p.dataset (take i ps)) (pair_of p ∷ share w p.dataset (drop (suc i) ps)) in
+    let c = stored_both before (share w p.dataset (take i ps)) in
     omega (arith, a, b, c, sum)
 
 pub fit_at : (names : List (List ℕ)) (ps : List Parcel) (i : ℕ) (p : Parcel) → AllFit names ps → i < length ps → p ≡ get_or ps i p → IsFit names p

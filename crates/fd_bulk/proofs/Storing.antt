@@ -6,7 +6,7 @@ use Rattle.fd_disk.specs.declared.folders.FileKind.TheVariants.{Fields, Index}
 use Rattle.fd_disk.specs.Names.{name_of}
 use Rattle.fd_entries.specs.declared.batch.Listing.{Listing}
 use Rattle.fd_entries.specs.declared.batch.Pair.{Pair}
-use Rattle.fd_entries.specs.Batches.{total}
+use Rattle.fd_segment.specs.Filling.{stored}
 use Rattle.fd_index.specs.declared.fault.Full.{Full}
 use Rattle.fd_index.specs.Builder.{room_for}
 use Rattle.fd_segment.specs.Filling as drafts
@@ -72,9 +72,9 @@ pub pairs_push : (rs : List (ℕ × Sealing)) (r : ℕ × Sealing) → pairs_in 
 pairs_push [] r = append-nil r.1.pairs
 pairs_push (q ∷ rs) r = ap (λ (ps : List Pair). q.1.pairs ++ ps) (pairs_push rs r) ∙ sym (append_assoc q.1.pairs (pairs_in rs) r.1.pairs)
 
-pub total_both : (a b : List Pair) → total (a ++ b) ≡ total a + total b
-total_both [] b = omega arith
-total_both (p ∷ ps) b = let e = total_both ps b in omega arith
+pub stored_both : (a b : List Pair) → stored (a ++ b) ≡ stored a + stored b
+stored_both [] b = omega arith
+stored_both (p ∷ ps) b = let e = stored_both ps b in omega arith
 
 -- ---- what is pending
 
@@ -137,13 +137,13 @@ module _ {H : Type 0} (kept : H → Option (FileName → Option (List ℕ))) whe
   -- ---- what a call asks for
 
   -- the bytes of the batch are among those that were stored
-  pub batch_within : (pairs : List Pair) (w : Writing H) (v : View) → Works kept Filling pairs w v → w.draft.end ≤ total pairs
+  pub batch_within : (pairs : List Pair) (w : Writing H) (v : View) → Works kept Filling pairs w v → w.draft.end ≤ stored pairs
   batch_within pairs w v c =
       let p = puts_of w c.pending c.stands.0 c.is_pending in
-      let whole : total pairs ≡ total (pairs_in c.receipts) + total c.pending = ap total c.pairs_are ∙ total_both (pairs_in c.receipts) c.pending in
+      let whole : stored pairs ≡ stored (pairs_in c.receipts) + stored c.pending = ap stored c.pairs_are ∙ stored_both (pairs_in c.receipts) c.pending in
       omega (arith, p.end, whole)
 
-  pub has_bytes : (size : ℕ) (w : Writing H) (v : View) → CanPut kept size w v → w.draft.end + size < 2 ^ 63
+  pub has_bytes : (size : ℕ) (w : Writing H) (v : View) → CanPut kept size w v → w.draft.end + (size + 32) < 2 ^ 63
   has_bytes size w v c = let e = batch_within c.pairs w v c.works in omega (arith, e, c.sum)
 
   -- an emptied batch is one that is filled

@@ -105,10 +105,10 @@ pub record AreMet (datasets names : List (List ℕ)) : Type 0 where
 abbrev pub message_at : Texts → List ℕ → Stored
 message_at place octets = record { dataset = place.dataset; pair = record { key = file_key place; bytes = octets } }
 
--- how many octets were stored
+-- how many octets were stored, with 32 for the digest of each message
 abbrev pub octets_of : List Stored → ℕ
 octets_of [] = 0
-octets_of (s ∷ ss) = length s.pair.bytes + octets_of ss
+octets_of (s ∷ ss) = (length s.pair.bytes + 32) + octets_of ss
 
 module _ {D H X Y E : Type 0} (has : D → Option Contents) where
   abbrev pub AllBegun : Option Holdings → ℕ → List (Job (Writing H) (Pass X Y) E) → List BoardId → List (OpenDataset D) → List (Pass X Y) → Type 0

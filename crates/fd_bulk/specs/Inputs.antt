@@ -1,5 +1,5 @@
 -- What is stored of an input that is read piece by piece, and what stands where it ends.
-use Rattle.std.specs.Prelude.{◌≡◌, ◌⊎◌, ◌≤◌, ◌<◌, ◌+◌, ◌^◌, ℕ, Bool, true, false, List, [], ◌∷◌, ◌++◌, length, Option, Some, None, IfSome, Result, Ok, Err, string_bytes}
+use Rattle.std.specs.Prelude.{◌≡◌, ◌⊎◌, ◌≤◌, ◌<◌, ◌+◌, ◌*◌, ◌^◌, ℕ, Bool, true, false, List, [], ◌∷◌, ◌++◌, length, Option, Some, None, IfSome, Result, Ok, Err, string_bytes}
 use Rattle.fd_disk.specs.declared.folders.FileName.{FileName}
 use Rattle.fd_disk.specs.Folders.{Contents, Holdings, folder_at}
 use Rattle.fd_sections.specs.Message.{Sections}
@@ -81,10 +81,11 @@ EndsOf (Err fault) p = (t : Truncated) × (fault ≡ faults.Cut t) × (Err t ≡
 -- ---- over the run
 
 module _ {D H X Y F : Type 0} (has : D → Option Contents) (kept : H → Option (FileName → Option (List ℕ))) (start now : Option Holdings) where
-  -- The messages of a stream were dealt so far: as many as were given, and their octets are octets that are gone over.
+  -- The messages of a stream were dealt so far: as many as were given, and their octets are octets that are gone over. Each has at
+  -- least one, so 33 for each octet are enough for its octets and the 32 of its digest.
   pub record Going (all waiting : List Stored) (l : OpenDatasets D) (passes : List (Pass X Y)) (jobs : List (Job (Writing H) (Pass X Y) (FlushFault F))) (parcels : List Parcel) (p : Progress) : Type 0 where
     pub deals : Deals has kept start now all waiting (datasets_in (all ++ waiting)) l passes jobs parcels
-    pub sum : octets_of (all ++ waiting) + length p.rest ≤ p.fed
+    pub sum : octets_of (all ++ waiting) + 33 * length p.rest ≤ 33 * p.fed
     pub given : p.given ≡ length (all ++ waiting)
 
   -- the workers have stored the first of these messages, and store nothing more

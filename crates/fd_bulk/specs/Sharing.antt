@@ -2,7 +2,7 @@
 use Rattle.std.specs.Prelude.{◌≡◌, ◌≤◌, ◌<◌, ◌+◌, ◌^◌, ◌==◌, ◌&&◌, ℕ, suc, List, [], ◌∷◌, ◌++◌, if◌then◌else◌, nat_lt, length, take, slice_get, slice_index_or, Option, Some, None, Result, Ok, Err}
 use Rattle.fd_disk.specs.declared.folders.FileName.{FileName}
 use Rattle.fd_entries.specs.declared.batch.Pair.{Pair}
-use Rattle.fd_entries.specs.Batches.{total}
+use Rattle.fd_segment.specs.Filling.{stored}
 use Rattle.fd_schema.specs.Rules.{file_key}
 use Rattle.fd_schema.specs.Reading.{seen_place}
 use Rattle.fd_turn.specs.declared.board.Pass.{Pass}
@@ -99,7 +99,7 @@ module _ {H X Y : Type 0} (kept : H → Option (FileName → Option (List ℕ)))
     pub fit : IsFit names p
     pub desk : Desk (Writing H) (Pass X Y)
     pub at : slice_get ds p.dataset ≡ Some (Some desk)
-    pub sum : total (pairs p.dataset) + length p.bytes < 2 ^ 63
+    pub sum : stored (pairs p.dataset) + (length p.bytes + 32) < 2 ^ 63
 
   -- what a worker has after it stored a message in a dataset, or didn't
   abbrev pub StoredAt : {F : Type 0} → Result (Unit {0}) (FlushFault F) → Parcel → List (List ℕ) → (ℕ → List Pair) → List (Option (Desk (Writing H) (Pass X Y))) → Type 0
@@ -179,7 +179,7 @@ module _ {F H X Y : Type 0} (kept : H → Option (FileName → Option (List ℕ)
     pub works : AllWork kept (λ n. Filling) pairs 0 boards names j.desks.items
     pub fit : AllFit names parcels
     pub met : (i : ℕ) (p : Parcel) → slice_get parcels i ≡ Some p → HasMet kept worker j.desks.items p
-    pub sum : (n : ℕ) → total (pairs n ++ share worker n parcels) < 2 ^ 63
+    pub sum : (n : ℕ) → stored (pairs n ++ share worker n parcels) < 2 ^ 63
 
   -- what it has after it stored its share, or stopped at one of them
   abbrev pub SharedTo : List (List ℕ) → (ℕ → List Pair) → List (Option (Desk (Writing H) (Pass X Y))) → Option (Halt (FlushFault F)) → Type 0

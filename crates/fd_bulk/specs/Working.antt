@@ -4,7 +4,7 @@ use mathlib.Core.List.{IsPrefix}
 use Rattle.fd_disk.specs.declared.folders.FileName.{FileName}
 use Rattle.fd_entries.specs.declared.batch.Listing.{Listing}
 use Rattle.fd_entries.specs.declared.batch.Pair.{Pair}
-use Rattle.fd_entries.specs.Batches.{total}
+use Rattle.fd_segment.specs.Filling.{stored}
 use Rattle.fd_entries.specs.Table.{greatest_writer}
 use Rattle.fd_segment.specs.Held.{Standing}
 use Rattle.fd_turn.specs.declared.view.Lock.TheVariants.{Free}
@@ -115,11 +115,11 @@ module _ {H : Type 0} where
       pub bounded : w.writer ≤ greatest_writer v.opening
       pub tells : is_some (kept w.shelf) ≡ w.told
 
-    -- some pairs were stored, and there is room in number for one more of this length
+    -- some pairs were stored, and there is room in number for one more of this length and its digest
     pub record CanPut (size : ℕ) (w : Writing H) (v : View) : Type 0 where
       pub pairs : List Pair
       pub works : Works Filling pairs w v
-      pub sum : total pairs + size < 2 ^ 63
+      pub sum : stored pairs + (size + 32) < 2 ^ 63
 
     abbrev pub CanList : Writing H → View → Type 0
     CanList w v = (pairs : List Pair) × Works Filling pairs w v

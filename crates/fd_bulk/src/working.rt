@@ -24,7 +24,7 @@ where
     requires dataset { (seen_place place.now).dataset ≡ archiver.old.dataset }
     requires key { length (file_key (seen_place place.now)) ≤ 256 }
     requires bytes { length bytes.now ≤ 134217728 }
-    requires sum { archiver.old.draft.end + length bytes.now < 2 ^ 63 }
+    requires sum { archiver.old.draft.end + (length bytes.now + 32) < 2 ^ 63 }
     ensures stays { StaysOf archiver.old archiver.new }
     ensures puts { (pairs : List Pair) (v : View) → Works H.kept Filling pairs archiver.old v → PutOn H.kept result pairs (record { key = file_key (seen_place place.now); bytes = bytes.now }) archiver.old archiver.new v }
     ensures first { (pairs : List Pair) (v : View) → Works H.kept Emptied pairs archiver.old v → IsNotFull result }

@@ -262,7 +262,7 @@ keeps_take s w may h =
 pub entry_fits : (s : World) (h : HoldsUp s) (w : ℕ) (f : File) → IsReady f (writer_of s w) → Fits (length h.entries) (entry_of (writer_of s w))
 entry_fits s h w f r =
     let p = (h.writers w).pairs in
-    record { writer = omega (arith, r.id); seq = omega (arith, r.seq); fields = omega (arith, p.few); index_len = omega (arith, p.index_small); fields_len = omega (arith, p.small) }
+    record { writer = omega (arith, r.id); seq = omega (arith, r.seq); fields = omega (arith, p.few); index_len = omega (arith, p.index_small); fields_len = omega (arith, p.small); digest = tt }
 
 -- where both tables list the same entries, other writers' numbers stay
 pub same_numbers : (s : World) (es : List Entry) (t' : File) → IsTable [] es s.table.reads → IsTable [] es t'.reads → (v : ℕ) → writer_in s.writers v (fresh t' v) ≡ writer_of s v

@@ -74,9 +74,9 @@ code Closing = 10
 abbrev pub is_in_phase : Writer → Phase → Bool
 is_in_phase w p = code w.phase == code p
 
--- what the table says of a writer's batch
+-- what the table says of a writer's batch, whose files have no digests
 abbrev pub entry_of : Writer → Entry
-entry_of w = record { writer = w.id; seq = w.seq; fields = distinct w.pairs; index_len = length (rows w.pairs); fields_len = total w.pairs }
+entry_of w = record { writer = w.id; seq = w.seq; fields = distinct w.pairs; index_len = length (rows w.pairs); fields_len = total w.pairs; digest = None }
 
 abbrev pub can_put : Writer → List ℕ → List ℕ → Bool
 can_put w key bytes =

@@ -113,6 +113,7 @@ pub(crate) fn entry_of(writer: &Writer) -> Entry
         fields: distinct_of(&writer.pairs) as u32,
         index_len: rows_len(&writer.pairs),
         fields_len: total_of(&writer.pairs),
+        digest: None,
     }
 }
 

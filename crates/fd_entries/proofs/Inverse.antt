@@ -4,9 +4,11 @@ use Rattle.std.proofs.lemmas.Bool.Decides.{nat_tests, Decides-eqb}
 use Rattle.std.proofs.lemmas.List.{drop-drop, length-take-le, get_or-drop}
 use Rattle.std.proofs.lemmas.Nat.{be_bytes_4, be_bytes_8, from_be_bytes-to_be_bytes_4}
 use Rattle.std.specs.Int.{w32, w64, to_be_bytes, from_be_bytes, byte_at}
+use Rattle.std.specs.Prelude.{IfSome}
 use Rattle.fd_entries.specs.declared.table.Entry.{Entry}
 use Rattle.fd_entries.specs.declared.table.NotATable.{NotATable}
-use Rattle.fd_entries.specs.Table.{AreOctets, header, body_of, slots_of, gate_at, greatest_writer, mismatch, fixed, any_octets, exceeds, or_else, entry_fault, entry_in, with_entry, unless_fault, run_from, listed, Fits, AllFit, IsTable}
+use Rattle.fd_entries.specs.Table.{AreOctets, digest_octets, kind_of, tail_octets, header, body_of, slots_of, gate_at, greatest_writer, mismatch, fixed, any_octets, exceeds, or_else, entry_fault, entry_in, with_entry, unless_fault, run_from, listed, Fits, AllFit, IsTable}
+use Rattle.fd_entries.proofs.Digests.{octets_are}
 use Rattle.fd_entries.proofs.Slots.{length-header}
 
 pub is_or_not : (b : Bool) → (b ≡ true) ⊎ (b ≡ false)
@@ -103,23 +105,78 @@ pub record IsEntry (i : ℕ) (bytes : List ℕ) : Type 0 where
   pub is : bytes ≡ body_of (entry_in bytes) ++ drop 63 bytes
   pub fits : Fits i (entry_in bytes)
 
+-- what stands behind the numbers of an entry
+record IsTail (b : ℕ) (bytes : List ℕ) : Type 0 where
+  digest : Option (List ℕ)
+  kind : b ≡ kind_of digest
+  read : (if b == 2 then Some (take 32 (drop 29 bytes)) else None) ≡ digest
+  long : IfSome digest (λ d. length d ≡ 32)
+  numbers : 29 ≤ length bytes
+  tail : drop 29 bytes ≡ digest_octets 32 0 digest ++ 0 ∷ 0 ∷ drop 63 bytes
+
+abbrev kind_fault : ℕ → Bool → List ℕ → Option NotATable
+kind_fault at two bytes = mismatch at (Some (if two then 2 else 1) ∷ any_octets 4) bytes
+
+-- the octets behind the numbers are zeros
+tail_1 : (i b : ℕ) (rest : List ℕ) → (b == 2) ≡ false → kind_fault (gate_at i + 1) (b == 2) (b ∷ rest) ≡ None
+    → mismatch (gate_at i + 6) (any_octets 24 ++ tail_octets (b == 2)) (drop 5 (b ∷ rest)) ≡ None → IsTail b (b ∷ rest)
+tail_1 i b rest other first third =
+    let bytes : List ℕ = b ∷ rest in
+    let one : kind_fault (gate_at i + 1) false bytes ≡ None = sym (ap (λ (t : Bool). kind_fault (gate_at i + 1) t bytes) other) ∙ first in
+    let kind : b ≡ 1 = elim (is_or_not (b == 1)) [
+      | inl same ↦ (Decides-eqb b 1).0 same
+      | inr differs ↦ absurd (cc (sym (ap (λ (t : Bool). if t then mismatch (gate_at i + 1 + 1) (any_octets 4) rest else Some (record { at = gate_at i + 1; want = 1; found = Some b })) differs) ∙ one))
+    ] in
+    let behind : mismatch (gate_at i + 6) (any_octets 24 ++ fixed (replicate 34 0)) (drop 5 bytes) ≡ None =
+    sym (ap (λ (t : Bool). mismatch (gate_at i + 6) (any_octets 24 ++ tail_octets t) (drop 5 bytes)) other) ∙ third in
+    let last = passes 24 (gate_at i + 6) (fixed (replicate 34 0)) (drop 5 bytes) behind in
+    let zeros = front_is last.0 (replicate 34 0) (drop 24 (drop 5 bytes)) last.1.1 in
+    let e29 : drop 29 bytes ≡ drop 24 (drop 5 bytes) = sym (drop-drop 24 5 bytes) in
+    let e63 : drop 34 (drop 24 (drop 5 bytes)) ≡ drop 63 bytes = ap (drop 34) (sym e29) ∙ drop-drop 34 29 bytes in
+    record {
+      digest = None;
+      kind = kind;
+      read = ap (λ (t : Bool). if t then Some (take 32 (drop 29 bytes)) else None) other;
+      long = tt;
+      numbers = omega (arith, last.1.0, length-drop 5 bytes);
+      tail = e29 ∙ zeros ∙ ap (λ (r : List ℕ). replicate 34 0 ++ r) e63;
+    }
+
+-- the octets behind the numbers are a digest
+tail_2 : (i b : ℕ) (rest : List ℕ) → (b == 2) ≡ true → mismatch (gate_at i + 6) (any_octets 24 ++ tail_octets (b == 2)) (drop 5 (b ∷ rest)) ≡ None → IsTail b (b ∷ rest)
+tail_2 i b rest two third =
+    let bytes : List ℕ = b ∷ rest in
+    let behind : mismatch (gate_at i + 6) (any_octets 24 ++ (any_octets 32 ++ fixed (replicate 2 0))) (drop 5 bytes) ≡ None =
+    sym (ap (λ (t : Bool). mismatch (gate_at i + 6) (any_octets 24 ++ tail_octets t) (drop 5 bytes)) two) ∙ third in
+    let last = passes 24 (gate_at i + 6) (any_octets 32 ++ fixed (replicate 2 0)) (drop 5 bytes) behind in
+    let after = passes 32 last.0 (fixed (replicate 2 0)) (drop 24 (drop 5 bytes)) last.1.1 in
+    let zeros = front_is after.0 (replicate 2 0) (drop 32 (drop 24 (drop 5 bytes))) after.1.1 in
+    let e29 : drop 24 (drop 5 bytes) ≡ drop 29 bytes = drop-drop 24 5 bytes in
+    let e61 : drop 32 (drop 24 (drop 5 bytes)) ≡ drop 32 (drop 29 bytes) = ap (drop 32) e29 in
+    let e63 : drop 2 (drop 32 (drop 24 (drop 5 bytes))) ≡ drop 63 bytes = ap (drop 2) (e61 ∙ drop-drop 32 29 bytes) ∙ drop-drop 2 61 bytes in
+    let d = take 32 (drop 29 bytes) in
+    let long : length d ≡ 32 = length-take-le 32 (drop 29 bytes) (omega (arith, after.1.0, ap length e29)) in
+    record {
+      digest = Some d;
+      kind = (Decides-eqb b 2).0 two;
+      read = ap (λ (t : Bool). if t then Some (take 32 (drop 29 bytes)) else None) two;
+      long = long;
+      numbers = omega (arith, last.1.0, length-drop 5 bytes);
+      tail = sym (take-append-drop 32 (drop 29 bytes)) ∙ (λ j. sym (octets_are d long) j ++ (sym e61 ∙ zeros ∙ ap (λ (r : List ℕ). 0 ∷ 0 ∷ r) e63) j);
+    }
+
 -- bytes without a fault are an entry's
 pub entry_is : (i : ℕ) (bytes : List ℕ) → AreOctets bytes → i < 65535 → entry_fault i bytes ≡ None → IsEntry i bytes
 entry_is i [] all small none = absurd (cc none)
 entry_is i (b ∷ rest) all small none =
     let bytes : List ℕ = b ∷ rest in
-    let first = or_none (mismatch (gate_at i + 1) (Some 1 ∷ any_octets 4) bytes) _ none in
+    let first = or_none (kind_fault (gate_at i + 1) (b == 2) bytes) _ none in
     let second = or_none (exceeds (gate_at i + 2) (to_be_bytes w32 (greatest_writer i)) (take 4 (drop 1 bytes))) _ first.1 in
-    let kind : b ≡ 1 = elim (is_or_not (b == 1)) [
-      | inl same ↦ (Decides-eqb b 1).0 same
-      | inr other ↦ absurd (cc (sym (ap (λ (t : Bool). if t then mismatch (gate_at i + 1 + 1) (any_octets 4) rest else Some (record { at = gate_at i + 1; want = 1; found = Some b })) other) ∙ first.0))
+    let t : IsTail b bytes = elim (is_or_not (b == 2)) [
+      | inl two ↦ tail_2 i b rest two second.1
+      | inr other ↦ tail_1 i b rest other first.0 second.1
     ] in
-    let last = passes 24 (gate_at i + 6) (fixed (replicate 34 0)) (drop 5 bytes) second.1 in
-    let long : 29 ≤ length bytes = omega (arith, last.1.0, length-drop 5 bytes) in
-    let zeros = front_is last.0 (replicate 34 0) (drop 24 (drop 5 bytes)) last.1.1 in
-    let e29 : drop 29 bytes ≡ drop 24 (drop 5 bytes) = sym (drop-drop 24 5 bytes) in
-    let e63 : drop 34 (drop 24 (drop 5 bytes)) ≡ drop 63 bytes = ap (drop 34) (sym e29) ∙ drop-drop 34 29 bytes in
-    let z : drop 29 bytes ≡ replicate 34 0 ++ drop 63 bytes = e29 ∙ zeros ∙ ap (λ (r : List ℕ). replicate 34 0 ++ r) e63 in
+    let long : 29 ≤ length bytes = t.numbers in
     let w = from_be_bytes w32 (take 4 (drop 1 bytes)) in
     let s = from_be_bytes w32 (take 4 (drop 5 bytes)) in
     let f = from_be_bytes w32 (take 4 (drop 9 bytes)) in
@@ -127,19 +184,21 @@ entry_is i (b ∷ rest) all small none =
     let y = from_be_bytes w64 (take 8 (drop 21 bytes)) in
     let small_w : w < 2 ^ 32 = octets_4 _ (long_enough bytes all 1 4 (omega arith)) (piece_octets bytes all 1 4) in
     record {
-      is = (λ j. kind j ∷ rest)
-          ∙ ap (λ (r : List ℕ). 1 ∷ r) (step_4 bytes all 1 (omega arith))
-          ∙ ap (λ (r : List ℕ). 1 ∷ (to_be_bytes w32 w ++ r)) (step_4 bytes all 5 (omega arith))
-          ∙ ap (λ (r : List ℕ). 1 ∷ (to_be_bytes w32 w ++ (to_be_bytes w32 s ++ r))) (step_4 bytes all 9 (omega arith))
-          ∙ ap (λ (r : List ℕ). 1 ∷ (to_be_bytes w32 w ++ (to_be_bytes w32 s ++ (to_be_bytes w32 f ++ r)))) (step_8 bytes all 13 (omega arith))
-          ∙ ap (λ (r : List ℕ). 1 ∷ (to_be_bytes w32 w ++ (to_be_bytes w32 s ++ (to_be_bytes w32 f ++ (to_be_bytes w64 x ++ r))))) (step_8 bytes all 21 (omega arith))
-          ∙ ap (λ (r : List ℕ). 1 ∷ (to_be_bytes w32 w ++ (to_be_bytes w32 s ++ (to_be_bytes w32 f ++ (to_be_bytes w64 x ++ (to_be_bytes w64 y ++ r)))))) z;
+      is = (λ j. t.kind j ∷ rest)
+          ∙ ap (λ (r : List ℕ). kind_of t.digest ∷ r) (step_4 bytes all 1 (omega arith))
+          ∙ ap (λ (r : List ℕ). kind_of t.digest ∷ (to_be_bytes w32 w ++ r)) (step_4 bytes all 5 (omega arith))
+          ∙ ap (λ (r : List ℕ). kind_of t.digest ∷ (to_be_bytes w32 w ++ (to_be_bytes w32 s ++ r))) (step_4 bytes all 9 (omega arith))
+          ∙ ap (λ (r : List ℕ). kind_of t.digest ∷ (to_be_bytes w32 w ++ (to_be_bytes w32 s ++ (to_be_bytes w32 f ++ r)))) (step_8 bytes all 13 (omega arith))
+          ∙ ap (λ (r : List ℕ). kind_of t.digest ∷ (to_be_bytes w32 w ++ (to_be_bytes w32 s ++ (to_be_bytes w32 f ++ (to_be_bytes w64 x ++ r))))) (step_8 bytes all 21 (omega arith))
+          ∙ ap (λ (r : List ℕ). kind_of t.digest ∷ (to_be_bytes w32 w ++ (to_be_bytes w32 s ++ (to_be_bytes w32 f ++ (to_be_bytes w64 x ++ (to_be_bytes w64 y ++ r)))))) t.tail
+          ∙ ap (λ (d : Option (List ℕ)). kind_of d ∷ (to_be_bytes w32 w ++ (to_be_bytes w32 s ++ (to_be_bytes w32 f ++ (to_be_bytes w64 x ++ (to_be_bytes w64 y ++ (digest_octets 32 0 d ++ 0 ∷ 0 ∷ drop 63 bytes))))))) (sym t.read);
       fits = record {
         writer = not_more (gate_at i + 2) (greatest_writer i) w small_w (omega arith) (ap (exceeds (gate_at i + 2) (to_be_bytes w32 (greatest_writer i))) (number_4 bytes all 1 (omega arith)) ∙ second.0);
         seq = octets_4 _ (long_enough bytes all 5 4 (omega arith)) (piece_octets bytes all 5 4);
         fields = octets_4 _ (long_enough bytes all 9 4 (omega arith)) (piece_octets bytes all 9 4);
         index_len = octets_8 _ (long_enough bytes all 13 8 (omega arith)) (piece_octets bytes all 13 8);
         fields_len = octets_8 _ (long_enough bytes all 21 8 (omega arith)) (piece_octets bytes all 21 8);
+        digest = subst (λ (d : Option (List ℕ)). IfSome d (λ x. length x ≡ 32)) (sym t.read) t.long;
       };
     }
 

@@ -1,4 +1,5 @@
 mod TableVectors
+pub mod Digests
 pub mod Slots
 pub mod StandingLemmas
 pub mod Inverse

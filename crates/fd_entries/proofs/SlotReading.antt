@@ -1,12 +1,12 @@
 -- The entry in a slot.
-use Rattle.std.proofs.Common.{◌≡◌, ℕ, zero, suc, ◌+◌, ◌*◌, ◌<◌, ◌≤◌, List, [], ◌∷◌, ◌++◌, length, drop, get_or, refl, sym, ◌∙◌, ap, arith, append_assoc}
+use Rattle.std.proofs.Common.{◌≡◌, ℕ, zero, suc, ◌+◌, ◌*◌, ◌<◌, ◌≤◌, List, [], ◌∷◌, ◌++◌, length, drop, get_or, refl, sym, ◌∙◌, ap, arith, append_assoc, None}
 use Rattle.std.proofs.lemmas.List.{drop_at, drop-drop}
 use Rattle.fd_entries.specs.declared.table.Entry.{Entry}
 use Rattle.fd_entries.specs.Table.{header, slots_of, body_of, gate_at, entry_in, IsTable, AllFit}
 use Rattle.fd_entries.proofs.Slots.{entry_read}
 
 pub no_entry : Entry
-no_entry = record { writer = 0; seq = 0; fields = 0; index_len = 0; fields_len = 0 }
+no_entry = record { writer = 0; seq = 0; fields = 0; index_len = 0; fields_len = 0; digest = None }
 
 -- what stands in front of the gate that follows the entries
 pub record Front (es : List Entry) (bytes : List ℕ) : Type 0 where

@@ -1,14 +1,21 @@
 -- What tables of entries list.
-use Rattle.std.proofs.Common.{◌≡◌, ◌≢◌, ℕ, zero, suc, ◌+◌, ◌*◌, ◌^◌, ◌<◌, ◌≤◌, List, [], ◌∷◌, ◌++◌, length, take, drop, refl, sym, ◌∙◌, ap, arith, append_assoc, length-append, take-append-drop, None, Ok}
+use Rattle.std.proofs.Common.{◌≡◌, ◌≢◌, ℕ, zero, suc, ◌+◌, ◌*◌, ◌^◌, ◌<◌, ◌≤◌, List, [], ◌∷◌, ◌++◌, length, take, drop, refl, sym, ◌∙◌, ap, arith, append_assoc, length-append, take-append-drop, ◌==◌, if◌then◌else◌, Option, None, Some, Ok}
 use Rattle.std.proofs.lemmas.Bool.Decides.{nat_tests}
 use Rattle.std.proofs.lemmas.List.{take_at, drop_at, length-replicate}
 use Rattle.std.proofs.lemmas.Nat.{from_be_bytes-to_be_bytes_4, from_be_bytes-to_be_bytes_8}
 use Rattle.std.specs.Int.{w32, to_be_bytes, byte_at}
+use Rattle.std.specs.Prelude.{IfSome}
 use Rattle.fd_entries.specs.declared.table.Entry.{Entry}
-use Rattle.fd_entries.specs.Table.{header, body_of, slots_of, gate_at, greatest_writer, mismatch, fixed, exceeds, or_else, entry_fault, entry_in, with_entry, unless_fault, run_from, listed, table_of, Fits, AllFit, IsTable}
+use Rattle.fd_entries.specs.Table.{any_octets, digest_octets, kind_of, tail_octets, header, body_of, slots_of, gate_at, greatest_writer, mismatch, fixed, exceeds, or_else, entry_fault, entry_in, with_entry, unless_fault, run_from, listed, table_of, Fits, AllFit, IsTable}
+use Rattle.fd_entries.proofs.Digests.{octets_are}
 
 pub length-body : (e : Entry) → length (body_of e) ≡ 63
 length-body e = refl
+
+-- a digest that was read from the octets of a body
+digest_read : (d : Option (List ℕ)) → IfSome d (λ x. length x ≡ 32) → (if kind_of d == 2 then Some (digest_octets 32 0 d) else None) ≡ d
+digest_read None long = refl
+digest_read (Some d) long = ap Some (octets_are d long)
 
 pub entry_read : (i : ℕ) (e : Entry) (rest : List ℕ) → Fits i e → i < 65535 → entry_in (body_of e ++ rest) ≡ e
 entry_read i e rest fits small =
@@ -18,7 +25,8 @@ entry_read i e rest fits small =
     let f = from_be_bytes-to_be_bytes_4 e.fields fits.fields in
     let x = from_be_bytes-to_be_bytes_8 e.index_len fits.index_len in
     let y = from_be_bytes-to_be_bytes_8 e.fields_len fits.fields_len in
-    λ j. record { writer = w j; seq = s j; fields = f j; index_len = x j; fields_len = y j }
+    let d = digest_read e.digest fits.digest in
+    λ j. record { writer = w j; seq = s j; fields = f j; index_len = x j; fields_len = y j; digest = d j }
 
 -- four octets that are worth no more
 four : (at a b c d a' b' c' d' : ℕ) → a < 256 → b < 256 → c < 256 → d < 256 → a' < 256 → b' < 256 → c' < 256 → d' < 256
@@ -33,8 +41,25 @@ not_greater at m n le small =
     four at (byte_at 3 n) (byte_at 2 n) (byte_at 1 n) (byte_at 0 n) (byte_at 3 m) (byte_at 2 m) (byte_at 1 m) (byte_at 0 m)
     (omega arith) (omega arith) (omega arith) (omega arith) (omega arith) (omega arith) (omega arith) (omega arith) (omega (arith, en, em))
 
+-- so many places further
+abbrev past : ℕ → ℕ → ℕ
+past zero at = at
+past (suc n) at = past n (at + 1)
+
+kind_met : (d : Option (List ℕ)) (at : ℕ) (rest : List ℕ) (p : List (Option ℕ)) → mismatch at (Some (if kind_of d == 2 then 2 else 1) ∷ p) (kind_of d ∷ rest) ≡ mismatch (at + 1) p rest
+kind_met None at rest p = refl
+kind_met (Some d) at rest p = refl
+
+tail_met : (d : Option (List ℕ)) (at : ℕ) (rest : List ℕ) → mismatch at (tail_octets (kind_of d == 2)) (digest_octets 32 0 d ++ 0 ∷ 0 ∷ rest) ≡ None
+tail_met None at rest = refl
+tail_met (Some d) at rest = refl
+
 pub no_fault : (i : ℕ) (e : Entry) (rest : List ℕ) → Fits i e → i < 65535 → entry_fault i (body_of e ++ rest) ≡ None
-no_fault i e rest fits small = ap (λ f. or_else f None) (not_greater (gate_at i + 2) (greatest_writer i) e.writer fits.writer (omega arith))
+no_fault i e rest fits small =
+    let kind = kind_met e.digest (gate_at i + 1) (drop 1 (body_of e ++ rest)) (any_octets 4) in
+    let writer = not_greater (gate_at i + 2) (greatest_writer i) e.writer fits.writer (omega arith) in
+    let tail = tail_met e.digest (past 24 (gate_at i + 6)) rest in
+    λ j. or_else (kind j) (or_else (writer j) (tail j))
 
 pub run-slots : (room i : ℕ) (es : List Entry) (gate : ℕ) (tail : List ℕ) → AllFit i es → length es ≤ room → i + length es ≤ 65535 → gate ≢ 79 → run_from room i (slots_of es ++ gate ∷ tail) ≡ Ok es
 run-slots zero i [] gate tail fit few small shut = grind (arith, nat_tests)

@@ -1,5 +1,5 @@
 -- The table of contents: a header, then slots of 64 bytes, each a gate and an entry.
-use Rattle.std.specs.Prelude.{◌≡◌, ◌≢◌, ◌⊎◌, ◌↔◌, slice_get, slice_index, unwrap_or, ◌+◌, ◌-◌, ◌*◌, ◌^◌, ◌<◌, ◌≤◌, ◌==◌, ℕ, zero, suc, nat_lt, List, [], ◌∷◌, ◌++◌, if◌then◌else◌, length, take, drop, replicate, Option, Some, None, Result, Ok, Err, codes}
+use Rattle.std.specs.Prelude.{◌≡◌, ◌≢◌, ◌⊎◌, ◌↔◌, slice_get, slice_index, unwrap_or, ◌+◌, ◌-◌, ◌*◌, ◌^◌, ◌<◌, ◌≤◌, ◌==◌, ℕ, zero, suc, nat_lt, Bool, true, false, IfSome, List, [], ◌∷◌, ◌++◌, if◌then◌else◌, length, take, drop, replicate, Option, Some, None, Result, Ok, Err, codes}
 use Rattle.std.specs.Int.{w16, w32, w64, to_be_bytes, from_be_bytes}
 use Rattle.fd_disk.specs.declared.file.File.{File}
 use Rattle.fd_disk.specs.Images.{written}
@@ -10,9 +10,24 @@ use Rattle.fd_entries.specs.declared.table.NotATable.{NotATable}
 abbrev pub header : List ℕ → List ℕ
 header dataset = codes "FDTOC001" ++ to_be_bytes w16 (length dataset) ++ dataset ++ replicate (310 - length dataset) 0
 
--- what stands behind the gate of a slot
+-- an entry is of kind 2 where it has a digest, and else of kind 1
+abbrev pub kind_of : Option (List ℕ) → ℕ
+kind_of None = 1
+kind_of (Some digest) = 2
+
+-- an octet of the digest, and zero where there is none
+abbrev pub digest_octet : Option (List ℕ) → ℕ → ℕ
+digest_octet None i = 0
+digest_octet (Some digest) i = slice_index digest i
+
+-- so many of them, from the place i on
+abbrev pub digest_octets : ℕ → ℕ → Option (List ℕ) → List ℕ
+digest_octets zero i digest = []
+digest_octets (suc n) i digest = digest_octet digest i ∷ digest_octets n (i + 1) digest
+
+-- what stands behind the gate of a slot: the kind, the numbers, the 32 octets of the digest, and two zeros
 abbrev pub body_of : Entry → List ℕ
-body_of e = 1 ∷ to_be_bytes w32 e.writer ++ to_be_bytes w32 e.seq ++ to_be_bytes w32 e.fields ++ to_be_bytes w64 e.index_len ++ to_be_bytes w64 e.fields_len ++ replicate 34 0
+body_of e = kind_of e.digest ∷ to_be_bytes w32 e.writer ++ to_be_bytes w32 e.seq ++ to_be_bytes w32 e.fields ++ to_be_bytes w64 e.index_len ++ to_be_bytes w64 e.fields_len ++ digest_octets 32 0 e.digest ++ replicate 2 0
 
 -- open slots of these entries
 abbrev pub slots_of : List Entry → List ℕ
@@ -52,12 +67,22 @@ abbrev pub or_else : Option NotATable → Option NotATable → Option NotATable
 or_else (Some f) next = Some f
 or_else None next = next
 
--- the first fault of the entry in slot i, whose 63 bytes begin here
+-- whether the slot whose bytes begin here is of kind 2
+abbrev pub has_digest : List ℕ → Bool
+has_digest [] = false
+has_digest (kind ∷ rest) = kind == 2
+
+-- the octets behind the numbers: in kind 1 zeros, in kind 2 a digest, and two zeros
+abbrev pub tail_octets : Bool → List (Option ℕ)
+tail_octets false = fixed (replicate 34 0)
+tail_octets true = any_octets 32 ++ fixed (replicate 2 0)
+
+-- The first fault of the entry in slot i, whose 63 bytes begin here. Where the kind is neither 1 nor 2, 1 is wanted.
 abbrev pub entry_fault : ℕ → List ℕ → Option NotATable
 entry_fault i bytes =
-    or_else (mismatch (gate_at i + 1) (Some 1 ∷ any_octets 4) bytes)
+    or_else (mismatch (gate_at i + 1) (Some (if has_digest bytes then 2 else 1) ∷ any_octets 4) bytes)
     (or_else (exceeds (gate_at i + 2) (to_be_bytes w32 (greatest_writer i)) (take 4 (drop 1 bytes)))
-    (mismatch (gate_at i + 6) (any_octets 24 ++ fixed (replicate 34 0)) (drop 5 bytes)))
+    (mismatch (gate_at i + 6) (any_octets 24 ++ tail_octets (has_digest bytes)) (drop 5 bytes)))
 
 abbrev pub entry_in : List ℕ → Entry
 entry_in bytes = record {
@@ -66,6 +91,7 @@ entry_in bytes = record {
   fields = from_be_bytes w32 (take 4 (drop 9 bytes));
   index_len = from_be_bytes w64 (take 8 (drop 13 bytes));
   fields_len = from_be_bytes w64 (take 8 (drop 21 bytes));
+  digest = if has_digest bytes then Some (take 32 (drop 29 bytes)) else None;
 }
 
 abbrev pub with_entry : Entry → Result (List Entry) NotATable → Result (List Entry) NotATable
@@ -76,13 +102,14 @@ abbrev pub unless_fault : Option NotATable → Result (List Entry) NotATable →
 unless_fault (Some f) result = Err f
 unless_fault None result = result
 
--- each number of an entry fits its octets, and its writer its slot
+-- each number of an entry fits its octets, and its writer its slot; a digest has 32 octets
 pub record Fits (i : ℕ) (e : Entry) : Type 0 where
   pub writer : e.writer ≤ greatest_writer i
   pub seq : e.seq < 2 ^ 32
   pub fields : e.fields < 2 ^ 32
   pub index_len : e.index_len < 2 ^ 64
   pub fields_len : e.fields_len < 2 ^ 64
+  pub digest : IfSome e.digest (λ d. length d ≡ 32)
 
 abbrev pub AllFit : ℕ → List Entry → Type 0
 AllFit i [] = Unit {0}

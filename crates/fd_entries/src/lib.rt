@@ -16,4 +16,4 @@ pub use listed::{entries_of, entry_at};
 pub use numbers::greatest;
 pub use rows::{distinct_of, distinct_with, rows_len, rows_of, total_of};
 pub use segments::{newest_in, read_pairs};
-pub use table::{CLOSED, Entry, NotATable, OPEN, gate_at};
+pub use table::{CLOSED, Entry, NotATable, OPEN, gate_at, has_digest};

@@ -1,6 +1,6 @@
-ghost use Rattle.std.specs.Prelude.{◌≡◌, ◌≤◌, ◌<◌, ◌^◌, ◌++◌, [], ◌∷◌, length};
+ghost use Rattle.std.specs.Prelude.{◌≡◌, ◌≤◌, ◌<◌, ◌^◌, ◌++◌, [], ◌∷◌, Some, None, if◌then◌else◌, length, take, drop};
 ghost use Rattle.std.specs.Int.{w32, w64, from_be_bytes};
-ghost use Rattle.fd_entries.specs.Table.{body_of, entry_in, gate_at};
+ghost use Rattle.fd_entries.specs.Table.{body_of, digest_octets, entry_in, gate_at, has_digest, kind_of};
 
 /// The byte of an open gate.
 pub const OPEN: u8 = 0x4F;
@@ -52,6 +52,8 @@ pub struct Entry {
     pub index_len: u64,
     /// The length of the field file in bytes.
     pub fields_len: u64,
+    /// The SHA-256 of the index file, where the batch has digests.
+    pub digest: Option<[u8; 32]>,
 }
 
 impl Entry {
@@ -66,6 +68,7 @@ impl Entry {
             fields: number_4(&bytes[9..13]),
             index_len: number_8(&bytes[13..21]),
             fields_len: number_8(&bytes[21..29]),
+            digest: digest_in(bytes),
         }
     }
 
@@ -78,13 +81,72 @@ impl Entry {
         let f = self.fields.to_be_bytes();
         let x = self.index_len.to_be_bytes();
         let y = self.fields_len.to_be_bytes();
+        let k = kind_of(&self.digest);
+        let d = octets_of(&self.digest);
         [
-            1, w[0], w[1], w[2], w[3], s[0], s[1], s[2], s[3], f[0], f[1], f[2], f[3], x[0], x[1],
-            x[2], x[3], x[4], x[5], x[6], x[7], y[0], y[1], y[2], y[3], y[4], y[5], y[6], y[7], 0,
-            0, 0, 0, 0, 0, 0, 0, 0, 0, 0, 0, 0, 0, 0, 0, 0, 0, 0, 0, 0, 0, 0, 0, 0, 0, 0, 0, 0, 0,
-            0, 0, 0, 0, 0,
+            k, w[0], w[1], w[2], w[3], s[0], s[1], s[2], s[3], f[0], f[1], f[2], f[3], x[0], x[1],
+            x[2], x[3], x[4], x[5], x[6], x[7], y[0], y[1], y[2], y[3], y[4], y[5], y[6], y[7],
+            d[0], d[1], d[2], d[3], d[4], d[5], d[6], d[7], d[8], d[9], d[10], d[11], d[12], d[13],
+            d[14], d[15], d[16], d[17], d[18], d[19], d[20], d[21], d[22], d[23], d[24], d[25],
+            d[26], d[27], d[28], d[29], d[30], d[31], 0, 0, 0,
         ]
     }
+}
+
+/// The kind of an entry with this digest, or without one.
+fn kind_of(digest: &Option<[u8; 32]>) -> u8
+    ensures { result ≡ kind_of digest.now }
+{
+    match digest {
+        None => 1,
+        Some(_) => 2,
+    }
+}
+
+/// The octets of the digest, or zeros where there is none.
+fn octets_of(digest: &Option<[u8; 32]>) -> [u8; 32]
+    ensures { result ≡ digest_octets 32 0 digest.now }
+{
+    match digest {
+        None => [0; 32],
+        Some(d) => [
+            d[0], d[1], d[2], d[3], d[4], d[5], d[6], d[7], d[8], d[9], d[10], d[11], d[12], d[13],
+            d[14], d[15], d[16], d[17], d[18], d[19], d[20], d[21], d[22], d[23], d[24], d[25],
+            d[26], d[27], d[28], d[29], d[30], d[31],
+        ],
+    }
+}
+
+/// The digest of the entry whose body begins these bytes, where it is of kind 2.
+fn digest_in(bytes: &[u8]) -> Option<[u8; 32]>
+    requires { 63 ≤ length bytes.now }
+    ensures { result ≡ (if has_digest bytes.now then Some (take 32 (drop 29 bytes.now)) else None) }
+{
+    if has_digest(bytes) {
+        Some(digest_behind(bytes))
+    } else {
+        None
+    }
+}
+
+/// Whether the slot whose body begins these bytes is of kind 2.
+pub fn has_digest(bytes: &[u8]) -> bool
+    ensures { result ≡ has_digest bytes.now }
+{
+    match bytes {
+        [] => false,
+        [kind, ..] => *kind == 2,
+    }
+}
+
+/// The 32 octets behind the numbers of a body.
+fn digest_behind(bytes: &[u8]) -> [u8; 32]
+    requires { 63 ≤ length bytes.now }
+    ensures { result ≡ take 32 (drop 29 bytes.now) }
+{
+    let mut octets = [0; 32];
+    octets.copy_from_slice(&bytes[29..61]);
+    octets
 }
 
 /// The first octet of a table that is not in the format.

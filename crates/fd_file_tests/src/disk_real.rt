@@ -364,3 +364,101 @@ fn gathers_writes_and_reads_ahead(rt: HostRuntime) {
     };
     assert!(rt; is_right);
 }
+
+/// Tells that a folder gives a shelf to a writer.
+fn gives_shelf<F: Send + Drop, D: Folder<F>>(alloc: Global, folder: &mut D, writer: u32) -> bool
+where
+    requires writer { D.last_writer folder.old < writer }
+    ensures writer { D.last_writer folder.new ≤ writer }
+    ensures out { D.table_out folder.new ≡ D.table_out folder.old }
+    ensures name { D.name folder.new ≡ D.name folder.old }
+{
+    match folder.shelf(alloc, writer) {
+        Ok(shelf) => {
+            folder.give_shelf(shelf);
+            true
+        }
+        Err(_) => false,
+    }
+}
+
+/// Tells that the second of two folders of a dataset gives a shelf only once the first is let go.
+fn one_writes<F: Send + Drop, D: Folder<F>>(alloc: Global, first: D, mut second: D) -> bool
+where
+    requires first { D.last_writer first ≡ 0 }
+    requires second { D.last_writer second ≡ 0 }
+{
+    if !is_kept_out(alloc, first, &mut second) {
+        return false;
+    }
+    gives_shelf(alloc, &mut second, 2)
+}
+
+/// Tells that the first of two folders gives a shelf, and then the second doesn't.
+fn is_kept_out<F: Send + Drop, D: Folder<F>>(alloc: Global, mut first: D, second: &mut D) -> bool
+where
+    requires first { D.last_writer first ≡ 0 }
+    requires second { D.last_writer second.old ≡ 0 }
+    ensures writer { D.last_writer second.new ≤ 1 }
+{
+    gives_shelf(alloc, &mut first, 1) && !gives_shelf(alloc, second, 1)
+}
+
+#[test]
+fn one_writes_to_a_dataset(rt: HostRuntime) {
+    let is_right = match (
+        folder(rt.alloc(), rt, "class=wd"),
+        folder(rt.alloc(), rt, "class=wd"),
+    ) {
+        (Some(first), Some(second)) => one_writes(rt.alloc(), first, second),
+        _ => false,
+    };
+    assert!(rt; is_right);
+}
+
+/// A folder whose table is out and was read whole.
+fn with_read_table<F: Send + Drop, D: Folder<F>>(alloc: Global, folder: &mut D) -> bool
+where
+    requires back { D.table_out folder.old ≡ false }
+    ensures writer { D.last_writer folder.new ≡ D.last_writer folder.old }
+{
+    let Ok(Some(mut table)) = folder.table(alloc) else {
+        return false;
+    };
+    let mut bytes = [0u8; 16];
+    matches!(table.read_at(0, &mut bytes), Ok(5))
+}
+
+/// Tells that a table that is written anew once it was read keeps its folder from giving a shelf, and another doesn't.
+fn is_stale(rt: HostRuntime, bytes: &[u8]) -> Option<bool> {
+    fs::create_dir_all(&rt, "class=sd").ok()?;
+    fs::write(&rt, "class=sd/toc", b"table".as_slice()).ok()?;
+    let mut folder = folder(rt.alloc(), rt, "class=sd")?;
+    if !with_read_table(rt.alloc(), &mut folder) {
+        return None;
+    }
+    fs::write(&rt, "class=sd/toc", bytes).ok()?;
+    Some(!gives_shelf(rt.alloc(), &mut folder, 1))
+}
+
+#[test]
+fn tells_a_stale_table(rt: HostRuntime) {
+    assert!(rt; is_stale(rt, b"tablE") == Some(true) && is_stale(rt, b"tables") == Some(true));
+    assert!(rt; is_stale(rt, b"table") == Some(false));
+}
+
+/// Tells that of what stands in a root of its own only the folder of a dataset is named.
+fn names_datasets(rt: HostRuntime) -> Option<bool> {
+    fs::create_dir_all(&rt, "strays/lost+found").ok()?;
+    fs::create_dir_all(&rt, "strays/class=od").ok()?;
+    fs::write(&rt, "strays/class=rd", b"no folder".as_slice()).ok()?;
+    let mut store = RealStore::new(rt.alloc(), rt).ok()?;
+    store.enter(rt.alloc(), "strays").ok()?;
+    let names = store.names(rt.alloc()).ok()?;
+    Some(names.len() == 1 && has_dataset(rt.alloc(), &mut store))
+}
+
+#[test]
+fn passes_over_strays(rt: HostRuntime) {
+    assert!(rt; names_datasets(rt) == Some(true));
+}

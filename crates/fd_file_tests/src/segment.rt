@@ -4,6 +4,7 @@ ghost use Rattle.fd_disk.specs.declared.folders.FileName.{FileName};
 ghost use Rattle.fd_disk.specs.declared.folders.FileKind.TheVariants.{Fields, Index};
 ghost use Rattle.fd_segment.specs.Filling.{IsOf};
 ghost use Rattle.fd_disk.specs.Names.{name_of};
+ghost use Rattle.fd_segment.specs.Held.{behind};
 
 use fd_disk::{Disk, FileKind, FileName, Folder, Reader, Sealed, Shelf, Store};
 use fd_disk_mem::{MemFault, MemFolder, MemShelf, MemStore, Op};
@@ -75,8 +76,8 @@ fn shelf(alloc: Global, fails: Fails, calls: u64) -> Option<MemShelf>
 fn put<F: Send + Drop, H: Shelf<F>>(draft: &mut Draft<F, H>, key: &[u8], bytes: &[u8]) -> Went
 where
     requires key { length key.now ≤ 256 }
-    requires sum { draft.old.end + length bytes.now < 2 ^ 63 }
-    ensures end { draft.new.end ≤ draft.old.end + length bytes.now }
+    requires sum { draft.old.end + (length bytes.now + 32) < 2 ^ 63 }
+    ensures end { draft.new.end ≤ draft.old.end + (length bytes.now + 32) }
     ensures origin { draft.new.origin ≡ draft.old.origin }
 {
     if draft.put(key, bytes).is_ok() {
@@ -92,7 +93,7 @@ where
 fn puts<F: Send + Drop, H: Shelf<F>>(draft: &mut Draft<F, H>) -> Went
 where
     requires empty { draft.old.end ≡ 0 }
-    ensures end { draft.new.end ≤ 549 }
+    ensures end { draft.new.end ≤ 645 }
     ensures origin { draft.new.origin ≡ draft.old.origin }
 {
     let first = put(draft, b"i|a", FIRST);
@@ -121,22 +122,36 @@ where
     }
 }
 
-/// Copies bytes of the batch into the sink.
+/// Checks bytes of the batch, and copies them into the sink.
+fn copy_once<F: Send + Drop, R: Reader<F>, X: Drop, K: Sink<X>>(
+    lens: &mut Lens<F, R>,
+    place: (u64, u64),
+    sink: &mut K,
+) -> bool
+where
+    requires inside { place.0 + place.1 + behind lens.old.files.entry ≤ lens.old.files.entry.fields_len }
+    ensures files { lens.new.files ≡ lens.old.files }
+{
+    let (at, len) = place;
+    lens.check(at, len).is_ok() && lens.copy_to(at, len, sink).is_ok()
+}
+
+/// The same, tried again where it failed.
 fn copy<F: Send + Drop, R: Reader<F>, X: Drop, K: Sink<X>>(
     lens: &mut Lens<F, R>,
     place: (u64, u64),
     sink: &mut K,
 ) -> Went
 where
-    requires inside { place.0 + place.1 ≤ lens.old.files.entry.fields_len }
+    requires inside { place.0 + place.1 + behind lens.old.files.entry ≤ lens.old.files.entry.fields_len }
 {
-    let (at, len) = place;
-    if lens.copy_to(at, len, sink).is_ok() {
+    if copy_once(lens, place, sink) {
         return AtOnce;
     }
-    match lens.copy_to(at, len, sink) {
-        Ok(()) => Again,
-        Err(_) => Never,
+    if copy_once(lens, place, sink) {
+        Again
+    } else {
+        Never
     }
 }
 
@@ -203,13 +218,16 @@ const UNCOPIED: [Went; 5] = [AtOnce, AtOnce, AtOnce, AtOnce, Never];
 const COPIED_AGAIN: [Went; 5] = [AtOnce, AtOnce, AtOnce, AtOnce, Again];
 
 /// The one call that fails, and how the life of the batch goes.
-const ONE_FAILS: [(Fails, [Went; 5]); 13] = [
+const ONE_FAILS: [(Fails, [Went; 5]); 18] = [
     (NOTHING, [AtOnce; 5]),
     (("a=1/1-1.fields", Op::Create, 1), UNMADE),
     (("a=1/1-1.index", Op::Create, 1), UNMADE),
     (("a=1/1-1.fields", Op::Write, 1), PUT_AGAIN),
     (("a=1/1-1.fields", Op::Write, 2), PUT_AGAIN),
     (("a=1/1-1.fields", Op::Write, 3), PUT_AGAIN),
+    (("a=1/1-1.fields", Op::Write, 4), PUT_AGAIN),
+    (("a=1/1-1.fields", Op::Write, 5), PUT_AGAIN),
+    (("a=1/1-1.fields", Op::Write, 6), PUT_AGAIN),
     (("a=1/1-1.fields", Op::Sync, 1), SEALED_AGAIN),
     (("a=1/1-1.index", Op::Write, 1), SEALED_AGAIN),
     (("a=1/1-1.index", Op::Sync, 1), SEALED_AGAIN),
@@ -217,6 +235,8 @@ const ONE_FAILS: [(Fails, [Went; 5]); 13] = [
     (("a=1/1-1.index", Op::Read, 2), UNOPENED),
     (("a=1/1-1.index", Op::Read, 3), UNCOPIED),
     (("a=1/1-1.fields", Op::Read, 1), COPIED_AGAIN),
+    (("a=1/1-1.fields", Op::Read, 2), COPIED_AGAIN),
+    (("a=1/1-1.fields", Op::Read, 3), COPIED_AGAIN),
 ];
 
 #[test]
@@ -229,10 +249,13 @@ fn each_call_fails_in_turn(rt: HostRuntime) {
     assert!(rt; run(rt.alloc(), NOTHING, u64::MAX, &[1]) == Some((COPIED_AGAIN, true)));
 }
 
-/// How the life of the batch goes where all calls after so many fail, from none to twelve.
-const REST_FAILS: [[Went; 5]; 13] = [
+/// How the life of the batch goes where all calls after so many fail, from none to seventeen.
+const REST_FAILS: [[Went; 5]; 18] = [
     UNMADE,
     UNMADE,
+    [AtOnce, Never, Never, Never, Never],
+    [AtOnce, Never, Never, Never, Never],
+    [AtOnce, Never, Never, Never, Never],
     [AtOnce, Never, Never, Never, Never],
     [AtOnce, Never, Never, Never, Never],
     [AtOnce, Never, Never, Never, Never],
@@ -241,6 +264,8 @@ const REST_FAILS: [[Went; 5]; 13] = [
     [AtOnce, AtOnce, Never, Never, Never],
     UNOPENED,
     UNOPENED,
+    UNCOPIED,
+    UNCOPIED,
     UNCOPIED,
     UNCOPIED,
     [AtOnce; 5],
@@ -314,7 +339,7 @@ where
     if field_file.len() < 183 || index_file.len() < 4120 {
         return None;
     }
-    let segment = Segment::new(1, 1, 1, 4120, 183, field_file, index_file);
+    let segment = Segment::new(1, 1, 1, 4120, 183, None, field_file, index_file);
     damage_in(alloc, &segment)
 }
 
@@ -376,6 +401,63 @@ fn damages(rt: HostRuntime) {
     assert!(rt; damage_at(rt.alloc(), 30, 0xB8) == Some(beyond));
 }
 
+/// The SHA-256 of `FIRST`.
+const DIGEST: [u8; 32] = [
+    0xD2, 0x08, 0x21, 0xEF, 0xE8, 0xBB, 0xF0, 0x9F, 0x15, 0x2A, 0x12, 0xB1, 0xB5, 0x6B, 0xD4, 0xB3,
+    0x83, 0xE5, 0x61, 0x89, 0xAE, 0x87, 0xEE, 0xA7, 0xAF, 0xD8, 0xBB, 0x2A, 0x6C, 0x86, 0xB8, 0x53,
+];
+
+/// What a check says of a batch of one field with digests, behind whose bytes this digest stands.
+fn checked<F: Send + Drop, H: Shelf<F>>(
+    alloc: Global,
+    shelf: &mut H,
+    digest: &[u8; 32],
+) -> Option<Result<(), Damage>>
+where
+    requires fields { H.created shelf.old (name_of (H.writer shelf.old) 1 Fields) ≡ false }
+    requires index { H.created shelf.old (name_of (H.writer shelf.old) 1 Index) ≡ false }
+{
+    let mut bytes = FIRST.to_vec(alloc).ok()?;
+    bytes.extend_from_slice(digest).ok()?;
+    let field_file = file_of(alloc, shelf, FileKind::Fields, &bytes)?;
+    let index = index_with(alloc, 0, b'F')?;
+    let index_file = file_of(alloc, shelf, FileKind::Index, &index)?;
+    if field_file.len() < 215 || index_file.len() < 4120 {
+        return None;
+    }
+    let segment = Segment::new(1, 1, 1, 4120, 215, Some([0; 32]), field_file, index_file);
+    let mut lens = segment.lens(alloc).ok()?;
+    match lens.check(0, 183) {
+        Ok(()) => Some(Ok(())),
+        Err(CheckFault::Damaged(damage)) => Some(Err(damage)),
+        Err(CheckFault::Fault(_)) => None,
+    }
+}
+
+/// The same in a store of its own.
+fn check_of(alloc: Global, digest: &[u8; 32]) -> Option<Result<(), Damage>> {
+    let mut shelf = shelf(alloc, NOTHING, u64::MAX)?;
+    checked(alloc, &mut shelf, digest)
+}
+
+#[test]
+fn digests(rt: HostRuntime) {
+    let file = name(FileKind::Fields);
+    let (at, got) = (0, DIGEST);
+    let mut want = DIGEST;
+    want[31] = 0;
+    assert!(rt; check_of(rt.alloc(), &DIGEST) == Some(Ok(())));
+    assert!(rt;
+        check_of(rt.alloc(), &want)
+            == Some(Err(Damage::FieldDigest {
+                file,
+                at,
+                want,
+                got
+            }))
+    );
+}
+
 /// A batch of three puts of two keys.
 fn sealed<F: Send + Drop, H: Shelf<F>>(
     alloc: Global,
@@ -407,12 +489,14 @@ fn places<F: Send + Drop, Z: Sealed<F>>(
     Some(([first, other], index.len()))
 }
 
-/// The entry of that batch, the places of keys, and the number of records.
+/// The entry of that batch without its digest, the places of keys, and the number of records.
 fn told(alloc: Global) -> Option<(Entry, [Option<(u64, u64)>; 2], u32)> {
     let mut shelf = shelf(alloc, NOTHING, u64::MAX)?;
     let segment = sealed(alloc, &mut shelf)?;
     let (places, count) = places(alloc, &segment)?;
-    Some((segment.entry(), places, count))
+    let mut entry = segment.entry();
+    entry.digest = None;
+    Some((entry, places, count))
 }
 
 #[test]
@@ -422,9 +506,10 @@ fn three_puts_of_two_keys(rt: HostRuntime) {
         seq: 1,
         fields: 2,
         index_len: 4120,
-        fields_len: 549,
+        fields_len: 645,
+        digest: None,
     };
-    assert!(rt; told(rt.alloc()) == Some((entry, [Some((366, 183)), None], 2)));
+    assert!(rt; told(rt.alloc()) == Some((entry, [Some((430, 183)), None], 2)));
 }
 
 fn shared<T: Send + Sync>(_: &T) {}

@@ -6,7 +6,7 @@ use Rattle.std.proofs.lemmas.Option.{slice_get_within, same_Some}
 use Rattle.fd_entries.specs.declared.batch.Pair.{Pair}
 use Rattle.fd_entries.specs.Batches.{newest, of_batch, or_older}
 use Rattle.fd_segment.specs.Copying.{IsOfBatch, bytes_at}
-use Rattle.fd_segment.specs.Held.{Files, Standing, batch_of, batch_told}
+use Rattle.fd_segment.specs.Held.{Files, Standing, batch_of, batch_told, behind}
 use Rattle.fd_dataset.specs.Listed.{listing}
 use Rattle.fd_retriever.specs.Kept.{IsNumbered}
 use Rattle.fd_retriever.specs.Answers.{LackBehind, Tells}
@@ -15,7 +15,7 @@ use Rattle.fd_retriever.proofs.Newest.{here, missed_here, none_at_end}
 use Rattle.fd_retriever.proofs.Saying.{lack_at_end, lack_more}
 use Rattle.fd_finding.specs.declared.spot.Sought.{Sought}
 use Rattle.fd_finding.specs.declared.spot.Spot.{Spot}
-use Rattle.fd_finding.specs.Spots.{AllSayOf, IsAnswer, IsNewestAt, IsShown, IsWithin}
+use Rattle.fd_finding.specs.Spots.{AllSayOf, IsAnswer, IsNewestAt, IsShown, IsWithin, SaysAt}
 use Rattle.fd_finding.specs.Searching.{Finds, FindsAt, FindsMore, IsFound, IsSoFar, Lacks, Looked, SoFar}
 
 -- before the last segment is searched
@@ -92,5 +92,9 @@ is_within ss key (Some p) f = record {
   to = let lt = slice_get_within ss (p.number - 1) f.segment f.numbered.1 in omega (arith, lt, f.numbered.0);
   ends = λ s is.
       let own : f.segment ≡ s = same_Some f.segment s (sym f.numbered.1 ∙ is) in
-      subst (λ (u : Standing). p.at + p.len ≤ u.files.entry.fields_len) own f.found.inside;
+      subst (λ (u : Standing). p.at + p.len + behind u.files.entry ≤ u.files.entry.fields_len) own f.found.inside;
+  key = key;
+  said = λ s is.
+      let own : f.segment ≡ s = same_Some f.segment s (sym f.numbered.1 ∙ is) in
+      subst (λ (u : Standing). SaysAt u.files key p.at p.len) own f.found.says;
 }

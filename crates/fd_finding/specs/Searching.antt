@@ -5,7 +5,7 @@ use Rattle.fd_entries.specs.declared.batch.Pair.{Pair}
 use Rattle.fd_entries.specs.Batches.{newest}
 use Rattle.fd_segment.specs.Causes.{OnDamaged}
 use Rattle.fd_segment.specs.Copying.{IsOfBatch}
-use Rattle.fd_segment.specs.Held.{Files, Standing}
+use Rattle.fd_segment.specs.Held.{Files, Standing, behind}
 use Rattle.fd_dataset.specs.Listed.{listing}
 use Rattle.fd_retriever.specs.declared.fault.Got.TheVariants.{Miss}
 use Rattle.fd_retriever.specs.Kept.{IsNumbered}
@@ -24,7 +24,7 @@ spot_of one = one.spot
 -- what a look-up of a key finds in the files of the segment with this number
 pub record FindsAt (f : Files) (number : ℕ) (key : List ℕ) (p : Spot) : Type 0 where
   pub here : p.number ≡ number
-  pub inside : p.at + p.len ≤ f.entry.fields_len
+  pub inside : p.at + p.len + behind f.entry ≤ f.entry.fields_len
   pub says : SaysAt f key p.at p.len
   pub batch : IsOfBatch f key (Some (p.at, p.len))
 

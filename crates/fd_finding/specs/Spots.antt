@@ -8,7 +8,7 @@ use Rattle.fd_schema.specs.Rules.{file_key}
 use Rattle.fd_schema.specs.Reading.{seen_place}
 use Rattle.fd_segment.specs.declared.fault.Damage.{Damage}
 use Rattle.fd_segment.specs.Causes.{IsBadFrame, IsBadIndex, IsFindDamage}
-use Rattle.fd_segment.specs.Held.{Files, Standing}
+use Rattle.fd_segment.specs.Held.{Files, Standing, behind}
 use Rattle.fd_retriever.specs.Kept.{IsNumbered}
 use Rattle.fd_retriever.specs.Answers.{IsSaid, LackBehind}
 use Rattle.fd_finding.specs.declared.spot.Spot.{Spot}
@@ -23,11 +23,11 @@ abbrev pub SaysAt : Files → List ℕ → ℕ → ℕ → Type 0
 SaysAt f key at len = IsSaid f key (Some (at, len))
 
 -- By the indexes of the segments a key's newest bytes stand there: the index of the segment with this number says so, the
--- bytes end within the fields, and the index of each later segment says that the key isn't there.
+-- bytes end within the fields, with their digest where there is one, and the index of each later segment says that the key isn't there.
 pub record IsShown (ss : List Standing) (key : List ℕ) (p : Spot) : Type 0 where
   pub segment : Standing
   pub numbered : IsNumbered ss p.number segment
-  pub inside : p.at + p.len ≤ segment.files.entry.fields_len
+  pub inside : p.at + p.len + behind segment.files.entry ≤ segment.files.entry.fields_len
   pub says : SaysAt segment.files key p.at p.len
   pub behind : LackBehind ss key p.number
 
@@ -50,11 +50,15 @@ abbrev pub IsAnswer : List Standing → List (List Pair) → List ℕ → Option
 IsAnswer ss t key (Some p) = IsNewestAt ss t key p
 IsAnswer ss t key None = newest t key ≡ None
 
--- The spot lies in a segment, and ends within its fields, so that its bytes can be copied.
+-- The spot lies in a segment, and ends within its fields, with its digest where there is one, so that its bytes can be
+-- checked and copied.
 pub record IsWithin (ss : List Standing) (p : Spot) : Type 0 where
   pub from : 1 ≤ p.number
   pub to : p.number ≤ length ss
-  pub ends : (s : Standing) → slice_get ss (p.number - 1) ≡ Some s → p.at + p.len ≤ s.files.entry.fields_len
+  pub ends : (s : Standing) → slice_get ss (p.number - 1) ≡ Some s → p.at + p.len + behind s.files.entry ≤ s.files.entry.fields_len
+  -- and the index says so of a key
+  pub key : List ℕ
+  pub said : (s : Standing) → slice_get ss (p.number - 1) ≡ Some s → SaysAt s.files key p.at p.len
 
 -- The damage stands in these files, in a part of them that is read for the keys: the index's first eight bytes or its footer
 -- aren't in the format at the place, or what a look-up of one of the keys meets is damaged.

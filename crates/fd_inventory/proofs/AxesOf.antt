@@ -8,7 +8,7 @@ use Rattle.fd_entries.specs.declared.batch.Pair.{Pair}
 use Rattle.fd_key.specs.Pairs as keys
 use Rattle.fd_key.specs.Pairs.{key_text, text_of}
 use Rattle.fd_key.specs.Given.{pieces_of}
-use Rattle.fd_key.specs.Numerals.{cut, ◌>>=◌}
+use Rattle.fd_spelling.specs.Numerals.{cut, ◌>>=◌}
 use Rattle.fd_schema.specs.Grammar.{is_ascii}
 use Rattle.fd_request.specs.Expansion.{Keyword}
 use Rattle.fd_outcome.specs.Asking.{is_among}

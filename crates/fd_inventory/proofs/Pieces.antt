@@ -2,7 +2,7 @@
 use Rattle.std.proofs.Common.{◌≡◌, ◌∙◌, ℕ, ◌+◌, ◌≤◌, Bool, true, false, List, [], ◌∷◌, ◌++◌, length, Option, Some, None, is_some, cond, refl, sym, ap, subst, arith, length-append}
 use Rattle.fd_key.specs.Pairs as keys
 use Rattle.fd_key.specs.Pairs.{text_of, with_pair}
-use Rattle.fd_key.specs.Numerals.{cut, ◌>>=◌}
+use Rattle.fd_spelling.specs.Numerals.{cut, ◌>>=◌}
 use Rattle.fd_key.proofs.PairLaws.{with_new_pair}
 use Rattle.fd_outcome.specs.Rows.{if_pair, if_new, with_piece, with_pieces}
 

@@ -1,8 +1,8 @@
 // The keys that stand in the files of a dataset.
 ghost use Rattle.std.specs.Prelude.{◌≡◌, ◌<◌, ◌≤◌, ◌+◌, ◌-◌, ◌^◌, ◌∷◌, Some, None, IfOk, IfSome, IsTrue, MatchOption, length, option_map, if◌then◌else◌};
 ghost use Rattle.std.specs.Option.{option_copied};
-ghost use Rattle.fd_key.specs.Names.{is_name, is_value};
-ghost use Rattle.fd_key.specs.Numerals.{cut};
+ghost use Rattle.fd_spelling.specs.Names.{is_name, is_value};
+ghost use Rattle.fd_spelling.specs.Numerals.{cut};
 ghost use Rattle.fd_key.specs.Given.{pieces_of};
 ghost use Rattle.fd_outcome.specs.Rows.{if_pair, stored, stored_at, with_piece, with_text};
 ghost use Rattle.fd_inventory.specs.Keys.{IsStored, pieces_if};
@@ -24,7 +24,7 @@ pub struct StoredKey {
 }
 
 /// What stands before the first `=`, and what stands behind it.
-#[tactic(auto, unfolding(fd_key::specs::Numerals::cut))]
+#[tactic(auto, unfolding(fd_spelling::specs::Numerals::cut))]
 fn at_equals(text: &str) -> Option<(&str, &str)>
     ensures { option_map (λ p. (p.0.now, p.1.now)) result ≡ cut 61 text.now }
 {
@@ -32,7 +32,7 @@ fn at_equals(text: &str) -> Option<(&str, &str)>
 }
 
 /// What stands before the first comma, and what stands behind it.
-#[tactic(auto, unfolding(fd_key::specs::Numerals::cut))]
+#[tactic(auto, unfolding(fd_spelling::specs::Numerals::cut))]
 fn at_comma(text: &str) -> Option<(&str, &str)>
     ensures { option_map (λ p. (p.0.now, p.1.now)) result ≡ cut 44 text.now }
 {
@@ -40,7 +40,7 @@ fn at_comma(text: &str) -> Option<(&str, &str)>
 }
 
 /// What stands before the first vertical line, and what stands behind it.
-#[tactic(auto, unfolding(fd_key::specs::Numerals::cut))]
+#[tactic(auto, unfolding(fd_spelling::specs::Numerals::cut))]
 fn at_line(text: &str) -> Option<(&str, &str)>
     ensures { option_map (λ p. (p.0.now, p.1.now)) result ≡ cut 124 text.now }
 {

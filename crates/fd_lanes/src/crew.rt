@@ -15,7 +15,7 @@ ghost use Rattle.fd_lanes.specs.Fits.{Keeps};
 ghost use Rattle.fd_lanes.specs.Jobs.{AllKept, archivers_of, AreKeptFrom, ends_of, IsFresh, IsReady, IsRoom, MayBegin, owners_of, RanAt, Ran, TookIn, writers_of};
 
 use crate::end::{End, Ends};
-use crate::lane::{Job, LaneJob, LaneRoom, Room};
+use crate::lane::{Job, LaneJob, LaneMeans, LaneRoom, Means, Room};
 use crate::places::places_at;
 use crate::steps::run_lane;
 use fd_archiver::Archiver;
@@ -94,6 +94,53 @@ fn settled<F: Send, T: Disk<F>, Z: Sealed<F>, R: Wait>(
 {
     let snapshot = dataset.snapshot(rt, alloc, pass)?;
     Ok(snapshot.len())
+}
+
+type Vacant<J, A, E> = (Vec<J>, Vec<A>, Vec<E>);
+
+// Room for so many of each.
+fn vacant<J: Drop, A: Drop, E: Drop>(alloc: Global, n: usize) -> Result<Vacant<J, A, E>, NoMemory>
+    ensures first { IfOk result (λ v. (v.0.items ≡ []) × (vec_capacity v.0 ≡ n)) }
+    ensures others { IfOk result (λ v. (v.1.items ≡ []) × (vec_capacity v.1 ≡ n) × (v.2.items ≡ []) × (vec_capacity v.2 ≡ n)) }
+{
+    let first = Vec::with_capacity(alloc, n)?;
+    let second = Vec::with_capacity(alloc, n)?;
+    Ok((first, second, Vec::with_capacity(alloc, n)?))
+}
+
+// All that is listed, as a number, and room for so many lanes.
+fn prepared<F: Send + Drop, T: Disk<F>, H: Shelf<F>, R: Wait>(
+    rt: &R,
+    alloc: Global,
+    dataset: &Dataset<F, T, H::Sealed>,
+    pass: &mut DatasetPass<F, T, H::Sealed>,
+    n: usize,
+) -> Result<LaneMeans<F, T, H>, NoMemory>
+where
+    requires own { IsOf dataset.now pass.old }
+    requires free { (view pass.old).lock ≡ Free }
+    requires all { (view pass.old).parts ≡ all_parts }
+    ensures own { IsSame pass.old pass.new }
+    ensures keeps { Keeps (view pass.old) (view pass.new) }
+    ensures amount { (view pass.new).amount ≡ (view pass.old).amount }
+    ensures doubts { (view pass.new).doubts ≡ (view pass.old).doubts }
+    ensures number { IfOk result (λ m. (m.before ≡ length (view pass.new).history) × (m.before ≡ (view pass.old).opening + (view pass.old).amount)) }
+    ensures rooms { IfOk result (λ m. (length m.rooms.items ≡ n) × All IsRoom m.rooms.items) }
+    ensures jobs { IfOk result (λ m. (m.jobs.items ≡ []) × (vec_capacity m.jobs ≡ n)) }
+    ensures back { IfOk result (λ m. (m.back.items ≡ []) × (vec_capacity m.back ≡ n) × (m.ends.items ≡ []) × (vec_capacity m.ends ≡ n)) }
+{
+    let before = settled(rt, alloc, dataset, pass)?;
+    let rooms = rooms::<F, H>(alloc, n)?;
+    match vacant(alloc, n) {
+        Ok((jobs, back, ends)) => Ok(Means {
+            before,
+            rooms,
+            jobs,
+            back,
+            ends,
+        }),
+        Err(NoMemory) => Err(NoMemory),
+    }
 }
 
 // A job for each archiver, with a pass that is split off.
@@ -326,21 +373,16 @@ where
         mut pass,
     } = crew;
     let n = archivers.len();
-    let Ok(rooms) = rooms::<F, H>(alloc, n) else {
+    let Ok(means) = prepared::<F, T, H, R>(rt, alloc, dataset, &mut pass, n) else {
         return Err((Crew { archivers, pass }, NoMemory));
     };
-    let Ok(jobs) = Vec::with_capacity(alloc, n) else {
-        return Err((Crew { archivers, pass }, NoMemory));
-    };
-    let Ok(back) = Vec::with_capacity(alloc, n) else {
-        return Err((Crew { archivers, pass }, NoMemory));
-    };
-    let Ok(ends) = Vec::with_capacity(alloc, n) else {
-        return Err((Crew { archivers, pass }, NoMemory));
-    };
-    let Ok(before) = settled(rt, alloc, dataset, &mut pass) else {
-        return Err((Crew { archivers, pass }, NoMemory));
-    };
+    let Means {
+        before,
+        rooms,
+        jobs,
+        back,
+        ends,
+    } = means;
     let its = script.lanes();
     let (archivers, ends) = run_crew(
         rt, alloc, gate, its, schema, messages, places, dataset, &mut pass, archivers, rooms, jobs,

@@ -20,7 +20,7 @@ use Rattle.fd_turn.specs.Passes.{BoardId}
 use Rattle.fd_turn.specs.Views.{first_view}
 use Rattle.fd_dataset.specs.Listed.{listing_of, listings}
 use Rattle.fd_segment.specs.Shared.{entries, entry_of, standings}
-use Rattle.fd_recovery.specs.Recovered.{all_of, batches_listed, held, held_by}
+use Rattle.fd_recovery.specs.Recovered.{ReadsIndex, TableFailed, all_of, batches_listed, held, held_by}
 use Rattle.fd_recovery.specs.declared.fault.OpenFault.{OpenFault}
 use Rattle.fd_recovery.specs.declared.fault.OpenFault.TheVariants as whole
 use Rattle.fd_recovery.specs.Causes.{OnDisk}
@@ -114,9 +114,19 @@ told_at : {C : Type 0} (has : Option C) (store : Option Holdings) (f : Holdings 
 told_at has None f is = tt
 told_at has (Some s) f is = is
 
+-- a fault of an opening, whose folder failed, or its table, or the file of an index
+pub broke_cause : {F T : Type 0} (e : OpenFault F) (file : T → Option File) (broke : T → ℕ) (old new : Option Contents) (name : List ℕ) (P Q : Type 0) → (P → Q) → OnDisk e (P ⊎ (TableFailed file broke old new ⊎ ReadsIndex name new)) → OnDisk e (Q ⊎ TableBroke file broke new name)
+broke_cause (whole.Disk f) file broke old new name P Q on (inl rose) = inl (on rose)
+broke_cause (whole.Disk f) file broke old new name P Q on (inr (inl failed)) = inr (inl (old, failed))
+broke_cause (whole.Disk f) file broke old new name P Q on (inr (inr reads)) = inr (inr reads)
+broke_cause (whole.NotATable at want found) file broke old new name P Q on cause = tt
+broke_cause (whole.Damaged d) file broke old new name P Q on cause = tt
+broke_cause (whole.TooMany count) file broke old new name P Q on cause = tt
+broke_cause whole.NoMemory file broke old new name P Q on cause = tt
+
 -- a fault of the folder, or of its table
 pub folder_cause : {F D T : Type 0} (e : OpenFault F) (has : D → Option Contents) (faults : D → ℕ) (given back : D) (file : T → Option File) (broke : T → ℕ) (old new : Option Holdings) (name : List ℕ) (P : Type 0)
-    → OnDisk e (Rose (faults given) (faults back) ⊎ TableBroke file broke (has back)) → has given ≡ option_map (λ s. folder_at s name) old → IfSome new (λ t. has back ≡ Some (folder_at t name))
+    → OnDisk e (Rose (faults given) (faults back) ⊎ TableBroke file broke (has back) name) → has given ≡ option_map (λ s. folder_at s name) old → IfSome new (λ t. has back ≡ Some (folder_at t name))
     → OnDisk e (P ⊎ (FolderFailed has faults old new name ⊎ TableBrokeIn file broke new name))
 folder_cause (whole.Disk f) has faults given back file broke old new name P (inl rose) first left =
     inr (inl (record { given = given; back = back; is = told_at (has given) old (λ s. folder_at s name) first; left = left; rose = rose }))

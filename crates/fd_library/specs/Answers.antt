@@ -6,7 +6,7 @@ use Rattle.fd_recovery.specs.declared.fault.OpenFault.{OpenFault}
 use Rattle.fd_recovery.specs.declared.fault.OpenFault.TheVariants as whole
 use Rattle.fd_disk.specs.declared.file.File.{File}
 use Rattle.fd_entries.specs.declared.batch.Listing.{Listing}
-use Rattle.fd_recovery.specs.Recovered.{TableFailed, all_of}
+use Rattle.fd_recovery.specs.Recovered.{ReadsIndex, TableFailed, all_of}
 use Rattle.fd_turn.specs.Passes.{BoardId}
 use Rattle.fd_turn.specs.Views.{first_view}
 use Rattle.fd_library.specs.Open.{OpenDataset}
@@ -35,13 +35,13 @@ pub record FolderFailed {D : Type 0} (has : D → Option Contents) (faults : D �
   pub left : IfSome new (λ t. has back ≡ Some (folder_at t name))
   pub rose : Rose (faults given) (faults back)
 
--- the table that the folder handed out did, which the folder has now
-abbrev pub TableBroke : {T : Type 0} → (T → Option File) → (T → ℕ) → Option Contents → Type 0
-TableBroke file faults new = (old : Option Contents) × TableFailed file faults old new
+-- the table that the folder handed out did, which the folder has now, or an index file that this table lists with a digest
+abbrev pub TableBroke : {T : Type 0} → (T → Option File) → (T → ℕ) → Option Contents → List ℕ → Type 0
+TableBroke file faults new name = ((old : Option Contents) × TableFailed file faults old new) ⊎ ReadsIndex name new
 
 -- the same of a folder that the store has back
 abbrev pub TableBrokeIn : {T : Type 0} → (T → Option File) → (T → ℕ) → Option Holdings → List ℕ → Type 0
-TableBrokeIn file faults new name = (has : Option Contents) × IfSome new (λ t. has ≡ Some (folder_at t name)) × TableBroke file faults has
+TableBrokeIn file faults new name = (has : Option Contents) × IfSome new (λ t. has ≡ Some (folder_at t name)) × TableBroke file faults has name
 
 -- a dataset that was opened just now, on this board
 pub record IsOpened {D : Type 0} (name : List ℕ) (b : BoardId) (h : OpenDataset D) : Type 0 where

@@ -1,4 +1,4 @@
-ghost use Rattle.std.specs.Prelude.{◌≡◌, ◌≢◌, ◌⊎◌, ◌≤◌, ◌<◌, ◌+◌, ◌||◌, [], List, ℕ, Option, Some, None, Ok, Err, All, Bool, true, false, is_some, length, slice_get, IfOk, IfErr, IfSome, IsSome, OnOk, OnErr, MatchOption, string_bytes};
+ghost use Rattle.std.specs.Prelude.{◌≡◌, ◌≢◌, ◌⊎◌, ◌≤◌, ◌<◌, ◌+◌, ◌||◌, [], List, ℕ, Option, Some, None, Ok, Err, All, Bool, true, false, is_some, length, slice_get, IfOk, IfErr, IfSome, IsSome, OnOk, OnErr, OnSome, MatchOption, string_bytes, vec_capacity, vec_len};
 ghost use Rattle.fd_bytes.specs.Causes.{Rose};
 ghost use Rattle.fd_disk.specs.Causes.{OnFault};
 ghost use Rattle.fd_disk.specs.Folders.{SameBut, WhereTold, folder_at};
@@ -11,6 +11,7 @@ ghost use Rattle.fd_recovery.specs.Recovered.{WithTable};
 ghost use Rattle.fd_library.specs.Answers.{FolderFailed, HoldsAs, IsOpened, IsWanted, TableBrokeIn, TooManyAt};
 ghost use Rattle.fd_library.specs.Calls.{Adds, AsksWriter, Changes, IsNewWriter, Leaves, Opens, ShelfFailed, TakesWriter};
 ghost use Rattle.fd_library.specs.Open.{IsWhole, OpenDataset, OutAre, among, names_of, seat_of};
+ghost use Rattle.fd_library.specs.Parts.{both};
 ghost use Rattle.fd_library.specs.Stores.{GivesBack, IsGivenBack, IsSettled, LooksInto, held_of, held_with};
 
 use crate::held::{FolderDataset, FolderPass, Held};
@@ -141,23 +142,7 @@ impl<F: Send, S: Store<F>> Library<F, S> {
         ensures out { OutAre self.new.each (S.out store.new) }
         ensures later { S.faults store.old ≤ S.faults store.new }
     {
-        let (Ok(()), Ok(()), Ok(text)) = (
-            self.datasets.reserve(1),
-            self.held.reserve(1),
-            String::from_str(alloc, name),
-        ) else {
-            return Err(OpenFault::NoMemory);
-        };
-        match opened(alloc, store, text, make) {
-            Ok(Some((dataset, held))) => {
-                let number = self.held.len() as u32;
-                self.datasets.push_reserved(dataset);
-                self.held.push_reserved(held);
-                Ok(Some(number))
-            }
-            Ok(None) => Ok(None),
-            Err(fault) => Err(fault),
-        }
+        open_behind(alloc, store, name, make, &mut self.datasets, &mut self.held)
     }
 
     /// Gives all folders back to the store, with their tables. No pass is out, and each archiver was taken back.
@@ -208,6 +193,68 @@ impl<F: Send, S: Store<F>> Library<F, S> {
         ensures { Changes number self.old self.new (TakesWriter S.Folder.has S.Folder.faults S.Folder.Shelf.kept archiver) }
     {
         self.held[number as usize].take_back(archiver);
+    }
+}
+
+// Room for one more of each, and the text.
+fn room_for<D, H>(
+    alloc: Global,
+    name: &str,
+    datasets: &mut Vec<D>,
+    held: &mut Vec<H>,
+) -> Option<String>
+    ensures datasets { datasets.new.items ≡ datasets.old.items }
+    ensures held { held.new.items ≡ held.old.items }
+    ensures text { IfSome result (λ t. string_bytes t ≡ name.now) }
+    ensures room { OnSome result ((vec_len datasets.new < vec_capacity datasets.new) × (vec_len held.new < vec_capacity held.new)) }
+{
+    let Ok(()) = datasets.reserve(1) else {
+        return None;
+    };
+    let Ok(()) = held.reserve(1) else {
+        return None;
+    };
+    String::from_str(alloc, name).ok()
+}
+
+// Opens a dataset that isn't open, behind these.
+fn open_behind<F: Send, S: Store<F>>(
+    alloc: Global,
+    store: &mut S,
+    name: &str,
+    make: bool,
+    datasets: &mut Vec<FolderDataset<F, S::Folder>>,
+    held: &mut Vec<Held<F, S::Folder>>,
+) -> Result<Option<u32>, OpenFault<F>>
+where
+    requires short { make ≡ true → length name.now ≤ 255 }
+    requires out { S.out store.old name.now ≡ false }
+    requires few { length held.old.items < 2048 }
+    ensures opened { IfOk result (λ o. IfSome o (λ n. Opens S.Folder.has n name.now (both datasets.old.items held.old.items) (both datasets.new.items held.new.items) (S.has store.old) (S.has store.new))) }
+    ensures left { IfOk result (λ o. o ≡ None → Leaves name.now (both datasets.old.items held.old.items) (both datasets.new.items held.new.items) (S.has store.old) (S.has store.new)) }
+    ensures left_err { OnErr result (Leaves name.now (both datasets.old.items held.old.items) (both datasets.new.items held.new.items) (S.has store.old) (S.has store.new)) }
+    ensures none { IfOk result (λ o. IfSome (S.has store.old) (λ s. is_some o ≡ (is_some (folder_at s name.now).table || make))) }
+    ensures unmade { IfOk result (λ o. o ≡ None → make ≡ false) }
+    ensures not_a_table { IfErr result (λ e. OnNotATable e (λ fault. IfSome (S.has store.old) (λ s. WithTable (folder_at s name.now).table (λ f. listed name.now f.reads ≡ Err fault)))) }
+    ensures damaged { IfErr result (λ e. OnDamaged e (λ d. IfSome (S.has store.old) (λ s. WithTable (folder_at s name.now).table (λ f. (es : List Entry) × (listed name.now f.reads ≡ Ok es) × IsFirst d (damages (folder_at s name.now).files es))))) }
+    ensures too_many { TooManyAt (length held.old.items) ⊥ result }
+    ensures cause { IfErr result (λ e. OnDisk e (Rose (S.faults store.old) (S.faults store.new) ⊎ (FolderFailed S.Folder.has S.Folder.faults (S.has store.old) (S.has store.new) name.now ⊎ TableBrokeIn S.Folder.Table.file S.Folder.Table.faults (S.has store.new) name.now))) }
+    ensures out { IfOk result (λ o. MatchOption o ((other : List ℕ) → S.out store.new other ≡ true → S.out store.old other ≡ true) (λ n. (other : List ℕ) → S.out store.new other ≡ true → (S.out store.old other ≡ true) ⊎ (other ≡ name.now))) }
+    ensures out_err { OnErr result ((other : List ℕ) → S.out store.new other ≡ true → S.out store.old other ≡ true) }
+    ensures later { S.faults store.old ≤ S.faults store.new }
+{
+    let Some(text) = room_for(alloc, name, datasets, held) else {
+        return Err(OpenFault::NoMemory);
+    };
+    match opened(alloc, store, text, make) {
+        Ok(Some((dataset, it))) => {
+            let number = held.len() as u32;
+            datasets.push_reserved(dataset);
+            held.push_reserved(it);
+            Ok(Some(number))
+        }
+        Ok(None) => Ok(None),
+        Err(fault) => Err(fault),
     }
 }
 

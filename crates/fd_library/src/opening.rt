@@ -87,7 +87,7 @@ where
     ensures not_a_table { IfErr result (λ e. OnNotATable e (λ fault. IfSome (D.has folder.old) (λ v. WithTable v.table (λ f. listed name.now f.reads ≡ Err fault)))) }
     ensures damaged { IfErr result (λ e. OnDamaged e (λ d. IfSome (D.has folder.old) (λ v. WithTable v.table (λ f. (es : List Entry) × (listed name.now f.reads ≡ Ok es) × IsFirst d (damages v.files es))))) }
     ensures never { IfErr result NotTooMany }
-    ensures cause { IfErr result (λ e. OnDisk e (Rose (D.faults folder.old) (D.faults folder.new) ⊎ TableBroke D.Table.file D.Table.faults (D.has folder.new))) }
+    ensures cause { IfErr result (λ e. OnDisk e (Rose (D.faults folder.old) (D.faults folder.new) ⊎ TableBroke D.Table.file D.Table.faults (D.has folder.new) name.now)) }
     ensures out { IfOk result (λ o. D.table_out folder.new ≡ is_some o) }
     ensures out_err { OnErr result (D.table_out folder.new ≡ false) }
     ensures has { IfOk result (λ o. MatchOption o (WhereTold (D.has folder.old) (D.has folder.new) (KeepsFolder name.now)) (λ r. D.has folder.new ≡ option_map without_table (D.has folder.old))) }
@@ -133,7 +133,7 @@ where
     ensures sound { IfErr result (λ e. OnNotATable e (λ fault. D.has folder.old ≡ None)) }
     ensures whole { IfErr result (λ e. OnDamaged e (λ d. D.has folder.old ≡ None)) }
     ensures never { IfErr result NotTooMany }
-    ensures cause { IfErr result (λ e. OnDisk e (Rose (D.faults folder.old) (D.faults folder.new) ⊎ TableBroke D.Table.file D.Table.faults (D.has folder.new))) }
+    ensures cause { IfErr result (λ e. OnDisk e (Rose (D.faults folder.old) (D.faults folder.new) ⊎ TableBroke D.Table.file D.Table.faults (D.has folder.new) name.now)) }
     ensures out { OnOk result (D.table_out folder.new ≡ true) }
     ensures out_err { OnErr result (D.table_out folder.new ≡ false) }
     ensures has { OnOk result (D.has folder.new ≡ D.has folder.old) }

@@ -62,7 +62,7 @@ fn is_found<F: Send + Drop, R: Reader<F>>(alloc: Global, lens: &mut Lens<F, R>, 
         return false;
     };
     match lens.find(alloc, &key) {
-        Ok(Some((at, len))) => at == i as u64 && len == 1,
+        Ok(Some((at, len))) => at == 33 * i as u64 && len == 1,
         _ => false,
     }
 }
@@ -124,7 +124,7 @@ where
 
 /// The same in a store in memory, where the read of the index file with this number fails in each lens.
 fn run(alloc: Global, nth: u32) -> Option<(u64, [[bool; 2]; 3])> {
-    let Ok(mut store) = MemStore::new(alloc, 300_000, 10_016) else {
+    let Ok(mut store) = MemStore::new(alloc, 340_000, 20_016) else {
         return None;
     };
     let is_planned = store.fail(alloc, "a=1/1-1.index", Op::Read, nth).is_ok();

@@ -111,6 +111,74 @@ const fn short(kind: FileKind, want: u64, got: u64) -> Found {
 /// A call that no test makes.
 const NEVER: (Op, u32) = (Op::Create, 9);
 
+/// The SHA-256 of 4,120 bytes, each 47.
+const DIGEST: [u8; 32] = [
+    0x62, 0x13, 0x18, 0xAF, 0x95, 0x64, 0xEF, 0x19, 0x74, 0xC2, 0xE2, 0x6A, 0x80, 0x07, 0x13, 0xA2,
+    0xE8, 0xF1, 0x3B, 0x24, 0xAA, 0x82, 0xE8, 0xC5, 0x80, 0xC9, 0xA9, 0x9B, 0x32, 0xB1, 0x28, 0x0C,
+];
+
+/// The table with a second entry, of the kind with a digest, which is the same writer's next batch of files of those lengths.
+fn mixed_table(alloc: Global, digest: &[u8; 32]) -> Result<Vec<u8>, NoMemory> {
+    let mut bytes = table(alloc)?;
+    bytes.resize(384, 0)?;
+    bytes.extend_from_slice(b"\x4F\x02\0\0\0\x01\0\0\0\x02\0\0\0\x02")?;
+    bytes.extend_from_slice(b"\0\0\0\0\0\0\x10\x18\0\0\0\0\0\0\x02\x25")?;
+    bytes.extend_from_slice(digest)?;
+    bytes.resize(449, 0)?;
+    Ok(bytes)
+}
+
+/// Has a store have the files of the second batch, and a call of its index fail, and tells whether that is so.
+fn prepare_second(
+    alloc: Global,
+    store: &mut MemStore,
+    bytes: &[u8; 4120],
+    fails: (Op, u32),
+) -> bool {
+    hold(alloc, store, "a=1/1-2.fields", Some(&bytes[..549]))
+        && hold(alloc, store, "a=1/1-2.index", Some(bytes.as_slice()))
+        && store.fail(alloc, "a=1/1-2.index", fails.0, fails.1).is_ok()
+}
+
+/// What is made of a dataset with both batches, where the second is listed with this digest, and a call of its index fails.
+fn run_mixed(alloc: Global, digest: &[u8; 32], fails: (Op, u32)) -> Found {
+    let Ok(listing) = mixed_table(alloc, digest) else {
+        return Found::Other;
+    };
+    let Ok(mut store) = MemStore::new(alloc, 8192, 64) else {
+        return Found::Other;
+    };
+    let bytes = [0x47; 4120];
+    let files = [
+        Some(listing.as_slice()),
+        Some(&bytes[..549]),
+        Some(&bytes[..]),
+    ];
+    let is_prepared = prepare(alloc, &mut store, files, NEVER)
+        && prepare_second(alloc, &mut store, &bytes, fails);
+    let found = opened_in(alloc, store);
+    if is_prepared { found } else { Found::Other }
+}
+
+#[test]
+fn datasets_of_both_kinds(rt: HostRuntime) {
+    let mut want = DIGEST;
+    want[31] = 0;
+    let file = FileName {
+        seq: 2,
+        ..file(FileKind::Index)
+    };
+    let got = DIGEST;
+    let damaged = Found::Damaged(Damage::IndexDigest { file, want, got });
+    for (digest, fails, found) in [
+        (DIGEST, NEVER, Found::Segments(2)),
+        (DIGEST, (Op::Read, 2), Found::Disk),
+        (want, NEVER, damaged),
+    ] {
+        assert_eq!(rt; run_mixed(rt.alloc(), &digest, fails), found);
+    }
+}
+
 #[test]
 fn datasets_of_each_kind(rt: HostRuntime) -> Result<(), Fail> {
     let listing = table(rt.alloc())?;

@@ -1,5 +1,5 @@
 -- Why a command is refused, and the line that tells it.
-use Rattle.std.specs.Prelude.{ℕ, Bool, true, false, List, ◌++◌, codes, slice_index, Option, Some, None, if◌then◌else◌}
+use Rattle.std.specs.Prelude.{ℕ, ◌/◌, ◌%◌, Bool, true, false, List, [], ◌∷◌, ◌++◌, codes, slice_index, Option, Some, None, if◌then◌else◌}
 use Rattle.std.specs.Fmt.{decimal}
 use Rattle.fd_disk.specs.declared.folders.FileKind.{FileKind}
 use Rattle.fd_disk.specs.declared.folders.FileKind.TheVariants.{Fields, Index}
@@ -49,6 +49,7 @@ is_schema_limit schemas.Value = false
 is_schema_limit (schemas.Twice name) = false
 is_schema_limit schemas.Depth = false
 is_schema_limit schemas.NoneRequired = false
+is_schema_limit schemas.OtherVersion = false
 is_schema_limit schemas.End = false
 is_schema_limit schemas.Empty = false
 
@@ -113,6 +114,14 @@ abbrev pub found_text : Option ℕ → List ℕ
 found_text None = codes "-"
 found_text (Some octet) = decimal octet
 
+-- octets, each as two hexadecimal digits with small letters
+abbrev pub hex_digit : ℕ → ℕ
+hex_digit n = slice_index (codes "0123456789abcdef") n
+
+abbrev pub hex_text : List ℕ → List ℕ
+hex_text [] = []
+hex_text (x ∷ xs) = hex_digit (x / 16) ∷ hex_digit (x % 16) ∷ hex_text xs
+
 -- what is broken in a dataset: its table, or one of its files
 pub data Broken : Type 0 where
   BadTable : (fault : NotATable) → Broken
@@ -124,6 +133,8 @@ broken_text (BadFile (damages.Absent file)) = codes "Absent " ++ file_text file
 broken_text (BadFile (damages.Length file want got)) = codes "Length " ++ file_text file ++ blank (decimal want ++ blank (decimal got))
 broken_text (BadFile (damages.Index file at)) = codes "Index " ++ file_text file ++ blank (decimal at)
 broken_text (BadFile (damages.Beyond file end len)) = codes "Beyond " ++ file_text file ++ blank (decimal end ++ blank (decimal len))
+broken_text (BadFile (damages.IndexDigest file want got)) = codes "IndexDigest " ++ file_text file ++ blank (hex_text want ++ blank (hex_text got))
+broken_text (BadFile (damages.FieldDigest file at want got)) = codes "FieldDigest " ++ file_text file ++ blank (decimal at ++ blank (hex_text want ++ blank (hex_text got)))
 
 abbrev pub damaged_line : List ℕ → Broken → List ℕ
 damaged_line dataset broken = (damaged_so (dataset ++ blank (broken_text broken))).line

@@ -7,9 +7,9 @@ use Rattle.std.specs.Ordering.{nat_cmp, ordering_then}
 use Rattle.std.specs.declared.cmp.Ordering.{Ordering}
 use Rattle.std.specs.declared.cmp.Ordering.TheVariants.{Less, Equal, Greater}
 use Rattle.std.specs.Cmp.Lexicographic.{slice_cmp}
-use Rattle.fd_key.specs.Names.{is_name}
-use Rattle.fd_key.specs.Canonical.{canonical}
-use Rattle.fd_key.specs.Numerals.{cut, ◌>>=◌}
+use Rattle.fd_spelling.specs.Names.{is_name}
+use Rattle.fd_spelling.specs.Canonical.{canonical}
+use Rattle.fd_spelling.specs.Numerals.{cut, ◌>>=◌}
 use Rattle.fd_key.specs.Given.{pieces_of}
 use Rattle.fd_key.specs.Pairs as keys
 use Rattle.fd_key.specs.Pairs.{text_of, key_text}

@@ -16,10 +16,10 @@ use Rattle.fd_entries.specs.Batches.{of_batch, newest, or_older}
 use Rattle.fd_entries.specs.Table.{listed}
 use Rattle.fd_schema.specs.Rules.{Rule}
 use Rattle.fd_schema.specs.Grammar.{schema_of}
-use Rattle.fd_segment.specs.Causes.{IsBadIndex, IsFindDamage}
+use Rattle.fd_segment.specs.Causes.{IsBadIndex, IsFindDamage, IsKeyDamage}
 use Rattle.fd_segment.specs.declared.fault.Damage.{Damage}
 use Rattle.fd_recovery.specs.Damages.{damages, index_file}
-use Rattle.fd_recovery.specs.Recovered.{held}
+use Rattle.fd_recovery.specs.Recovered.{files_of, held}
 use Rattle.fd_outcome.specs.Causes.{Broken, BadTable, BadFile}
 
 -- ---- what a dataset has
@@ -54,10 +54,11 @@ pub record IsSound (h : Holdings) : Type 0 where
 
 -- ---- damage
 
--- the damage stands in a listed file: in the file as a whole, in its index, in a page of that by itself, or in one of its records
+-- the damage stands in a listed file: in the file as a whole, in its index, in a page of that by itself, in one of its records,
+-- or in the digest behind a record's bytes
 abbrev pub StandsIn : folders.Contents → List Entry → Damage → Type 0
 StandsIn v es d = Contains (damages v.files es) d
-    ⊎ ((e : Entry) × Contains es e × (IsBadIndex e (v.files (index_file e)) d ⊎ ((key : List ℕ) × IsFindDamage e (v.files (index_file e)) key d)))
+    ⊎ ((e : Entry) × Contains es e × (IsBadIndex e (v.files (index_file e)) d ⊎ ((key : List ℕ) × (IsFindDamage e (v.files (index_file e)) key d ⊎ IsKeyDamage (files_of v.files e) key d))))
 
 -- This is broken in the dataset.
 abbrev pub Stands : List ℕ → folders.Contents → Broken → Type 0

@@ -68,7 +68,7 @@ pair bytes = record { key = file_key; bytes = bytes }
 -- ---- a store with the one field, as its files stand
 
 abbrev pub entry : Entry
-entry = record { writer = 1; seq = 1; fields = 1; index_len = 4120; fields_len = 183 }
+entry = record { writer = 1; seq = 1; fields = 1; index_len = 4120; fields_len = 183; digest = None }
 
 abbrev pub index_bytes : List ℕ
 index_bytes = codes "FDIDX001" ++ to_be_bytes w16 1 ++ to_be_bytes w16 63 ++ file_key ++ to_be_bytes w64 0 ++ to_be_bytes w64 183 ++ replicate 4013 0
@@ -135,4 +135,6 @@ pub record Rows : Type 0 where
   pub short : damaged_line (codes "DS") (BadFile (damages.Length (name_of 1 1 Index) 4120 4000)) ≡ line (codes "damaged DS Length 1-1.index 4120 4000")
   pub bad_index : damaged_line (codes "DS") (BadFile (damages.Index (name_of 1 1 Index) 0)) ≡ line (codes "damaged DS Index 1-1.index 0")
   pub beyond : damaged_line (codes "DS") (BadFile (damages.Beyond (name_of 1 1 Fields) 184 183)) ≡ line (codes "damaged DS Beyond 1-1.fields 184 183")
+  pub index_digest : damaged_line (codes "DS") (BadFile (damages.IndexDigest (name_of 1 1 Index) (0 ∷ 171 ∷ []) (255 ∷ 16 ∷ []))) ≡ line (codes "damaged DS IndexDigest 1-1.index 00ab ff10")
+  pub field_digest : damaged_line (codes "DS") (BadFile (damages.FieldDigest (name_of 1 1 Fields) 215 (9 ∷ 10 ∷ []) (160 ∷ 95 ∷ []))) ≡ line (codes "damaged DS FieldDigest 1-1.fields 215 090a a05f")
   pub cut_table : damaged_line (codes "DS") (BadTable (record { at = 5; want = 48; found = None })) ≡ line (codes "damaged DS NotATable 5 48 -")

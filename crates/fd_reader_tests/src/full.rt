@@ -18,6 +18,7 @@ const EMPTY: Entry = Entry {
     fields: 0,
     index_len: 0,
     fields_len: 0,
+    digest: None,
 };
 
 /// A table that lists the empty batch 65,535 times.

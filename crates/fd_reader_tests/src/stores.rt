@@ -253,8 +253,9 @@ fn two_archives_and_crashes(rt: HostRuntime) {
     }
 }
 
-/// How many calls come before those of the flush: what opens the dataset, the making of two files, and the writes of two fields.
-const BEFORE: u64 = 7;
+/// How many calls come before those of the flush: what opens the dataset, the making of two files, and the writes of two fields and
+/// of their digests.
+const BEFORE: u64 = 9;
 
 /// Whether a crash of this choice leaves the batch, where this call of the flush is the first that is stopped: two make files,
 /// five write and sync the batch and the body of its entry, the eighth writes the gate, the ninth syncs it, and no tenth is made.
@@ -296,12 +297,13 @@ fn each_call_of_a_first_flush_is_stopped_in_turn(rt: HostRuntime) {
     }
 }
 
-/// Three calls open the dataset, three the segment and find the keys in its one page, and one reads each message.
+/// Five calls open the dataset, two of which read its index, three open the segment and find the keys in its one page, and three check
+/// and read each message.
 #[test]
 fn a_segment_is_opened_once(rt: HostRuntime) {
-    let enough = Plan { reads: 8, ..PLAN };
+    let enough = Plan { reads: 14, ..PLAN };
     check(&rt, rt.alloc(), &enough, SEEN);
-    let short = Plan { reads: 7, ..PLAN };
+    let short = Plan { reads: 13, ..PLAN };
     check(&rt, rt.alloc(), &short, (Some(Went::AtOnce), 1, None, None));
 }
 
@@ -321,11 +323,11 @@ fn keys_are_found_by_workers(rt: HostRuntime) {
     let all = [spot(2), spot(1), None];
     let some = [Key::B, Key::A, Key::C];
     for (keys, workers, reads, found) in [
-        (some, 1, 8, None),
-        (some, 1, 9, Some((all, [1, 0, 0]))),
+        (some, 1, 12, None),
+        (some, 1, 13, Some((all, [1, 0, 0]))),
         (some, 2, u64::MAX, Some((all, [1, 1, 0]))),
         (some, 8, u64::MAX, Some((all, [1, 1, 6]))),
-        ([Key::B; 3], 1, 6, Some(([spot(2); 3], [1, 0, 0]))),
+        ([Key::B; 3], 1, 10, Some(([spot(2); 3], [1, 0, 0]))),
     ] {
         let plan = Plan {
             first: APART,

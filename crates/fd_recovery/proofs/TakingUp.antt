@@ -1,23 +1,25 @@
 -- How the entries of a table are taken up one by one.
-use Rattle.std.proofs.Common.{◌≡◌, Bool, ℕ, zero, suc, ◌+◌, ◌<◌, List, [], ◌∷◌, ◌++◌, map, length, take, drop, get_or, All, refl, sym, ◌∙◌, ap, subst, arith, take-append-drop, Option, Some, None, Ok, IfSome, is_some, true, option_map}
+use Rattle.std.proofs.Common.{◌≡◌, Bool, ℕ, zero, suc, ◌+◌, ◌<◌, List, [], ◌∷◌, ◌++◌, ◌≤◌, ◌⊎◌, inl, inr, map, length, take, drop, get_or, All, refl, sym, ◌∙◌, ap, subst, arith, take-append-drop, Option, Some, None, Ok, IfSome, IsSome, is_some, true, option_map}
 use Rattle.std.proofs.lemmas.List.{drop_more, map-append, take_more}
 use Rattle.std.proofs.lemmas.Simd.{map-map}
-use Rattle.std.proofs.lemmas.List.Elements.{All-append, All-nil, All-cons, All-head, All-tail}
+use Rattle.std.proofs.lemmas.List.Elements.{Contains-get_or, All-append, All-nil, All-cons, All-head, All-tail}
 use Rattle.std.proofs.lemmas.Grind.{flat_map-append}
 use Rattle.std.specs.Arc.{arc_value}
 use Rattle.std.specs.declared.sync.Arc.{Arc}
 use Rattle.fd_disk.specs.declared.folders.FileName.{FileName}
 use Rattle.fd_disk.specs.declared.file.File.{File}
-use Rattle.fd_disk.specs.Folders.{Contents, without_table}
+use Rattle.fd_disk.specs.Folders.{Contents, with_table, without_table}
+use Rattle.fd_disk.specs.Images.{synced}
 use Rattle.fd_entries.specs.declared.table.Entry.{Entry}
 use Rattle.fd_segment.specs.declared.fault.Damage.{Damage}
 use Rattle.fd_entries.specs.Table.{listed}
 use Rattle.fd_segment.specs.Held.{Standing, batch_of}
 use Rattle.fd_recovery.specs.declared.fault.FileFault.{FileFault}
 use Rattle.fd_recovery.specs.declared.fault.FileFault.TheVariants.{Disk, Damaged, NoMemory}
-use Rattle.fd_recovery.specs.Causes.{OnFileDamaged}
-use Rattle.fd_recovery.specs.Damages.{IsFirst, damages, damages_at, damages_of, field_file, index_file}
-use Rattle.fd_recovery.specs.Recovered.{AreTakenUp, IsNamed, all_of, batches_listed, files_of, held, held_by}
+use Rattle.fd_bytes.specs.Causes.{Rose}
+use Rattle.fd_recovery.specs.Causes.{OnFileDamaged, OnFileDisk}
+use Rattle.fd_recovery.specs.Damages.{IsFirst, damages, damages_at, damages_of, digest_damages, field_file, index_file, lengths_at}
+use Rattle.fd_recovery.specs.Recovered.{AreTakenUp, IsNamed, ReadsIndex, SomeDigest, TableFailed, all_of, batches_listed, files_of, held, held_by}
 use Rattle.fd_segment.specs.Shared.{AreOf, entries, entry_of, standings}
 
 pub none_taken : (dataset : List ℕ) (has : Option Contents) → AreTakenUp dataset has [] []
@@ -71,7 +73,66 @@ field_damaged NoMemory has e name is here = tt
 field_damaged (Damaged d) None e name is here = tt
 field_damaged (Damaged d) (Some v) e name is here =
     let rest = damages_of (index_file e) e.index_len (v.files (index_file e)) in
-    (rest, ap (λ (l : List Damage). l ++ rest) (subst (λ (n : FileName). damages_of n e.fields_len (v.files n) ≡ d ∷ []) is here))
+    let more = digest_damages e (v.files (index_file e)) in
+    (rest ++ more, ap (λ (l : List Damage). (l ++ rest) ++ more) (subst (λ (n : FileName). damages_of n e.fields_len (v.files n) ≡ d ∷ []) is here))
+
+-- a damaged index file comes next
+pub index_damaged : {F : Type 0} (fault : FileFault F) (has now : Option Contents) (e : Entry) (fields name : FileName) → fields ≡ field_file e → name ≡ index_file e → now ≡ has
+    → IfSome has (λ v. damages_of fields e.fields_len (v.files fields) ≡ []) → OnFileDamaged fault (λ d. IfSome now (λ v. damages_of name e.index_len (v.files name) ≡ d ∷ []))
+    → OnFileDamaged fault (λ d. IfSome has (λ v. IsFirst d (damages_at v.files e)))
+index_damaged (Disk f) has now e fields name at is same sound here = tt
+index_damaged NoMemory has now e fields name at is same sound here = tt
+index_damaged (Damaged d) None now e fields name at is same sound here = tt
+index_damaged (Damaged d) (Some v) now e fields name at is same sound here =
+    let damaged : IfSome (Some v) (λ w. damages_of name e.index_len (w.files name) ≡ d ∷ []) = subst (λ (o : Option Contents). IfSome o (λ w. damages_of name e.index_len (w.files name) ≡ d ∷ [])) same here in
+    let first : damages_of (field_file e) e.fields_len (v.files (field_file e)) ≡ [] = subst (λ (n : FileName). damages_of n e.fields_len (v.files n) ≡ []) at sound in
+    let second : damages_of (index_file e) e.index_len (v.files (index_file e)) ≡ d ∷ [] = subst (λ (n : FileName). damages_of n e.index_len (v.files n) ≡ d ∷ []) is damaged in
+    let more = digest_damages e (v.files (index_file e)) in
+    (more, λ j. (first j ++ second j) ++ more)
+
+pub sound_of : (has : Option Contents) (P Q : Contents → Type 0) → IfSome has (λ v. P v × Q v) → IfSome has Q
+sound_of None P Q h = tt
+sound_of (Some v) P Q h = h.1
+
+-- the cause of a fault at one of the entries
+pub cause_of : {F : Type 0} (fault : FileFault F) (a b n : ℕ) (es : List Entry) (i : ℕ) (x : Entry) → a ≤ b → i < length es → OnFileDisk fault (Rose b n ⊎ IsSome (get_or es i x).digest) → OnFileDisk fault (Rose a n ⊎ SomeDigest es)
+cause_of (Disk f) a b n es i x le lt (inl rose) = inl (omega (arith, le, rose))
+cause_of (Disk f) a b n es i x le lt (inr some) = inr (get_or es i x, Contains-get_or es i x lt, some)
+cause_of (Damaged d) a b n es i x le lt cause = tt
+cause_of NoMemory a b n es i x le lt cause = tt
+
+-- the two files of an entry are there and long enough, and these are the bytes of the index
+pub record AreLong (has : Option Contents) (e : Entry) (index : Option (List ℕ)) : Type 0 where
+  pub lengths : IfSome has (λ v. lengths_at v.files e ≡ [])
+  pub told : IfSome has (λ v. (index ≡ v.files (index_file e)) × IsSome index)
+
+there_is : (file : FileName) (n : ℕ) (o : Option (List ℕ)) → damages_of file n o ≡ [] → IsSome o
+there_is file n None is = absurd (cc is)
+there_is file n (Some b) is = refl
+
+pub are_long : (has now : Option Contents) (e : Entry) (fields name : FileName) (index : Option (List ℕ)) → fields ≡ field_file e → name ≡ index_file e → now ≡ has
+    → IfSome has (λ v. damages_of fields e.fields_len (v.files fields) ≡ []) → IfSome now (λ v. (index ≡ v.files name) × (damages_of name e.index_len (v.files name) ≡ [])) → AreLong has e index
+are_long None now e fields name index at is same sound here = record { lengths = tt; told = tt }
+are_long (Some v) now e fields name index at is same sound here =
+    let both : IfSome (Some v) (λ w. (index ≡ w.files name) × (damages_of name e.index_len (w.files name) ≡ [])) = subst (λ (o : Option Contents). IfSome o (λ w. (index ≡ w.files name) × (damages_of name e.index_len (w.files name) ≡ []))) same here in
+    let first : damages_of (field_file e) e.fields_len (v.files (field_file e)) ≡ [] = subst (λ (n : FileName). damages_of n e.fields_len (v.files n) ≡ []) at sound in
+    let second = subst (λ (n : FileName). (index ≡ v.files n) × (damages_of n e.index_len (v.files n) ≡ [])) is both in
+    record { lengths = λ j. first j ++ second.1 j; told = (second.0, subst (λ (o : Option (List ℕ)). IsSome o) (sym second.0) (there_is (index_file e) e.index_len (v.files (index_file e)) second.1)) }
+
+-- an index that hasn't the entry's digest comes last
+pub digest_damaged : {F : Type 0} (fault : FileFault F) (has : Option Contents) (e : Entry) (index : Option (List ℕ)) → AreLong has e index → OnFileDamaged fault (λ d. IfSome index (λ b. digest_damages e (Some b) ≡ d ∷ []))
+    → OnFileDamaged fault (λ d. IfSome has (λ v. IsFirst d (damages_at v.files e)))
+digest_damaged (Disk f) has e index long here = tt
+digest_damaged NoMemory has e index long here = tt
+digest_damaged (Damaged d) None e index long here = tt
+digest_damaged (Damaged d) (Some v) e None long here = absurd (cc long.told.1)
+digest_damaged (Damaged d) (Some v) e (Some b) long here =
+    let is : digest_damages e (v.files (index_file e)) ≡ d ∷ [] = ap (digest_damages e) (sym long.told.0) ∙ here in
+    ([], λ j. long.lengths j ++ is j)
+
+pub digest_sound : (has : Option Contents) (e : Entry) (index : Option (List ℕ)) → AreLong has e index → digest_damages e index ≡ [] → IfSome has (λ v. damages_at v.files e ≡ [])
+digest_sound None e index long same = tt
+digest_sound (Some v) e index long same = let is : digest_damages e (v.files (index_file e)) ≡ [] = ap (digest_damages e) (sym long.told.0) ∙ same in λ j. long.lengths j ++ is j
 
 -- the first damage of an entry that follows sound ones
 pub entry_damaged : {F : Type 0} (fault : FileFault F) (has now : Option Contents) (es : List Entry) (i : ℕ) (x : Entry) → now ≡ has → i < length es → IfSome has (λ v. damages v.files (take i es) ≡ [])
@@ -95,6 +156,31 @@ pub next_sound : (has now : Option Contents) (es : List Entry) (i : ℕ) (x : En
 next_sound has now es i x lt same before here =
     subst (λ (l : List Entry). IfSome has (λ v. damages v.files l ≡ [])) (sym (take_more es i x lt))
     (one_more_sound has (take i es) (get_or es i x) before (subst (λ (o : Option Contents). IfSome o (λ v. damages_at v.files (get_or es i x) ≡ [])) same here))
+
+-- an index file was read: the table that is back lists an entry with a digest
+pub reads_index : (dataset : List ℕ) (has mid new : Option Contents) (t : Option File) (es : List Entry) (some : Bool) → mid ≡ option_map without_table has → IfSome has (λ v. t ≡ option_map synced v.table) → some ≡ true → IfSome has (λ v. some ≡ is_some v.table)
+    → IfSome has (λ v. IfSome v.table (λ f. listed dataset f.reads ≡ Ok es)) → new ≡ with_table t mid → SomeDigest es → ReadsIndex dataset new
+reads_index dataset None mid new t es b away file is_true there lists back has_digest = subst (ReadsIndex dataset) (sym (back ∙ ap (with_table t) away ∙ none t)) tt
+  where
+    none : (t : Option File) → with_table t None ≡ None
+    none None = refl
+    none (Some f) = refl
+reads_index dataset (Some v) mid new t es b away file is_true there lists back has_digest = go v.table (sym is_true ∙ there) file lists
+  where
+    go : (o : Option File) → true ≡ is_some o → t ≡ option_map synced o → IfSome o (λ f. listed dataset f.reads ≡ Ok es) → ReadsIndex dataset new
+    go None some is lists = absurd (cc some)
+    go (Some f) some is lists =
+        subst (ReadsIndex dataset) (sym (back ∙ ap (with_table t) away ∙ ap (λ (x : Option File). with_table x (Some (without_table v))) is)) (es, lists, has_digest)
+
+-- a fault while the entries are taken up: the folder failed, or an index file of the table that is back
+pub taken_cause : {F T : Type 0} (fault : FileFault F) (f : F) (file : T → Option File) (faults : T → ℕ) (dataset : List ℕ) (has mid new : Option Contents) (t : Option File) (es : List Entry) (some : Bool) (a b n m : ℕ) → fault ≡ Disk f → OnFileDisk fault (Rose b n ⊎ SomeDigest es) → a ≤ b → n ≤ m
+    → mid ≡ option_map without_table has → IfSome has (λ v. t ≡ option_map synced v.table) → some ≡ true → IfSome has (λ v. some ≡ is_some v.table)
+    → IfSome has (λ v. IfSome v.table (λ f. listed dataset f.reads ≡ Ok es)) → new ≡ with_table t mid → Rose a m ⊎ (TableFailed file faults has new ⊎ ReadsIndex dataset new)
+taken_cause {F = F} fault f file faults dataset has mid new t es some a b n m is cause le later away firm is_true there lists back = go (subst (λ (x : FileFault F). OnFileDisk x (Rose b n ⊎ SomeDigest es)) is cause)
+  where
+    go : Rose b n ⊎ SomeDigest es → Rose a m ⊎ (TableFailed file faults has new ⊎ ReadsIndex dataset new)
+    go (inl rose) = inl (omega (arith, rose, le, later))
+    go (inr has_digest) = inr (inr (reads_index dataset has mid new t es some away firm is_true there lists back has_digest))
 
 -- the segments that were taken up stand for the batches that the dataset holds
 pub held_taken : (dataset : List ℕ) (has now : Option Contents) (es : List Entry) (segments : List Standing) → now ≡ option_map without_table has → (some : Bool) → some ≡ true → IfSome has (λ v. some ≡ is_some v.table)

@@ -1,5 +1,5 @@
 -- A dataset that was opened.
-use Rattle.std.specs.Prelude.{◌≡◌, ℕ, List, [], ◌∷◌, map, All, Option, Some, None, Result, Ok, Err, IfSome, option_map}
+use Rattle.std.specs.Prelude.{◌≡◌, ℕ, List, [], ◌∷◌, map, All, Contains, Option, Some, None, Result, Ok, Err, IfSome, IsSome, option_map}
 use Rattle.fd_bytes.specs.Causes.{Rose}
 use Rattle.fd_disk.specs.declared.file.File.{File}
 use Rattle.fd_disk.specs.declared.folders.FileName.{FileName}
@@ -32,10 +32,18 @@ pub record AreTakenUp (dataset : List ℕ) (has : Option Contents) (es : List En
 abbrev pub with_firm_table : Contents → Contents
 with_firm_table v = record { table = option_map synced v.table; files = v.files }
 
+-- one of the entries has a digest
+abbrev pub SomeDigest : List Entry → Type 0
+SomeDigest es = (e : Entry) × Contains es e × IsSome e.digest
+
 -- there is a table, of which this holds
 abbrev pub WithTable : Option File → (File → Type 0) → Type 0
 WithTable (Some f) P = P f
 WithTable None P = ⊥
+
+-- An index file is read: the table lists an entry with a digest, where told.
+abbrev pub ReadsIndex : List ℕ → Option Contents → Type 0
+ReadsIndex dataset has = IfSome has (λ v. WithTable v.table (λ f. (es : List Entry) × (listed dataset f.reads ≡ Ok es) × SomeDigest es))
 
 -- The table that the folder handed out failed before it came back: it was the folder's, and the folder has it now.
 pub record TableFailed {T : Type 0} (file : T → Option File) (faults : T → ℕ) (old new : Option Contents) : Type 0 where

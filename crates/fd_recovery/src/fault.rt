@@ -15,7 +15,7 @@ pub enum OpenFault<F> {
         /// The octet that stands there, or none where the bytes end before it.
         found: Option<u8>,
     },
-    /// A listed file is absent, or shorter than listed.
+    /// A listed file is absent, or shorter than listed, or an index hasn't the digest that is listed.
     Damaged(Damage),
     /// More datasets would be held than may be, which `recover` never answers.
     TooMany {

@@ -1,11 +1,13 @@
-ghost use Rattle.std.specs.Prelude.{◌≡◌, ◌≤◌, [], ◌∷◌, Some, IfOk, IfErr, IfSome};
+ghost use Rattle.std.specs.Prelude.{◌≡◌, ◌≤◌, [], ◌∷◌, Some, IfOk, IfErr, OnOk, IfSome, IsSome};
 ghost use Rattle.fd_bytes.specs.Causes.{Rose};
 ghost use Rattle.fd_recovery.specs.Causes.{OnFileDamaged, OnFileDisk};
-ghost use Rattle.fd_recovery.specs.Damages.{damages_of};
+ghost use Rattle.fd_recovery.specs.Damages.{damages_of, digest_damages, index_file};
+ghost use Rattle.fd_segment.specs.Copying.{IsDigestOf};
 
 use crate::fault::FileFault;
-use fd_disk::{Down, FileName, Folder, Sealed};
-use fd_segment::Damage;
+use fd_disk::{Down, FileKind, FileName, Folder, Sealed};
+use fd_entries::Entry;
+use fd_segment::{Damage, digest_at};
 use std::alloc::Global;
 
 /// Takes up a listed file, which has at least so many bytes.
@@ -37,5 +39,61 @@ where
         Ok(None) => Err(FileFault::Damaged(Damage::Absent { file })),
         Err(Down::Fault(fault)) => Err(FileFault::Disk(fault)),
         Err(Down::NoMemory) => Err(FileFault::NoMemory),
+    }
+}
+
+/// Compares the digest of an entry, where it has one, with that of the first bytes of its index file, which has at least as
+/// many as the entry says.
+pub(crate) fn check_index<F: Send, Z: Sealed<F>>(
+    alloc: Global,
+    index: &Z,
+    entry: &Entry,
+) -> Result<(), FileFault<F>>
+    requires { entry.now.index_len ≤ Z.len index.now }
+    ensures ok { OnOk result (digest_damages entry.now (Z.bytes index.now) ≡ []) }
+    ensures damaged { IfErr result (λ e. OnFileDamaged e (λ d. IfSome (Z.bytes index.now) (λ b. digest_damages entry.now (Some b) ≡ d ∷ []))) }
+    ensures read { IfErr result (λ e. OnFileDisk e (IsSome entry.now.digest)) }
+{
+    let Some(want) = entry.digest else {
+        return Ok(());
+    };
+    let got = match digest_of(alloc, index, entry.index_len) {
+        Ok(got) => got,
+        Err(Down::Fault(fault)) => return Err(FileFault::Disk(fault)),
+        Err(Down::NoMemory) => return Err(FileFault::NoMemory),
+    };
+    if want == got {
+        return Ok(());
+    }
+    Err(FileFault::Damaged(Damage::IndexDigest {
+        file: index_file(entry),
+        want,
+        got,
+    }))
+}
+
+/// The SHA-256 of the first bytes of a file.
+fn digest_of<F: Send, Z: Sealed<F>>(alloc: Global, file: &Z, len: u64) -> Result<[u8; 32], Down<F>>
+    requires { len ≤ Z.len file.now }
+    ensures { IfOk result (IsDigestOf (Z.bytes file.now) 0 len) }
+{
+    let mut reader = match file.reader(alloc) {
+        Ok(reader) => reader,
+        Err(down) => return Err(down),
+    };
+    match digest_at(&mut reader, 0, len) {
+        Ok(digest) => Ok(digest),
+        Err(fault) => Err(Down::Fault(fault)),
+    }
+}
+
+/// The name of an entry's index file.
+pub(crate) fn index_file(entry: &Entry) -> FileName
+    ensures { result ≡ index_file entry.now }
+{
+    FileName {
+        writer: entry.writer,
+        seq: entry.seq,
+        kind: FileKind::Index,
     }
 }

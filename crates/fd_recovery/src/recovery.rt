@@ -10,7 +10,7 @@ ghost use Rattle.fd_segment.specs.Shared.{AreOf, entries, standings};
 ghost use Rattle.fd_toc.specs.Lists.{Lists};
 ghost use Rattle.fd_recovery.specs.Causes.{IsOfTable, NotTooMany, OnDamaged, OnDisk, OnNotATable};
 ghost use Rattle.fd_recovery.specs.Damages.{IsFirst, damages};
-ghost use Rattle.fd_recovery.specs.Recovered.{AreTakenUp, TableFailed, WithTable, all_of, held, with_firm_table};
+ghost use Rattle.fd_recovery.specs.Recovered.{AreTakenUp, ReadsIndex, TableFailed, WithTable, all_of, held, with_firm_table};
 
 use crate::OpenFault;
 use crate::fault::FileFault;
@@ -31,12 +31,13 @@ pub struct Recovered<F: Send, D: Folder<F>> {
 
 /// Opens the dataset of this folder, whose table isn't out, or answers `None` exactly where there is no table. The table
 /// is synced and read; then the files of each entry are looked at in the order of the table, the field file before the
-/// index file, and of each file whether it is there before how long it is. Nothing else of them is read. What comes back
-/// is as `Dataset::new` asks.
+/// index file, and of each file whether it is there before how long it is; and where the entry has a digest, its index is
+/// read, and compared with it. Nothing else of them is read. What comes back is as `Dataset::new` asks.
 ///
-/// `Disk` comes only where the folder's count of faults rose, or that of its table, which the folder has back;
-/// `NotATable` and `Damaged` come exactly where the bytes are no table, or a listed file is absent or shorter than listed,
-/// and name the first such place or file. After a refusal the folder has its table back.
+/// `Disk` comes only where the folder's count of faults rose, or that of its table, which the folder has back, or with the
+/// fault that a call on an index file gave, which only an entry with a digest needs. `NotATable` and `Damaged` come exactly
+/// where the bytes are no table, or a listed file is absent or shorter than listed, or an index hasn't its digest, and name
+/// the first such place or file. After a refusal the folder has its table back.
 pub fn recover<F: Send, D: Folder<F>>(
     alloc: Global,
     folder: &mut D,
@@ -61,7 +62,7 @@ where
     ensures not_a_table { IfErr result (λ e. OnNotATable e (λ fault. IfSome (D.has folder.old) (λ v. WithTable v.table (λ f. listed dataset.now f.reads ≡ Err fault)))) }
     ensures damaged { IfErr result (λ e. OnDamaged e (λ d. IfSome (D.has folder.old) (λ v. WithTable v.table (λ f. (es : List Entry) × (listed dataset.now f.reads ≡ Ok es) × IsFirst d (damages v.files es))))) }
     ensures never { IfErr result NotTooMany }
-    ensures cause { IfErr result (λ e. OnDisk e (Rose (D.faults folder.old) (D.faults folder.new) ⊎ TableFailed D.Table.file D.Table.faults (D.has folder.old) (D.has folder.new))) }
+    ensures cause { IfErr result (λ e. OnDisk e (Rose (D.faults folder.old) (D.faults folder.new) ⊎ (TableFailed D.Table.file D.Table.faults (D.has folder.old) (D.has folder.new) ⊎ ReadsIndex dataset.now (D.has folder.new)))) }
     ensures out { IfOk result (λ o. D.table_out folder.new ≡ is_some o) }
     ensures out_err { OnErr result (D.table_out folder.new ≡ false) }
     ensures has { OnOk result (D.has folder.new ≡ option_map without_table (D.has folder.old)) }

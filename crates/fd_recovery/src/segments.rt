@@ -1,12 +1,12 @@
-ghost use Rattle.std.specs.Prelude.{◌≡◌, ◌≤◌, [], IfOk, IfErr, IfSome};
+ghost use Rattle.std.specs.Prelude.{◌≡◌, ◌≤◌, ◌⊎◌, [], IfOk, IfErr, IfSome, IsSome};
 ghost use Rattle.fd_bytes.specs.Causes.{Rose};
 ghost use Rattle.fd_recovery.specs.Causes.{OnFileDamaged, OnFileDisk};
-ghost use Rattle.fd_recovery.specs.Damages.{IsFirst, damages, damages_at, field_file, index_file};
-ghost use Rattle.fd_recovery.specs.Recovered.{AreTakenUp, IsNamed, files_of};
+ghost use Rattle.fd_recovery.specs.Damages.{IsFirst, damages, damages_at, field_file};
+ghost use Rattle.fd_recovery.specs.Recovered.{AreTakenUp, IsNamed, SomeDigest, files_of};
 ghost use Rattle.fd_segment.specs.Shared.{standings};
 
 use crate::fault::FileFault;
-use crate::files::listed_file;
+use crate::files::{check_index, index_file, listed_file};
 use fd_disk::{FileKind, FileName, Folder};
 use fd_entries::Entry;
 use fd_segment::Segment;
@@ -28,7 +28,7 @@ where
     ensures last_writer { D.last_writer folder.new ≡ D.last_writer folder.old }
     ensures name { D.name folder.new ≡ D.name folder.old }
     ensures later { D.faults folder.old ≤ D.faults folder.new }
-    ensures cause { IfErr result (λ e. OnFileDisk e (Rose (D.faults folder.old) (D.faults folder.new))) }
+    ensures cause { IfErr result (λ e. OnFileDisk e (Rose (D.faults folder.old) (D.faults folder.new) ⊎ SomeDigest entries.now)) }
 {
     let mut segments = Vec::new(alloc);
     for i in 0..entries.len() {
@@ -46,7 +46,7 @@ where
     Ok(segments)
 }
 
-// Takes up the two files of an entry.
+// Takes up the two files of an entry, whose index has the entry's digest, where there is one.
 fn segment_of<F: Send, D: Folder<F>>(
     alloc: Global,
     folder: &mut D,
@@ -63,7 +63,7 @@ where
     ensures last_writer { D.last_writer folder.new ≡ D.last_writer folder.old }
     ensures name { D.name folder.new ≡ D.name folder.old }
     ensures later { D.faults folder.old ≤ D.faults folder.new }
-    ensures cause { IfErr result (λ e. OnFileDisk e (Rose (D.faults folder.old) (D.faults folder.new))) }
+    ensures cause { IfErr result (λ e. OnFileDisk e (Rose (D.faults folder.old) (D.faults folder.new) ⊎ IsSome entry.now.digest)) }
 {
     let fields = match listed_file(alloc, folder, field_file(entry), entry.fields_len) {
         Ok(file) => file,
@@ -73,12 +73,16 @@ where
         Ok(file) => file,
         Err(fault) => return Err(fault),
     };
+    if let Err(fault) = check_index(alloc, &index, entry) {
+        return Err(fault);
+    }
     Ok(Segment::new(
         entry.writer,
         entry.seq,
         entry.fields,
         entry.index_len,
         entry.fields_len,
+        entry.digest,
         fields,
         index,
     ))
@@ -92,16 +96,5 @@ fn field_file(entry: &Entry) -> FileName
         writer: entry.writer,
         seq: entry.seq,
         kind: FileKind::Fields,
-    }
-}
-
-// The name of an entry's index file.
-fn index_file(entry: &Entry) -> FileName
-    ensures { result ≡ index_file entry.now }
-{
-    FileName {
-        writer: entry.writer,
-        seq: entry.seq,
-        kind: FileKind::Index,
     }
 }

@@ -5,7 +5,7 @@ use Rattle.fd_entries.specs.declared.batch.Pair.{Pair}
 use Rattle.fd_entries.specs.Batches.{newest}
 use Rattle.fd_schema.specs.Rules.{Texts, file_key}
 use Rattle.fd_segment.specs.Copying.{IsCopied, IsCopiedInPart}
-use Rattle.fd_segment.specs.Held.{Standing}
+use Rattle.fd_segment.specs.Held.{Standing, behind}
 use Rattle.fd_retriever.specs.declared.fault.Got.TheVariants.{Found, Miss}
 use Rattle.fd_retriever.specs.Answers.{IsAnswer, TookFront}
 use Rattle.fd_finding.specs.Spots.{IsNewestAt, IsWithin}
@@ -50,9 +50,9 @@ pub within_of : (os : List Open) (l : Located) (o : Open) → slice_get os l.num
 within_of os l o at there = subst (λ (x : Open). IsWithin x.shown l.spot) (some_is there.dataset o (sym there.at ∙ at)) there.within
 
 -- its bytes end within the fields
-pub ends_within : (ss : List Standing) (n at len : ℕ) → ((s : Standing) → slice_get ss n ≡ Some s → at + len ≤ s.files.entry.fields_len) → IfSome (slice_get ss n) (λ s. at + len ≤ s.files.entry.fields_len)
+pub ends_within : (ss : List Standing) (n at len : ℕ) → ((s : Standing) → slice_get ss n ≡ Some s → at + len + behind s.files.entry ≤ s.files.entry.fields_len) → IfSome (slice_get ss n) (λ s. at + len + behind s.files.entry ≤ s.files.entry.fields_len)
 ends_within ss n at len ends = go (slice_get ss n) refl
   where
-    go : (o : Option Standing) → slice_get ss n ≡ o → IfSome o (λ s. at + len ≤ s.files.entry.fields_len)
+    go : (o : Option Standing) → slice_get ss n ≡ o → IfSome o (λ s. at + len + behind s.files.entry ≤ s.files.entry.fields_len)
     go None is = tt
     go (Some s) is = ends s is

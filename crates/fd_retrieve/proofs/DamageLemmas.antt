@@ -1,16 +1,16 @@
 -- A damage that is met in a dataset that is open.
 use Rattle.std.proofs.Common.{◌≡◌, ◌∙◌, ◌<◌, ◌≤◌, ◌-◌, ℕ, zero, suc, List, [], ◌∷◌, length, IfSome, Option, Some, inl, inr, refl, sym, ap, subst, arith}
-use Rattle.std.specs.Prelude.{slice_get, Contains}
+use Rattle.std.specs.Prelude.{◌⊎◌, slice_get, Contains}
 use Rattle.std.proofs.lemmas.List.Elements.{Contains-get_or}
 use Rattle.std.proofs.lemmas.Option.{get_or_from_slice_get, slice_get_within}
-use Rattle.fd_segment.specs.Causes.{IsBadFrame, IsBadIndex}
+use Rattle.fd_segment.specs.Causes.{IsBadFrame, IsBadIndex, IsFieldDamage}
 use Rattle.fd_segment.specs.Held.{Standing}
 use Rattle.fd_segment.specs.declared.fault.Damage.{Damage}
 use Rattle.fd_retriever.specs.declared.fault.FetchFault.{FetchFault}
 use Rattle.fd_retriever.specs.declared.fault.FetchFault.TheVariants as fetches
 use Rattle.fd_retriever.specs.Answers as fetching
 use Rattle.fd_retriever.specs.Answers.{StandsIn}
-use Rattle.fd_finding.specs.Spots.{StandsForOne, StandsForSome}
+use Rattle.fd_finding.specs.Spots.{IsWithin, StandsForOne, StandsForSome}
 use Rattle.fd_retrieve.specs.declared.answering.Halt.{Halt}
 use Rattle.fd_retrieve.specs.declared.answering.Halt.TheVariants as halts
 use Rattle.fd_retrieve.specs.declared.locating.Located.{Located}
@@ -31,7 +31,7 @@ get_within (x ∷ xs) (suc i) lt = get_within xs i (omega (arith, lt))
 -- what a look for keys meets in a segment
 met : (ss : List Standing) (s : Standing) (keys : List (List ℕ)) (d : Damage) → Contains ss s → StandsForOne s.files keys d → (key : List ℕ) × IsDamaged ss key d
 met ss s keys d there (inl bad) = ([], (s, there, inl bad.0))
-met ss s keys d there (inr found) = (found.0, (s, there, inr found.2))
+met ss s keys d there (inr found) = (found.0, (s, there, inr (inl found.2)))
 
 -- a damage that a look for keys meets stands in the dataset
 pub damaged_in : (os : List Open) (n : ℕ) (o : Open) (shown : List Standing) (keys : List (List ℕ)) (d : Damage) → n < length os → slice_get os n ≡ Some o → shown ≡ o.shown → StandsForSome shown keys d → IsDamagedAt os n d
@@ -40,12 +40,19 @@ damaged_in os n o shown keys d lt at is met_at =
     record { inside = lt; dataset = o; at = at; key = one.0; stands = subst (λ ss. IsDamaged ss one.0 d) is one.1 }
 
 -- so does one that is met where bytes are copied
-pub copied_damage : (os : List Open) (l : Located) (o : Open) (d : Damage) → slice_get os l.number ≡ Some o → 1 ≤ l.spot.number → l.spot.number ≤ length o.shown
-    → IfSome (slice_get o.shown (l.spot.number - 1)) (λ s. IsBadIndex s.files.entry s.files.index d × IsBadFrame s.files.entry s.files.index d) → IsDamagedAt os l.number d
-copied_damage os l o d at from to bad =
-    let s = get_within o.shown (l.spot.number - 1) (omega (arith, from, to)) in
-    let stands = subst (λ (x : Option Standing). IfSome x (λ s. IsBadIndex s.files.entry s.files.index d × IsBadFrame s.files.entry s.files.index d)) s.1 bad in
-    record { inside = slice_get_within os l.number o at; dataset = o; at = at; key = []; stands = (s.0, at_number o.shown (l.spot.number - 1) s.0 s.1, inl stands.0) }
+abbrev pub IsMetThere : Located → Damage → Standing → Type 0
+IsMetThere l d s = (IsBadIndex s.files.entry s.files.index d × IsBadFrame s.files.entry s.files.index d) ⊎ IsFieldDamage s.files.entry s.files.fields l.spot.at l.spot.len d
+
+pub copied_damage : (os : List Open) (l : Located) (o : Open) (d : Damage) → slice_get os l.number ≡ Some o → IsWithin o.shown l.spot
+    → IfSome (slice_get o.shown (l.spot.number - 1)) (IsMetThere l d) → IsDamagedAt os l.number d
+copied_damage os l o d at within bad =
+    let s = get_within o.shown (l.spot.number - 1) (omega (arith, within.from, within.to)) in
+    let stands = subst (λ (x : Option Standing). IfSome x (IsMetThere l d)) s.1 bad in
+    record { inside = slice_get_within os l.number o at; dataset = o; at = at; key = within.key; stands = (s.0, at_number o.shown (l.spot.number - 1) s.0 s.1, go s.0 s.1 stands) }
+  where
+    go : (s : Standing) → slice_get o.shown (l.spot.number - 1) ≡ Some s → IsMetThere l d s → StandsIn s.files within.key d
+    go s is (inl frame) = inl frame.0
+    go s is (inr digest) = let said = within.said s is in inr (inr (l.spot.at, l.spot.len, said.0, said.1, within.ends s is, digest))
 
 module _ {F X : Type 0} where
   pub on_damaged : (e : FetchFault F X) (P Q : Damage → Type 0) → ((d : Damage) → P d → Q d) → fetching.OnDamaged e P → fetching.OnDamaged e Q

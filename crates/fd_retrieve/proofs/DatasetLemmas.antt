@@ -15,7 +15,7 @@ use Rattle.fd_retriever.specs.Kept.{AreThose, Kept}
 use Rattle.fd_retrieve.proofs.Staying.{some_is}
 use Rattle.fd_outcome.specs.Asking.{is_among}
 use Rattle.fd_disk.specs.Folders.{Contents}
-use Rattle.fd_segment.specs.Causes.{IsBadIndex, IsFindDamage}
+use Rattle.fd_segment.specs.Causes.{IsBadIndex, IsFindDamage, IsKeyDamage}
 use Rattle.fd_segment.specs.declared.fault.Damage.{Damage}
 use Rattle.fd_recovery.specs.Damages.{index_file}
 use Rattle.fd_recovery.specs.Recovered.{files_of}
@@ -130,4 +130,4 @@ damage_stands v o key d l (s, there, stands) =
     let has = contains_mapped (λ (x : Standing). x.files) o.shown s there in
     let e = contains_of (files_of v.files) l.entries s.files (subst (λ fs. Contains fs s.files) l.files has) in
     let moved : StandsIn (files_of v.files e.0) key d = subst (λ f. StandsIn f key d) (sym e.2) stands in
-    (l.table, l.entries, l.table_is, l.lists, inr (e.0, e.1, elim moved as (λ _. IsBadIndex e.0 (v.files (index_file e.0)) d ⊎ ((k : List ℕ) × IsFindDamage e.0 (v.files (index_file e.0)) k d)) [ inl bad ↦ inl bad | inr beyond ↦ inr (key, beyond) ]))
+    (l.table, l.entries, l.table_is, l.lists, inr (e.0, e.1, elim moved as (λ _. IsBadIndex e.0 (v.files (index_file e.0)) d ⊎ ((k : List ℕ) × (IsFindDamage e.0 (v.files (index_file e.0)) k d ⊎ IsKeyDamage (files_of v.files e.0) k d))) [ inl bad ↦ inl bad | inr met ↦ inr (key, met) ]))

@@ -1,3 +1,4 @@
+pub mod HexLemmas
 pub mod Staying
 pub mod Looking
 pub mod TableLemmas

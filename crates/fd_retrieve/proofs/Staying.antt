@@ -12,9 +12,9 @@ use Rattle.fd_entries.specs.declared.table.Entry.{Entry}
 use Rattle.fd_entries.specs.declared.table.NotATable.{NotATable}
 use Rattle.fd_entries.specs.Table.{listed}
 use Rattle.fd_segment.specs.Held.{batch_of}
-use Rattle.fd_segment.specs.Causes.{IsBadIndex, IsFindDamage}
+use Rattle.fd_segment.specs.Causes.{IsBadIndex, IsFindDamage, IsKeyDamage}
 use Rattle.fd_segment.specs.declared.fault.Damage.{Damage}
-use Rattle.fd_recovery.specs.Damages.{damages, damages_at, damages_of, field_file, index_file}
+use Rattle.fd_recovery.specs.Damages.{damages, damages_at, damages_of, digest_damages, field_file, index_file}
 use Rattle.fd_recovery.specs.Recovered.{all_of, batches_listed, files_of, held, held_by, with_firm_table}
 use Rattle.fd_recovery.specs.declared.fault.OpenFault.{OpenFault}
 use Rattle.fd_recovery.specs.declared.fault.OpenFault.TheVariants as faults
@@ -148,8 +148,9 @@ module _ (files gs : FileName → Option (List ℕ)) (same : (n : FileName) → 
 
   damages_here : (e : Entry) → damages_at gs e ≡ damages_at files e
   damages_here e =
-      ap (λ f. damages_of (field_file e) e.fields_len f ++ damages_of (index_file e) e.index_len (gs (index_file e))) (same (field_file e))
-      ∙ ap (λ i. damages_of (field_file e) e.fields_len (files (field_file e)) ++ damages_of (index_file e) e.index_len i) (same (index_file e))
+      let f = same (field_file e) in
+      let i = same (index_file e) in
+      λ j. (damages_of (field_file e) e.fields_len (f j) ++ damages_of (index_file e) e.index_len (i j)) ++ digest_damages e (i j)
 
   damages_same : (es : List Entry) → damages gs es ≡ damages files es
   damages_same [] = refl
@@ -186,7 +187,8 @@ open_before h i o stays is =
 stands_in : (v w : Contents) (es : List Entry) (d : Damage) → ((n : FileName) → w.files n ≡ v.files n) → StandsIn w es d → StandsIn v es d
 stands_in v w es d same (inl c) = inl (subst (λ ds. Contains ds d) (damages_same v.files w.files same es) c)
 stands_in v w es d same (inr (e, there, inl bad)) = inr (e, there, inl (subst (λ i. IsBadIndex e i d) (same (index_file e)) bad))
-stands_in v w es d same (inr (e, there, inr (key, beyond))) = inr (e, there, inr (key, subst (λ i. IsFindDamage e i key d) (same (index_file e)) beyond))
+stands_in v w es d same (inr (e, there, inr (key, inl beyond))) = inr (e, there, inr (key, inl (subst (λ i. IsFindDamage e i key d) (same (index_file e)) beyond)))
+stands_in v w es d same (inr (e, there, inr (key, inr digest))) = inr (e, there, inr (key, inr (subst (λ f. IsKeyDamage f key d) (files_same v.files w.files same e) digest)))
 
 pub stands_before : (name : List ℕ) (v w : Contents) (b : Broken) → StaysFolder name v w → Stands name w b → Stands name v b
 stands_before name v w (BadTable fault) stays (f, is, bad) =

@@ -5,7 +5,7 @@ ghost use Rattle.fd_schema.specs.Grammar.{Fault};
 ghost use Rattle.fd_schema.specs.Reading.{IsFirst};
 ghost use Rattle.fd_request.specs.Reading.{seen_kind};
 ghost use Rattle.fd_outcome.specs.Causes as causes;
-ghost use Rattle.fd_outcome.specs.Causes.{InRequest, InStored, broken_text, damaged_line, file_text, kind_text, telling};
+ghost use Rattle.fd_outcome.specs.Causes.{InRequest, InStored, broken_text, damaged_line, file_text, hex_text, kind_text, telling};
 ghost use Rattle.fd_outcome.specs.Told.{ToldOrNoMemory};
 ghost use Rattle.fd_retrieve.specs.Stops.{OnDisk, ToldSome, ToldStop, seen_broken};
 
@@ -167,7 +167,29 @@ fn damage_text(alloc: Global, damage: Damage) -> Result<String, AllocError>
             let file = file_text(alloc, file)?;
             format!(in alloc; "Beyond {file} {end} {len}")
         }
+        Damage::IndexDigest { file, want, got } => {
+            let file = file_text(alloc, file)?;
+            let (want, got) = (hex_text(alloc, &want)?, hex_text(alloc, &got)?);
+            format!(in alloc; "IndexDigest {file} {want} {got}")
+        }
+        Damage::FieldDigest {
+            file,
+            at,
+            want,
+            got,
+        } => {
+            let file = file_text(alloc, file)?;
+            let (want, got) = (hex_text(alloc, &want)?, hex_text(alloc, &got)?);
+            format!(in alloc; "FieldDigest {file} {at} {want} {got}")
+        }
     }
+}
+
+/// The octets in hexadecimal digits.
+fn hex_text(alloc: Global, octets: &[u8; 32]) -> Result<String, AllocError>
+    ensures { IfOk result (λ t. string_bytes t ≡ hex_text octets.now) }
+{
+    hex::encode(alloc, octets.as_slice())
 }
 
 /// The name of a file.

@@ -6,8 +6,8 @@ use Rattle.fd_entries.specs.declared.batch.Pair.{Pair}
 use Rattle.fd_entries.specs.Batches.{of_batch}
 use Rattle.fd_index.specs.Records.{Record}
 use Rattle.fd_segment.specs.declared.fault.Damage.{Damage}
-use Rattle.fd_segment.specs.declared.fault.Damage.TheVariants.{Absent, Length, Index, Beyond}
-use Rattle.fd_segment.specs.Held.{Files, batch_of, batch_told, pairs_within, records_in}
+use Rattle.fd_segment.specs.declared.fault.Damage.TheVariants.{Absent, Length, Index, Beyond, IndexDigest, FieldDigest}
+use Rattle.fd_segment.specs.Held.{Files, batch_by_records, batch_of, batch_told, behind, digests_stand, pairs_within, records_in}
 use Rattle.fd_segment.specs.Causes.{IsBadIndex, StandsForNone}
 use Rattle.fd_segment.specs.Copying.{IsCopied, IsCopiedInPart, IsOfBatch, bytes_at}
 use Rattle.fd_retriever.specs.declared.fault.Got.TheVariants.{Found, Miss}
@@ -77,13 +77,21 @@ unfolding batch_of
 bad_index f (Absent file) bad = absurd bad
 bad_index f (Length file want got) bad = absurd bad
 bad_index f (Beyond file end len) bad = absurd bad
+bad_index f (IndexDigest file want got) bad = absurd bad
+bad_index f (FieldDigest file at want got) bad = absurd bad
 bad_index f (Index file at) bad = go f.index f.fields bad.1
   where
-    within : (t : Bool) (r : Result (List Record) ℕ) (fields : List ℕ) → r ≡ Err at → (if t then pairs_within f.entry.fields_len (take f.entry.fields_len fields) r else None) ≡ None
-    within true r fields is = ap (pairs_within f.entry.fields_len (take f.entry.fields_len fields)) is
+    within : (t : Bool) (r : Result (List Record) ℕ) (fields : List ℕ) → r ≡ Err at → (if t then pairs_within (behind f.entry) f.entry.fields_len (take f.entry.fields_len fields) r else None) ≡ None
+    within true r fields is = ap (pairs_within (behind f.entry) f.entry.fields_len (take f.entry.fields_len fields)) is
     within false r fields is = refl
 
+    whole : (t : Bool) (x : Option (List Pair)) → x ≡ None → (if t then x else None) ≡ None
+    whole true x none = none
+    whole false x none = refl
+
     go : (index fields : Option (List ℕ)) → IfSome index (λ bytes. records_in f.entry bytes ≡ Err at) → batch_told f.entry index fields ≡ None
-    go (Some index) (Some fields) is = within (nat_le f.entry.index_len (length index) && nat_le f.entry.fields_len (length fields)) (records_in f.entry index) fields is
+    go (Some index) (Some fields) is =
+        whole (digests_stand f.entry.digest (take f.entry.index_len index) (take f.entry.fields_len fields) (records_in f.entry index)) (batch_by_records f.entry index fields)
+        (within (nat_le f.entry.index_len (length index) && nat_le f.entry.fields_len (length fields)) (records_in f.entry index) fields is)
     go (Some index) None is = refl
     go None fields is = refl

@@ -5,8 +5,8 @@ use Rattle.fd_entries.specs.declared.batch.Pair.{Pair}
 use Rattle.fd_entries.specs.declared.batch.Listing.{Listing}
 use Rattle.fd_pages.specs.Parts.{IsSeen}
 use Rattle.fd_segment.specs.declared.fault.Damage.{Damage}
-use Rattle.fd_segment.specs.Causes.{IsBadIndex, IsFindDamage, IsPlace}
-use Rattle.fd_segment.specs.Held.{Files, Standing}
+use Rattle.fd_segment.specs.Causes.{IsBadIndex, IsFindDamage, IsKeyDamage, IsPlace}
+use Rattle.fd_segment.specs.Held.{Files, Standing, behind}
 use Rattle.fd_retriever.specs.declared.fault.Got.{Got}
 use Rattle.fd_retriever.specs.declared.fault.Got.TheVariants.{Found, Miss}
 use Rattle.fd_retriever.specs.declared.fault.FetchFault.{FetchFault}
@@ -68,9 +68,9 @@ module _ {F X : Type 0} where
 abbrev pub IsSaid : Files → List ℕ → Option (ℕ × ℕ) → Type 0
 IsSaid f key place = IsSeen f.index f.entry.index_len key place × IsPlace f.entry f.index key place
 
--- That its bytes are so many, and end within the fields; or that it isn't there.
+-- That its bytes are so many, and end within the fields, with their digest where there is one; or that it isn't there.
 abbrev pub Says : Files → List ℕ → Got → Type 0
-Says f key (Found n) = (at : ℕ) × IsSaid f key (Some (at, n)) × (at + n ≤ f.entry.fields_len)
+Says f key (Found n) = (at : ℕ) × IsSaid f key (Some (at, n)) × (at + n + behind f.entry ≤ f.entry.fields_len)
 Says f key Miss = IsSaid f key None
 
 -- the index of each segment behind this number says that the key isn't there
@@ -82,10 +82,14 @@ abbrev pub AllSay : List Standing → List ℕ → Got → Type 0
 AllSay ss key (Found n) = (number : ℕ) × (s : Standing) × IsNumbered ss number s × Says s.files key (Found n) × LackBehind ss key number
 AllSay ss key Miss = LackBehind ss key 0
 
--- The damage stands in these files: the index, or a page of it by itself, isn't in the format at the place, or the key's
--- record ends beyond the fields.
+-- A look-up of the key meets the damage, or a check of its bytes: a page of the index by itself isn't in the format at the
+-- place, or the key's record ends beyond the fields, or behind its bytes stands another digest than theirs.
+abbrev pub IsMet : Files → List ℕ → Damage → Type 0
+IsMet f key d = IsFindDamage f.entry f.index key d ⊎ IsKeyDamage f key d
+
+-- The damage stands in these files: the index isn't in the format at the place, or the key meets it.
 abbrev pub StandsIn : Files → List ℕ → Damage → Type 0
-StandsIn f key d = IsBadIndex f.entry f.index d ⊎ IsFindDamage f.entry f.index key d
+StandsIn f key d = IsBadIndex f.entry f.index d ⊎ IsMet f key d
 
 -- the damage stands in the files of one of the segments
 abbrev pub StandsAmong : List Standing → List ℕ → Damage → Type 0

@@ -1,27 +1,30 @@
 //! The bytes at a place of a segment, copied.
-ghost use Rattle.std.specs.Prelude.{◌≡◌, ◌≤◌, ◌+◌, ◌-◌, length, slice_get, Contains, IfOk, IfErr, IfSome, OnOk};
+ghost use Rattle.std.specs.Prelude.{◌≡◌, ◌≤◌, ◌+◌, ◌-◌, ◌⊎◌, length, slice_get, Contains, IfOk, IfErr, IfSome, OnOk};
 ghost use Rattle.fd_bytes.specs.Causes.{Rose};
 ghost use Rattle.fd_segment.specs.Causes as segments;
-ghost use Rattle.fd_segment.specs.Causes.{IsBadFrame, IsBadIndex};
+ghost use Rattle.fd_segment.specs.Causes.{IsBadFrame, IsBadIndex, IsFieldDamage};
 ghost use Rattle.fd_segment.specs.Copying.{IsCopied, IsCopiedInPart};
-ghost use Rattle.fd_segment.specs.Held.{Files};
+ghost use Rattle.fd_segment.specs.Held.{Files, behind};
 ghost use Rattle.fd_retriever.specs.Kept.{AreThose, Kept};
 ghost use Rattle.fd_retriever.specs.Answers.{OnDamaged, OnWrite, UnlessWrite, Unwritten};
 
+use crate::checked::copy_checked;
 use crate::fault::FetchFault;
 use crate::lenses::Lenses;
 use fd_dataset::Snapshot;
 use fd_disk::Sealed;
 use fd_io::Sink;
-use fd_segment::{CopyFault, Lens, LensFault, Segment};
+use fd_segment::{Lens, LensFault, Segment};
 use std::alloc::Global;
 
-/// Copies the bytes at a place of the field file of the segment with this number, from 1, into the sink. The segment is
-/// opened where it isn't kept, and kept afterwards. What is kept reads the files of the snapshot's own segments.
+/// Copies the bytes at a place of the field file of the segment with this number, from 1, into the sink, once they were
+/// checked against their digest, where there is one. The segment is opened where it isn't kept, and kept afterwards. What is
+/// kept reads the files of the snapshot's own segments.
 ///
 /// After a refusal a front of the bytes was written, and nothing at `Damaged` and `NoMemory`. `Disk` comes only with the
 /// fault of a file's call in this copy, `Write` only where the sink's count of faults rose, and `Damaged` only where the
-/// segment is opened, and the first eight bytes or the footer of its index aren't in the format.
+/// segment is opened, and the first eight bytes or the footer of its index aren't in the format, or where behind the bytes
+/// stands another digest than theirs.
 pub fn copy_at<F: Send, Z: Sealed<F>, X, K: Sink<X>>(
     alloc: Global,
     snapshot: &Snapshot<F, Z>,
@@ -33,13 +36,13 @@ pub fn copy_at<F: Send, Z: Sealed<F>, X, K: Sink<X>>(
 ) -> Result<(), FetchFault<F, X>>
 where
     requires number { (1 ≤ number) × (number ≤ length snapshot.now) }
-    requires within { IfSome (slice_get snapshot.now (number - 1)) (λ s. at + len ≤ s.files.entry.fields_len) }
+    requires within { IfSome (slice_get snapshot.now (number - 1)) (λ s. at + len + behind s.files.entry ≤ s.files.entry.fields_len) }
     requires those { AreThose lenses.old snapshot.now }
     ensures those { AreThose lenses.new snapshot.now }
     ensures ok { OnOk result (IfSome (slice_get snapshot.now (number - 1)) (λ s. IsCopied s.files.fields at len (K.taken sink.old) (K.taken sink.new))) }
     ensures err { IfErr result (λ _. IfSome (slice_get snapshot.now (number - 1)) (λ s. IsCopiedInPart s.files.fields at len (K.taken sink.old) (K.taken sink.new))) }
     ensures unwritten { IfErr result (λ e. Unwritten e (K.taken sink.new ≡ K.taken sink.old)) }
-    ensures damaged { IfErr result (λ e. OnDamaged e (λ d. IfSome (slice_get snapshot.now (number - 1)) (λ s. IsBadIndex s.files.entry s.files.index d × IsBadFrame s.files.entry s.files.index d))) }
+    ensures damaged { IfErr result (λ e. OnDamaged e (λ d. IfSome (slice_get snapshot.now (number - 1)) (λ s. (IsBadIndex s.files.entry s.files.index d × IsBadFrame s.files.entry s.files.index d) ⊎ IsFieldDamage s.files.entry s.files.fields at len d))) }
     ensures sink { K.faults sink.old ≤ K.faults sink.new }
     ensures calm { UnlessWrite result (K.faults sink.new ≡ K.faults sink.old) }
     ensures write { IfErr result (λ e. OnWrite e (Rose (K.faults sink.old) (K.faults sink.new))) }
@@ -51,13 +54,9 @@ where
         Err(LensFault::Damaged(damage)) => return Err(FetchFault::Damaged(damage)),
         Err(LensFault::NoMemory) => return Err(FetchFault::NoMemory),
     };
-    let answer = lens.copy_to(at, len, sink);
+    let answer = copy_checked(&mut lens, at, len, sink);
     lenses.keep(number, lens);
-    match answer {
-        Ok(()) => Ok(()),
-        Err(CopyFault::Fault(fault)) => Err(FetchFault::Disk(fault)),
-        Err(CopyFault::Write(fault)) => Err(FetchFault::Write(fault)),
-    }
+    answer
 }
 
 /// The segment of a number, open for reading: the one that is kept, or else opened now.

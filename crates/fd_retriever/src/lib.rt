@@ -2,6 +2,7 @@
 #![tactic(auto)]
 
 mod bytes_at;
+mod checked;
 mod fault;
 mod fetching;
 mod laws;

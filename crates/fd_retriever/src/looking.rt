@@ -2,21 +2,21 @@ ghost use Rattle.std.specs.Prelude.{◌≡◌, ◌≤◌, ◌⊎◌, List, Some,
 ghost use Rattle.fd_bytes.specs.Causes.{Rose};
 ghost use Rattle.fd_entries.specs.declared.batch.Pair.{Pair};
 ghost use Rattle.fd_entries.specs.Batches.{of_batch};
-ghost use Rattle.fd_segment.specs.Causes.{IsFindDamage};
 ghost use Rattle.fd_segment.specs.Held.{Files, batch_of};
 ghost use Rattle.fd_dataset.specs.Listed.{listing_in};
 ghost use Rattle.fd_retriever.specs.Kept.{Kept};
-ghost use Rattle.fd_retriever.specs.Answers.{IsAnswer, OnDamaged, OnWrite, Says, StandsIn, TookAsMany, TookFront, UnlessWrite, Unwritten};
+ghost use Rattle.fd_retriever.specs.Answers.{IsAnswer, IsMet, OnDamaged, OnWrite, Says, StandsIn, TookAsMany, TookFront, UnlessWrite, Unwritten};
 
+use crate::checked::copy_checked;
 use crate::fault::{FetchFault, Got};
 use crate::lenses::Lenses;
 use fd_disk::{Reader, Sealed};
 use fd_io::Sink;
-use fd_segment::{CopyFault, Damage, Lens, LensFault, Segment};
+use fd_segment::{Damage, Lens, LensFault, Segment};
 use std::alloc::Global;
 
-/// Looks a key up in an opened segment, and copies its bytes into the sink, or tells what is wrong with the segment, and
-/// then nothing was written.
+/// Looks a key up in an opened segment, checks its bytes, and copies them into the sink, or tells what is wrong with the
+/// segment, and then nothing was written.
 fn copied<F: Send, R: Reader<F>, X, K: Sink<X>>(
     alloc: Global,
     lens: &mut Lens<F, R>,
@@ -27,7 +27,7 @@ fn copied<F: Send, R: Reader<F>, X, K: Sink<X>>(
     ensures answer { IfOk result (λ r. IfOk r (λ got. (b : List Pair) → batch_of lens.old.files ≡ Some b → IsAnswer (of_batch b key.now) (K.taken sink.old) (K.taken sink.new) got)) }
     ensures says { IfOk result (λ r. IfOk r (Says lens.old.files key.now)) }
     ensures took { IfOk result (λ r. IfOk r (TookAsMany (K.taken sink.old) (K.taken sink.new))) }
-    ensures damaged { IfOk result (λ r. IfErr r (IsFindDamage lens.old.files.entry lens.old.files.index key.now)) }
+    ensures damaged { IfOk result (λ r. IfErr r (IsMet lens.old.files key.now)) }
     ensures sound { IfOk result (λ r. OnErr r (batch_of lens.old.files ≡ None)) }
     ensures untouched { IfOk result (λ r. OnErr r (K.taken sink.new ≡ K.taken sink.old)) }
     ensures err { IfErr result (λ _. (b : List Pair) → batch_of lens.old.files ≡ Some b → TookFront (of_batch b key.now) (K.taken sink.old) (K.taken sink.new)) }
@@ -44,10 +44,12 @@ fn copied<F: Send, R: Reader<F>, X, K: Sink<X>>(
         Err(LensFault::Damaged(damage)) => return Ok(Err(damage)),
         Err(LensFault::NoMemory) => return Err(FetchFault::NoMemory),
     };
-    match lens.copy_to(at, len, sink) {
+    match copy_checked(lens, at, len, sink) {
         Ok(()) => Ok(Ok(Got::Found(len))),
-        Err(CopyFault::Fault(fault)) => Err(FetchFault::Disk(fault)),
-        Err(CopyFault::Write(fault)) => Err(FetchFault::Write(fault)),
+        Err(FetchFault::Disk(fault)) => Err(FetchFault::Disk(fault)),
+        Err(FetchFault::Write(fault)) => Err(FetchFault::Write(fault)),
+        Err(FetchFault::Damaged(damage)) => Ok(Err(damage)),
+        Err(FetchFault::NoMemory) => Err(FetchFault::NoMemory),
     }
 }
 

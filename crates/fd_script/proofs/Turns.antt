@@ -8,8 +8,8 @@ use Rattle.fd_script.specs.Lines.{Said, Silent, DatasetIs, LaneBegins, Asks, Mes
 use Rattle.std.specs.Prelude.{◌&&◌, not, codes, String}
 use Rattle.std.specs.declared.alloc.Global.{Global}
 use Rattle.std.specs.Str.{bytes_eq}
-use Rattle.fd_key.specs.Numerals.{cut}
-use Rattle.fd_key.proofs.GivenLaws.{cut_lengths}
+use Rattle.fd_spelling.specs.Numerals.{cut}
+use Rattle.fd_spelling.proofs.PieceLaws.{cut_lengths}
 use Rattle.fd_script.specs.Grammar.{Group, Wrong, TooLong, Script, Fault, front_of, has_messages, script_of, dataset_in, first_of, foreign_byte, goes_on, is_messages, lanes_from, line_wrong, or_dataset, said_wrong, script_from, unended, unless_wrong}
 use Rattle.fd_script.specs.Growing.{IsShort, after_said}
 use Rattle.fd_script.specs.Scripts.{IsWithin}

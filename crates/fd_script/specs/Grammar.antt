@@ -6,10 +6,10 @@
 use Rattle.std.specs.Prelude.{ℕ, ◌+◌, Bool, true, false, not, ◌&&◌, ◌||◌, List, [], ◌∷◌, ◌++◌, length, take, map, codes, nat_lt, nat_le, ◌==◌, if◌then◌else◌, Option, Some, None, option_map, is_some, Result, Ok, Err}
 use Rattle.std.specs.List.{list_all, list_any}
 use Rattle.std.specs.Str.{bytes_eq}
-use Rattle.fd_key.specs.Names.{is_ascii, is_letter, is_digit}
-use Rattle.fd_key.specs.Numerals.{number_up_to}
+use Rattle.fd_spelling.specs.Names.{is_ascii, is_letter, is_digit}
+use Rattle.fd_spelling.specs.Numerals.{number_up_to}
 use Rattle.fd_key.specs.Pairs.{Pair, pair_text}
-use Rattle.fd_key.specs.Canonical.{pair_of}
+use Rattle.fd_spelling.specs.Canonical.{pair_of}
 use Rattle.fd_key.specs.Given.{Refusal, given_of, pieces_of}
 use Rattle.fd_request.specs.Expansion.{Keyword}
 use Rattle.fd_request.specs.Grammar as requests

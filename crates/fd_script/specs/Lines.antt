@@ -2,7 +2,7 @@
 use Rattle.std.specs.Prelude.{ℕ, ◌+◌, length, Bool, true, List, [], ◌∷◌, codes, ◌==◌, if◌then◌else◌, Option, Some, None}
 use Rattle.std.specs.List.{slice_split}
 use Rattle.std.specs.Str.{bytes_eq}
-use Rattle.fd_key.specs.Numerals.{cut}
+use Rattle.fd_spelling.specs.Numerals.{cut}
 
 -- The lines of a text. Behind each but the last stands a line feed; the last is what stands behind the last line feed.
 abbrev pub lines_of : List ℕ → List (List ℕ)

@@ -2,7 +2,7 @@
 ghost use Rattle.std.specs.Prelude.{◌≡◌, ◌≤◌, ◌<◌, ◌+◌, ◌∷◌, ◌==◌, IfOk, IfSome, true, length, option_map};
 ghost use Rattle.std.specs.List.{list_all};
 ghost use Rattle.std.specs.Option.{option_copied};
-ghost use Rattle.fd_key.specs.Numerals.{cut};
+ghost use Rattle.fd_spelling.specs.Numerals.{cut};
 ghost use Rattle.fd_key.specs.Given.{pieces_of};
 ghost use Rattle.fd_key.specs.Reading.{pieces_if};
 ghost use Rattle.fd_script.specs.Grammar.{is_spelled, is_dataset, is_lane_byte, is_lane_name, number_of, unless_zero};
@@ -29,7 +29,7 @@ fn is_spelled(alloc: Global, text: &str) -> Result<bool, NoMemory>
 }
 
 /// What stands before the first comma, and what stands behind it.
-#[tactic(auto, unfolding(fd_key::specs::Numerals::cut))]
+#[tactic(auto, unfolding(fd_spelling::specs::Numerals::cut))]
 fn at_comma(text: &str) -> Option<(&str, &str)>
     ensures { option_map (λ p. (p.0.now, p.1.now)) result ≡ cut 44 text.now }
 {

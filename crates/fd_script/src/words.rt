@@ -1,6 +1,6 @@
 // What a line says.
 ghost use Rattle.std.specs.Prelude.{◌≡◌, option_map};
-ghost use Rattle.fd_key.specs.Numerals.{cut};
+ghost use Rattle.fd_spelling.specs.Numerals.{cut};
 ghost use Rattle.fd_script.specs.Lines.{is_silent, said, word_said, words_said};
 ghost use Rattle.fd_script.specs.Reading.{seen_said};
 
@@ -33,7 +33,7 @@ pub(crate) enum Said<'a> {
 }
 
 /// What stands before the first blank, and what stands behind it.
-#[tactic(auto, unfolding(fd_key::specs::Numerals::cut))]
+#[tactic(auto, unfolding(fd_spelling::specs::Numerals::cut))]
 fn at_blank(text: &str) -> Option<(&str, &str)>
     ensures { option_map (λ p. (p.0.now, p.1.now)) result ≡ cut 32 text.now }
 {

@@ -8,11 +8,11 @@ use Rattle.fd_io.proofs.Bytes.{Takes-none, Takes-more}
 use Rattle.fd_segment.specs.Copying.{IsPiece, IsCopied, IsCopiedInPart}
 use Rattle.fd_segment.specs.Counts.{pieces}
 
-piece_none : (fields : Option (List ℕ)) (at : ℕ) → IsPiece fields at 0 []
+pub piece_none : (fields : Option (List ℕ)) (at : ℕ) → IsPiece fields at 0 []
 piece_none None at = record { long = refl; told = tt }
 piece_none (Some f) at = record { long = refl; told = refl }
 
-piece_more : (fields : Option (List ℕ)) (at a b : ℕ) (x y : List ℕ) → IsPiece fields at a x → IsPiece fields (at + a) b y → IsPiece fields at (a + b) (x ++ y)
+pub piece_more : (fields : Option (List ℕ)) (at a b : ℕ) (x y : List ℕ) → IsPiece fields at a x → IsPiece fields (at + a) b y → IsPiece fields at (a + b) (x ++ y)
 piece_more None at a b x y p q = record { long = omega (arith, length-append x y, p.long, q.long); told = tt }
 piece_more (Some f) at a b x y p q = record {
   long = omega (arith, length-append x y, p.long, q.long);

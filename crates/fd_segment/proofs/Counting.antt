@@ -75,7 +75,7 @@ last_differ (p ∷ ps) = go (last_differ ps) (true_or_false (has_key ps p.key))
 -- the puts of a batch have its keys
 pub places_has : (at : ℕ) (b : List Pair) (key : List ℕ) → is_some (last_place key (places_from at b)) ≡ has_key b key
 places_has at [] key = refl
-places_has at (p ∷ ps) key = go (last_place key (places_from (at + length p.bytes) ps)) (bytes_eq key p.key) (has_key ps key) (places_has (at + length p.bytes) ps key) ∙ ap (λ (b : Bool). b || has_key ps key) (sym (same_as_eq p.key key))
+places_has at (p ∷ ps) key = go (last_place key (places_from (at + (length p.bytes + 32)) ps)) (bytes_eq key p.key) (has_key ps key) (places_has (at + (length p.bytes + 32)) ps key) ∙ ap (λ (b : Bool). b || has_key ps key) (sym (same_as_eq p.key key))
   where
     go : (o : Option (ℕ × ℕ)) (e h : Bool) → is_some o ≡ h → is_some (or_older o (if e then Some (at, length p.bytes) else None)) ≡ (e || h)
     go (Some x) true h is = refl

@@ -1,8 +1,9 @@
 pub mod Copied
+pub mod Hashed
 pub mod Differing
 pub mod Keys
 pub mod Counting
-pub mod Putting
 pub mod Places
+pub mod Putting
 pub mod Sealing
 pub mod Looking

@@ -1,5 +1,8 @@
 -- What is found and what is copied.
-use Rattle.std.specs.Prelude.{◌≡◌, ◌≤◌, ℕ, List, length, take, drop, Option, Some, option_map, IfSome}
+use Rattle.std.specs.Prelude.{◌≡◌, ◌≤◌, ◌+◌, ◌++◌, ℕ, List, length, take, drop, Option, Some, option_map, IfSome}
+use Rattle.sha2.specs.declared.Sha256.{Sha256}
+use Rattle.sha2.specs.Sha256.{sha256}
+use Rattle.sha2.specs.Hashers.{Holds256}
 use Rattle.fd_entries.specs.declared.batch.Pair.{Pair}
 use Rattle.fd_entries.specs.Batches.{of_batch}
 use Rattle.fd_io.specs.Streams.{Takes}
@@ -30,3 +33,15 @@ IsCopied fields at len old new = (bytes : List ℕ) × IsPiece fields at len byt
 -- the same for a front of them
 abbrev pub IsCopiedInPart : Option (List ℕ) → ℕ → ℕ → Option (List ℕ) → Option (List ℕ) → Type 0
 IsCopiedInPart fields at len old new = (part : ℕ) × (part ≤ len) × IsCopied fields at part old new
+
+-- a hasher has taken in those bytes more
+abbrev pub IsHashed : Option (List ℕ) → ℕ → ℕ → Sha256 → Sha256 → Type 0
+IsHashed fields at len old new = (bytes : List ℕ) × IsPiece fields at len bytes × ((m : List ℕ) → Holds256 old m → Holds256 new (m ++ bytes))
+
+-- the SHA-256 of those bytes
+abbrev pub IsDigestOf : Option (List ℕ) → ℕ → ℕ → List ℕ → Type 0
+IsDigestOf fields at len digest = (bytes : List ℕ) × IsPiece fields at len bytes × (digest ≡ sha256 bytes)
+
+-- behind the bytes at the place stands their SHA-256
+abbrev pub IsDigestedAt : Option (List ℕ) → ℕ → ℕ → Type 0
+IsDigestedAt fields at len = (digest : List ℕ) × IsPiece fields (at + len) 32 digest × IsDigestOf fields at len digest

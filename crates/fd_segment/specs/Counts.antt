@@ -32,3 +32,8 @@ pieces len = (len + 4095) / 4096
 pub record HasCopied (len : ℕ) (old new : Opened) : Type 0 where
   pub few : new.field_reads ≤ old.field_reads + pieces len
   pub asked : new.field_asked ≤ old.field_asked + len
+
+-- the same, and one more, of the digest behind them
+pub record HasChecked (len : ℕ) (old new : Opened) : Type 0 where
+  pub few : new.field_reads ≤ old.field_reads + (pieces len + 1)
+  pub asked : new.field_asked ≤ old.field_asked + (len + 32)

@@ -1,10 +1,10 @@
-ghost use Rattle.std.specs.Prelude.{◌≡◌, ◌≤◌, ◌<◌, ◌+◌, ◌^◌, ◌⊎◌, ◌↔◌, ◌++◌, [], ◌∷◌, List, true, false, length, is_some, IsTrue, IfOk, IfErr, OnOk, OnErr, option_map};
+ghost use Rattle.std.specs.Prelude.{◌≡◌, ◌≤◌, ◌<◌, ◌+◌, ◌^◌, ◌⊎◌, ◌↔◌, ◌++◌, [], ◌∷◌, List, true, false, Some, length, is_some, IsTrue, IfOk, IfErr, OnOk, OnErr, option_map};
 ghost use Rattle.fd_bytes.specs.Causes.{Rose};
 ghost use Rattle.fd_disk.specs.declared.folders.FileKind.TheVariants.{Fields, Index};
 ghost use Rattle.fd_disk.specs.declared.folders.FileName.{FileName};
 ghost use Rattle.fd_disk.specs.Causes.{OnFault, OnNoMemory};
 ghost use Rattle.fd_disk.specs.Folders.{WhereTold};
-ghost use Rattle.fd_disk.specs.Images.{IsAfterFailedWrite, firm_file, synced, written};
+ghost use Rattle.fd_disk.specs.Images.{firm_file, synced};
 ghost use Rattle.fd_disk.specs.Names.{name_of};
 ghost use Rattle.fd_entries.specs.declared.batch.Pair.{Pair};
 ghost use Rattle.fd_entries.specs.Batches.{distinct};
@@ -12,11 +12,13 @@ ghost use Rattle.fd_index.specs.Builder.{room_for};
 ghost use Rattle.fd_index.specs.Pages.{index_of};
 ghost use Rattle.fd_segment.specs.Causes.{FullAs, OnPutFault, OnPutFull};
 ghost use Rattle.fd_segment.specs.Filling.{HoldsSame, IsOf, IsSealed, Puts};
-ghost use Rattle.fd_segment.specs.Steps.{StopsSealing, with_front};
+ghost use Rattle.fd_segment.specs.Steps.{StopsPutting, StopsSealing, digested, with_front};
+ghost use Rattle.sha2.specs.Sha256.{sha256};
 
 use crate::fault::PutFault;
 use crate::firm::make_firm;
 use crate::segment::Segment;
+use crate::writing::write_digested;
 use fd_disk::{Disk, Down, Shelf};
 use fd_index::IndexBuilder;
 use std::alloc::Global;
@@ -126,20 +128,20 @@ impl<F: Send, H: Shelf<F>> Draft<F, H> {
 }
 
 impl<F: Send, H: Shelf<F>> Draft<F, H> {
-    /// Writes the bytes behind those that were put, and takes the key with their place. It takes no memory. After a refusal
-    /// the batch is as before.
+    /// Writes the bytes behind those that were put, and then their SHA-256 behind them, and takes the key with their place. It
+    /// takes no memory. After a refusal the batch is as before.
     ///
     /// `Full` comes exactly where the index has no room for the key, and before anything is written. `Fault` comes only
     /// where the field file's count of faults rose.
     pub fn put(&mut self, key: &[u8], bytes: &[u8]) -> Result<(), PutFault<F>>
         requires key { length key.now ≤ 256 }
-        requires sum { self.old.end + length bytes.now < 2 ^ 63 }
+        requires sum { self.old.end + (length bytes.now + 32) < 2 ^ 63 }
         ensures ok { OnOk result ((b : List Pair) → Puts self.old b → Puts self.new (b ++ record { key = key.now; bytes = bytes.now } ∷ [])) }
-        ensures end { OnOk result (self.new.end ≡ self.old.end + length bytes.now) }
+        ensures end { OnOk result (self.new.end ≡ self.old.end + (length bytes.now + 32)) }
         ensures err { OnErr result ((b : List Pair) → Puts self.old b → Puts self.new b) }
         ensures refused { OnErr result ((self.new.held ≡ self.old.held) × (self.new.end ≡ self.old.end)) }
-        ensures file { OnOk result (self.new.field_file ≡ option_map (λ f. written f self.old.end bytes.now) self.old.field_file) }
-        ensures file_err { IfErr result (λ e. OnPutFault e (WhereTold self.old.field_file self.new.field_file (λ f g. IsAfterFailedWrite f self.old.end (length bytes.now) g))) }
+        ensures file { OnOk result (self.new.field_file ≡ option_map (digested self.old.end bytes.now) self.old.field_file) }
+        ensures file_err { IfErr result (λ e. OnPutFault e (WhereTold self.old.field_file self.new.field_file (StopsPutting self.old.end bytes.now))) }
         ensures index_file { self.new.index_file ≡ self.old.index_file }
         ensures origin { self.new.origin ≡ self.old.origin }
         ensures room { (self.new.held.keys ≡ self.old.held.keys) × (self.new.held.bytes ≡ self.old.held.bytes) }
@@ -154,13 +156,13 @@ impl<F: Send, H: Shelf<F>> Draft<F, H> {
                 left: full.left,
             });
         }
-        if let Err(fault) = self.field_file.write_at(self.end, bytes) {
+        if let Err(fault) = write_digested(&mut self.field_file, self.end, bytes) {
             return Err(PutFault::Fault(fault));
         }
         let Ok(()) = self.records.put(key, self.end, bytes.len() as u64) else {
             unreachable!();
         };
-        self.end += bytes.len() as u64;
+        self.end += bytes.len() as u64 + 32;
         Ok(())
     }
 
@@ -172,7 +174,7 @@ impl<F: Send, H: Shelf<F>> Draft<F, H> {
         self.records.len()
     }
 
-    /// How many bytes were put, all of them together.
+    /// How many bytes were put, all of them together, with 32 for the digest of each put.
     pub fn size(&self) -> u64
         ensures { result ≡ self.now.end }
     {
@@ -188,7 +190,7 @@ impl<F: Send, H: Shelf<F>> Draft<F, H> {
     }
 
     /// Makes the two files firm, where a pair was put: syncs the fields, writes the index and syncs it, in this order. The
-    /// draft that comes back with an `Err` holds the same pairs, and may be put to or sealed again; the steps before the
+    /// segment has the SHA-256 of the index. The draft that comes back with an `Err` holds the same pairs, and may be put to or sealed again; the steps before the
     /// one that failed are done.
     ///
     /// `Fault` comes only where a count of faults of one of the two files rose. After `NoMemory` nothing was written.
@@ -196,6 +198,7 @@ impl<F: Send, H: Shelf<F>> Draft<F, H> {
         requires { 0 < length self.held.records }
         ensures sealed { IfOk result (λ s. (b : List Pair) → Puts self b → IsSealed self b s) }
         ensures files { IfOk result (IsOf self.origin) }
+        ensures digest { IfOk result (λ s. s.files.entry.digest ≡ Some (sha256 (index_of self.held.records))) }
         ensures fields { IfOk result (λ s. s.files.fields ≡ option_map (λ f. f.reads) (option_map synced self.field_file)) }
         ensures index { IfOk result (λ s. s.files.index ≡ option_map (λ f. f.reads) (option_map synced (with_front (index_of self.held.records) self.index_file))) }
         ensures stops { IfErr result (λ e. OnFault e.1 (StopsSealing (index_of self.held.records) self.field_file self.index_file e.0.field_file e.0.index_file)) }
@@ -215,12 +218,13 @@ impl<F: Send, H: Shelf<F>> Draft<F, H> {
             of: _,
         } = self;
         match make_firm(alloc, &records, &mut field_file, &mut index_file) {
-            Ok(index_len) => Ok(Segment::new(
+            Ok((index_len, digest)) => Ok(Segment::new(
                 writer,
                 seq,
                 records.len(),
                 index_len,
                 end,
+                digest,
                 field_file.seal(),
                 index_file.seal(),
             )),

@@ -42,10 +42,30 @@ pub enum Damage {
     Beyond {
         /// The field file.
         file: FileName,
-        /// The record's place plus its length.
+        /// The record's place plus its length, and 32 more where the batch has digests.
         end: u128,
         /// The length of the fields that the entry says.
         len: u64,
+    },
+    /// The digest of the entry isn't that of its index file.
+    IndexDigest {
+        /// The index file.
+        file: FileName,
+        /// The entry's digest.
+        want: [u8; 32],
+        /// The SHA-256 of the index.
+        got: [u8; 32],
+    },
+    /// The digest behind a field isn't that of its bytes.
+    FieldDigest {
+        /// The field file.
+        file: FileName,
+        /// The place of the field's first byte, from 0.
+        at: u64,
+        /// The digest that stands behind the field.
+        want: [u8; 32],
+        /// The SHA-256 of the field's bytes.
+        got: [u8; 32],
     },
 }
 
@@ -58,6 +78,15 @@ pub enum LensFault<F> {
     Damaged(Damage),
     /// An allocation was refused.
     NoMemory,
+}
+
+/// Why bytes weren't found to have their digest.
+#[derive(Drop)]
+pub enum CheckFault<F> {
+    /// The field file failed.
+    Fault(F),
+    /// The digest behind the bytes isn't theirs.
+    Damaged(Damage),
 }
 
 /// Why bytes weren't copied to their end.

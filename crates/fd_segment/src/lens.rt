@@ -1,15 +1,16 @@
-ghost use Rattle.std.specs.Prelude.{◌≡◌, ◌≤◌, ◌+◌, ℕ, List, Option, take, IfOk, IfErr, OnOk, IfSome};
+ghost use Rattle.std.specs.Prelude.{◌≡◌, ◌≤◌, ◌+◌, ℕ, List, Option, Some, None, Ok, take, IfOk, IfErr, OnOk, IfSome, IsSome};
 ghost use Rattle.fd_disk.specs.Names.{name_of};
 ghost use Rattle.fd_bytes.specs.Causes.{Rose};
 ghost use Rattle.fd_pages.specs.Paging.{HasRead, digits};
 ghost use Rattle.fd_pages.specs.Parts.{IsSeen, pages_by};
-ghost use Rattle.fd_segment.specs.Causes.{IsBadIndex, IsFindDamage, IsPlace, OnCopyFault, OnDamaged, OnLensFault, StandsForNone, UnlessWrite, lens_fault};
-ghost use Rattle.fd_segment.specs.Copying.{IsBatchIndex, IsCopied, IsCopiedInPart, IsOfBatch};
-ghost use Rattle.fd_segment.specs.Counts.{HasCopied, KeepsFieldCounts, KeepsIndexCounts, paging_of};
-ghost use Rattle.fd_segment.specs.Held.{IsIndexOf};
+ghost use Rattle.fd_segment.specs.Causes.{IsBadIndex, IsFieldDamage, IsFindDamage, IsPlace, OnCheckDamaged, OnCheckFault, OnCopyFault, OnDamaged, OnLensFault, StandsForNone, UnlessWrite, lens_fault};
+ghost use Rattle.fd_segment.specs.Copying.{IsBatchIndex, IsCopied, IsCopiedInPart, IsDigestedAt, IsOfBatch};
+ghost use Rattle.fd_segment.specs.Counts.{HasChecked, HasCopied, KeepsFieldCounts, KeepsIndexCounts, paging_of};
+ghost use Rattle.fd_segment.specs.Held.{IsIndexOf, behind};
 
 use crate::copying::copy_pieces;
-use crate::fault::{CopyFault, Damage, LensFault};
+use crate::digest::{digest_at, kept_at};
+use crate::fault::{CheckFault, CopyFault, Damage, LensFault};
 use fd_disk::{FileKind, FileName, Reader};
 use fd_entries::Entry;
 use fd_index::{Index, IndexFault};
@@ -82,7 +83,7 @@ impl<F: Send, R: Reader<F>> Lens<F, R> {
         ensures place { IfOk result (IsPlace self.old.files.entry self.old.files.index key.now) }
         ensures seen { IfOk result (IsSeen self.old.files.index self.old.files.entry.index_len key.now) }
         ensures batch { IfOk result (IsOfBatch self.old.files key.now) }
-        ensures inside { IfOk result (λ o. IfSome o (λ p. p.0 + p.1 ≤ self.old.files.entry.fields_len)) }
+        ensures inside { IfOk result (λ o. IfSome o (λ p. p.0 + p.1 + behind self.old.files.entry ≤ self.old.files.entry.fields_len)) }
         ensures damaged { IfErr result (λ e. OnDamaged e (IsFindDamage self.old.files.entry self.old.files.index key.now)) }
         ensures sound { IfErr result (λ e. OnDamaged e (λ _. StandsForNone self.old.files)) }
         ensures files { self.new.files ≡ self.old.files }
@@ -96,7 +97,7 @@ impl<F: Send, R: Reader<F>> Lens<F, R> {
             Ok(None) => return Ok(None),
             Err(fault) => return Err(lens_fault(&self.entry, fault)),
         };
-        let end = u128::from(at) + u128::from(len);
+        let end = u128::from(at) + u128::from(len) + u128::from(behind(&self.entry));
         if end <= u128::from(self.entry.fields_len) {
             return Ok(Some((at, len)));
         }
@@ -124,6 +125,46 @@ impl<F: Send, R: Reader<F>> Lens<F, R> {
         read_index(alloc, &bytes, &self.entry)
     }
 
+    /// Checks the bytes at a place of the field file against the digest behind them. Where the batch has no digests it reads
+    /// nothing and answers `Ok`. Else it reads the bytes in pieces of 4096, and then the digest.
+    ///
+    /// `Damaged` is here only `FieldDigest`, exactly where the digest that stands there isn't that of the bytes. It never
+    /// comes at the place of a key where the files stand for a batch. `Fault` comes only where the field file's count of
+    /// faults rose.
+    pub fn check(&mut self, at: u64, len: u64) -> Result<(), CheckFault<F>>
+        requires { at + len + behind self.old.files.entry ≤ self.old.files.entry.fields_len }
+        ensures ok { OnOk result (IsSome self.old.files.entry.digest → IsDigestedAt self.old.files.fields at len) }
+        ensures damaged { IfErr result (λ e. OnCheckDamaged e (IsFieldDamage self.old.files.entry self.old.files.fields at len)) }
+        ensures sound { IfErr result (λ e. OnCheckDamaged e (λ _. (key : List ℕ) → IsPlace self.old.files.entry self.old.files.index key (Some (at, len)) → StandsForNone self.old.files)) }
+        ensures plain { self.old.files.entry.digest ≡ None → (result ≡ Ok tt) × (self.new ≡ self.old) }
+        ensures files { self.new.files ≡ self.old.files }
+        ensures few { HasChecked len self.old self.new }
+        ensures unread { KeepsIndexCounts self.old self.new }
+        ensures later { (self.new.index_faults ≡ self.old.index_faults) × (self.old.field_faults ≤ self.new.field_faults) }
+        ensures cause { IfErr result (λ e. OnCheckFault e (Rose self.old.field_faults self.new.field_faults)) }
+    {
+        if self.entry.digest.is_none() {
+            return Ok(());
+        }
+        let got = match digest_at(&mut self.field_file, at, len) {
+            Ok(got) => got,
+            Err(fault) => return Err(CheckFault::Fault(fault)),
+        };
+        let want = match kept_at(&mut self.field_file, at + len) {
+            Ok(want) => want,
+            Err(fault) => return Err(CheckFault::Fault(fault)),
+        };
+        if want == got {
+            return Ok(());
+        }
+        Err(CheckFault::Damaged(Damage::FieldDigest {
+            file: file_name(&self.entry, FileKind::Fields),
+            at,
+            want,
+            got,
+        }))
+    }
+
     /// Copies the bytes at a place of the field file into the sink, in pieces of 4096 bytes. After an `Err` a front of
     /// them was written, and the sink's count of faults rose where it is `Write`, and else stayed. Each piece is one read,
     /// which asks for its bytes alone.
@@ -146,6 +187,14 @@ impl<F: Send, R: Reader<F>> Lens<F, R> {
     {
         copy_pieces(&mut self.field_file, at, len, sink)
     }
+}
+
+/// How many bytes stand behind those of each record.
+fn behind(entry: &Entry) -> u64
+    ensures count { result ≡ behind entry.now }
+    ensures few { result ≤ 32 }
+{
+    if entry.digest.is_some() { 32 } else { 0 }
 }
 
 /// The name of a file of an entry.

@@ -3,13 +3,16 @@
 #![tactic(auto)]
 
 mod copying;
+mod digest;
 mod draft;
 mod fault;
 mod firm;
 mod lens;
 mod segment;
+mod writing;
 
+pub use digest::digest_at;
 pub use draft::{Draft, Room};
-pub use fault::{CopyFault, Damage, LensFault, PutFault};
+pub use fault::{CheckFault, CopyFault, Damage, LensFault, PutFault};
 pub use lens::Lens;
 pub use segment::Segment;

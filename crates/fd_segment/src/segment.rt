@@ -29,6 +29,8 @@ pub struct Segment<F: Send, Z: Sealed<F>> {
     pub index_len: u64,
     /// The length of the fields in their file, in bytes.
     pub fields_len: u64,
+    /// The SHA-256 of the index, where the batch has digests.
+    pub digest: Option<[u8; 32]>,
     field_file: Z,
     index_file: Z,
     // a fault may be moved to another thread, and need not be shared
@@ -43,7 +45,7 @@ impl<F: Send, Z: Sealed<F>> Model for Segment<F, Z> {
 
     ghost view = { λ s. record {
       files = record {
-        entry = record { writer = s.writer; seq = s.seq; fields = s.fields; index_len = s.index_len; fields_len = s.fields_len };
+        entry = record { writer = s.writer; seq = s.seq; fields = s.fields; index_len = s.index_len; fields_len = s.fields_len; digest = s.digest };
         index = Z.bytes s.index_file;
         fields = Z.bytes s.field_file;
       };
@@ -63,6 +65,7 @@ impl<F: Send, Z: Sealed<F>> Drop for Segment<F, Z> {
             fields: _,
             index_len: _,
             fields_len: _,
+            digest: _,
             field_file: _,
             index_file: _,
             of: _,
@@ -78,13 +81,14 @@ impl<F: Send, Z: Sealed<F>> Segment<F, Z> {
         fields: u32,
         index_len: u64,
         fields_len: u64,
+        digest: Option<[u8; 32]>,
         field_file: Z,
         index_file: Z,
     ) -> Segment<F, Z>
         requires dataset { Z.name index_file ≡ Z.name field_file }
         requires index { index_len ≤ Z.len index_file }
         requires fields { fields_len ≤ Z.len field_file }
-        ensures entry { result.files.entry ≡ record { writer = writer; seq = seq; fields = fields; index_len = index_len; fields_len = fields_len } }
+        ensures entry { result.files.entry ≡ record { writer = writer; seq = seq; fields = fields; index_len = index_len; fields_len = fields_len; digest = digest } }
         ensures index { result.files.index ≡ Z.bytes index_file }
         ensures fields { result.files.fields ≡ Z.bytes field_file }
         ensures dataset { result.dataset ≡ Z.name field_file }
@@ -97,6 +101,7 @@ impl<F: Send, Z: Sealed<F>> Segment<F, Z> {
             fields,
             index_len,
             fields_len,
+            digest,
             field_file,
             index_file,
             of: PhantomData,
@@ -113,6 +118,7 @@ impl<F: Send, Z: Sealed<F>> Segment<F, Z> {
             fields: self.fields,
             index_len: self.index_len,
             fields_len: self.fields_len,
+            digest: self.digest,
         }
     }
 

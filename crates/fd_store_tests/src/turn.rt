@@ -54,6 +54,7 @@ fn entry(seq: u32) -> Entry {
         fields: 1,
         index_len: 4120,
         fields_len: 183,
+        digest: None,
     }
 }
 

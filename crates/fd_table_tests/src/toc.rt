@@ -15,6 +15,7 @@ const FIRST: Entry = Entry {
     fields: 2,
     index_len: 4120,
     fields_len: 549,
+    digest: None,
 };
 
 const SECOND: Entry = Entry {
@@ -23,6 +24,7 @@ const SECOND: Entry = Entry {
     fields: 1,
     index_len: 4120,
     fields_len: 183,
+    digest: None,
 };
 
 const THIRD: Entry = Entry {
@@ -31,6 +33,7 @@ const THIRD: Entry = Entry {
     fields: 1,
     index_len: 4120,
     fields_len: 366,
+    digest: None,
 };
 
 /// What an append answered: its number, or why not.

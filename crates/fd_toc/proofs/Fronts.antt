@@ -1,12 +1,12 @@
 -- What a table lists is in its first octets, up to the gate behind the last slot.
-use Rattle.std.proofs.Common.{◌≡◌, inl, inr, ℕ, zero, suc, ◌+◌, ◌-◌, ◌*◌, ◌≤◌, List, [], ◌∷◌, ◌++◌, length, take, drop, replicate, refl, sym, ◌∙◌, ap, subst, arith, append_assoc, take-append-drop, IfSome, Option, Some, None, Result, Ok}
+use Rattle.std.proofs.Common.{◌≡◌, inl, inr, ℕ, zero, suc, ◌+◌, ◌-◌, ◌*◌, ◌≤◌, List, [], ◌∷◌, ◌++◌, length, take, drop, Bool, true, false, refl, sym, ◌∙◌, ap, subst, arith, append_assoc, take-append-drop, IfSome, Option, Some, None, Result, Ok}
 use Rattle.std.proofs.lemmas.List.{drop-take, take-take}
 use Rattle.std.specs.Prelude.{◌==◌, if◌then◌else◌}
 use Rattle.std.specs.Int.{w32, w64, to_be_bytes, from_be_bytes}
 use Rattle.fd_entries.proofs.Slots.{length-header}
 use Rattle.fd_entries.specs.declared.table.Entry.{Entry}
 use Rattle.fd_disk.specs.declared.file.File.{File}
-use Rattle.fd_entries.specs.Table.{IsTable, table_of, slots_of, mismatch, any_octets, fixed, header, exceeds, entry_fault, entry_in, or_else, unless_fault, with_entry, run_from, listed, gate_at, greatest_writer}
+use Rattle.fd_entries.specs.Table.{has_digest, tail_octets, IsTable, table_of, slots_of, mismatch, any_octets, fixed, header, exceeds, entry_fault, entry_in, or_else, unless_fault, with_entry, run_from, listed, gate_at, greatest_writer}
 use Rattle.fd_entries.specs.declared.table.NotATable.{NotATable}
 use Rattle.fd_toc.specs.Lists.{IsFront}
 
@@ -31,36 +31,49 @@ behind a n xs few =
     let parts : n ≡ a + (n - a) = omega (arith, few) in
     ap (λ (k : ℕ). drop a (take k xs)) parts ∙ drop-take a (n - a) xs
 
-abbrev entry_by : List ℕ → List ℕ → List ℕ → List ℕ → List ℕ → Entry
-entry_by writer seq fields index_len fields_len = record {
-  writer = from_be_bytes w32 writer;
-  seq = from_be_bytes w32 seq;
-  fields = from_be_bytes w32 fields;
-  index_len = from_be_bytes w64 index_len;
-  fields_len = from_be_bytes w64 fields_len;
-}
+has_front : (n : ℕ) (rest : List ℕ) → 1 ≤ n → has_digest (take n rest) ≡ has_digest rest
+has_front zero rest few = absurd (omega (arith, few))
+has_front (suc n) [] few = refl
+has_front (suc n) (kind ∷ rest) few = refl
 
 entry_front : (n : ℕ) (rest : List ℕ) → 63 ≤ n → entry_in (take n rest) ≡ entry_in rest
 entry_front n rest few =
-    let front = take n rest in
-    ap (λ (p : List ℕ). entry_by p (take 4 (drop 5 front)) (take 4 (drop 9 front)) (take 8 (drop 13 front)) (take 8 (drop 21 front))) (part 1 4 n rest (omega (arith, few)))
-    ∙ ap (λ (p : List ℕ). entry_by (take 4 (drop 1 rest)) p (take 4 (drop 9 front)) (take 8 (drop 13 front)) (take 8 (drop 21 front))) (part 5 4 n rest (omega (arith, few)))
-    ∙ ap (λ (p : List ℕ). entry_by (take 4 (drop 1 rest)) (take 4 (drop 5 rest)) p (take 8 (drop 13 front)) (take 8 (drop 21 front))) (part 9 4 n rest (omega (arith, few)))
-    ∙ ap (λ (p : List ℕ). entry_by (take 4 (drop 1 rest)) (take 4 (drop 5 rest)) (take 4 (drop 9 rest)) p (take 8 (drop 21 front))) (part 13 8 n rest (omega (arith, few)))
-    ∙ ap (entry_by (take 4 (drop 1 rest)) (take 4 (drop 5 rest)) (take 4 (drop 9 rest)) (take 8 (drop 13 rest))) (part 21 8 n rest (omega (arith, few)))
+    let has = has_front n rest (omega (arith, few)) in
+    let writer = part 1 4 n rest (omega (arith, few)) in
+    let seq = part 5 4 n rest (omega (arith, few)) in
+    let fields = part 9 4 n rest (omega (arith, few)) in
+    let index_len = part 13 8 n rest (omega (arith, few)) in
+    let fields_len = part 21 8 n rest (omega (arith, few)) in
+    let digest = part 29 32 n rest (omega (arith, few)) in
+    λ j. record {
+      writer = from_be_bytes w32 (writer j);
+      seq = from_be_bytes w32 (seq j);
+      fields = from_be_bytes w32 (fields j);
+      index_len = from_be_bytes w64 (index_len j);
+      fields_len = from_be_bytes w64 (fields_len j);
+      digest = if has j then Some (digest j) else None;
+    }
+
+tail_length : (two : Bool) → length (any_octets 24 ++ tail_octets two) ≡ 58
+tail_length true = refl
+tail_length false = refl
 
 fault_front : (i n : ℕ) (rest : List ℕ) → 63 ≤ n → entry_fault i (take n rest) ≡ entry_fault i rest
 fault_front i n rest few =
-    let tail = any_octets 24 ++ fixed (replicate 34 0) in
+    let tail = any_octets 24 ++ tail_octets (has_digest rest) in
     let most = to_be_bytes w32 (greatest_writer i) in
     let front = take n rest in
-    let long : length (any_octets 24 ++ fixed (replicate 34 0)) ≡ 58 = refl in
-    let last : mismatch (gate_at i + 6) tail (drop 5 front) ≡ mismatch (gate_at i + 6) tail (drop 5 rest) =
-    ap (mismatch (gate_at i + 6) tail) (behind 5 n rest (omega (arith, few)))
+    let has = has_front n rest (omega (arith, few)) in
+    let long : length tail ≡ 58 = tail_length (has_digest rest) in
+    let kind : mismatch (gate_at i + 1) (Some (if has_digest front then 2 else 1) ∷ any_octets 4) front ≡ mismatch (gate_at i + 1) (Some (if has_digest rest then 2 else 1) ∷ any_octets 4) rest =
+    ap (λ (two : Bool). mismatch (gate_at i + 1) (Some (if two then 2 else 1) ∷ any_octets 4) front) has
+    ∙ short_enough (gate_at i + 1) (Some (if has_digest rest then 2 else 1) ∷ any_octets 4) rest n (omega (arith, few)) in
+    let last : mismatch (gate_at i + 6) (any_octets 24 ++ tail_octets (has_digest front)) (drop 5 front) ≡ mismatch (gate_at i + 6) tail (drop 5 rest) =
+    ap (λ (two : Bool). mismatch (gate_at i + 6) (any_octets 24 ++ tail_octets two) (drop 5 front)) has
+    ∙ ap (mismatch (gate_at i + 6) tail) (behind 5 n rest (omega (arith, few)))
     ∙ short_enough (gate_at i + 6) tail (drop 5 rest) (n - 5) (omega (arith, few, long)) in
-    ap (λ (f : Option NotATable). or_else f (or_else (exceeds (gate_at i + 2) most (take 4 (drop 1 front))) (mismatch (gate_at i + 6) tail (drop 5 front)))) (short_enough (gate_at i + 1) (Some 1 ∷ any_octets 4) rest n (omega (arith, few)))
-    ∙ ap (λ (p : List ℕ). or_else (mismatch (gate_at i + 1) (Some 1 ∷ any_octets 4) rest) (or_else (exceeds (gate_at i + 2) most p) (mismatch (gate_at i + 6) tail (drop 5 front)))) (part 1 4 n rest (omega (arith, few)))
-    ∙ ap (λ (f : Option NotATable). or_else (mismatch (gate_at i + 1) (Some 1 ∷ any_octets 4) rest) (or_else (exceeds (gate_at i + 2) most (take 4 (drop 1 rest))) f)) last
+    let writer = part 1 4 n rest (omega (arith, few)) in
+    λ j. or_else (kind j) (or_else (exceeds (gate_at i + 2) most (writer j)) (last j))
 
 run_front : (room i n : ℕ) (bytes : List ℕ) → 64 * room + 1 ≤ n → run_from room i (take n bytes) ≡ run_from room i bytes
 run_front room i zero bytes few = absurd (omega (arith, few))

@@ -4,3 +4,4 @@ mod LoadSteps
 mod Fronts
 mod Meanwhile
 mod CallSteps
+mod Patterns

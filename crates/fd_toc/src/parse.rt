@@ -1,9 +1,9 @@
-ghost use Rattle.std.specs.Prelude.{◌≡◌, ◌≤◌, ◌<◌, ◌+◌, ◌*◌, ◌^◌, [], ◌∷◌, ◌++◌, Option, Some, None, Ok, Err, length, IfOk, MatchResult, replicate};
-ghost use Rattle.fd_entries.specs.Table.{mismatch, fixed, any_octets, exceeds, entry_fault, run_from, listed, IsTable};
+ghost use Rattle.std.specs.Prelude.{◌≡◌, ◌≤◌, ◌<◌, ◌+◌, ◌*◌, ◌^◌, [], ◌∷◌, ◌++◌, Option, Some, None, Ok, Err, if◌then◌else◌, length, IfOk, MatchResult, replicate};
+ghost use Rattle.fd_entries.specs.Table.{mismatch, fixed, any_octets, exceeds, entry_fault, has_digest, tail_octets, run_from, listed, IsTable};
 ghost use Rattle.fd_toc.specs.Slots.{slot_at, last_fault, OnNot, IfNext};
 
 use crate::found::header_bytes;
-use fd_entries::{Entry, NotATable};
+use fd_entries::{Entry, NotATable, has_digest};
 use std::alloc::Global;
 
 /// A slot of a table.
@@ -112,14 +112,26 @@ fn excess(at: u64, most: &[u8], bytes: &[u8]) -> Option<NotATable>
     }
 }
 
-fn kind_pattern() -> [Option<u8>; 5]
-    ensures { result ≡ Some 1 ∷ any_octets 4 }
+fn kind_pattern(two: bool) -> [Option<u8>; 5]
+    ensures { result ≡ Some (if two then 2 else 1) ∷ any_octets 4 }
 {
-    [Some(1), None, None, None, None]
+    let kind = if two { 2 } else { 1 };
+    [Some(kind), None, None, None, None]
+}
+
+// Numbers of any value, and what stands behind them.
+fn tail_pattern(two: bool) -> [Option<u8>; 58]
+    ensures { result ≡ any_octets 24 ++ tail_octets two }
+{
+    if two {
+        digest_pattern()
+    } else {
+        zero_pattern()
+    }
 }
 
 // Numbers of any value, and zeros.
-fn tail_pattern() -> [Option<u8>; 58]
+fn zero_pattern() -> [Option<u8>; 58]
     ensures { result ≡ any_octets 24 ++ fixed (replicate 34 0) }
 {
     let n = None;
@@ -130,6 +142,18 @@ fn tail_pattern() -> [Option<u8>; 58]
     ]
 }
 
+// Numbers of any value, a digest, and two zeros.
+fn digest_pattern() -> [Option<u8>; 58]
+    ensures { result ≡ any_octets 24 ++ (any_octets 32 ++ fixed (replicate 2 0)) }
+{
+    let n = None;
+    let z = Some(0);
+    [
+        n, n, n, n, n, n, n, n, n, n, n, n, n, n, n, n, n, n, n, n, n, n, n, n, n, n, n, n, n, n,
+        n, n, n, n, n, n, n, n, n, n, n, n, n, n, n, n, n, n, n, n, n, n, n, n, n, n, z, z,
+    ]
+}
+
 // The first fault of the entry in a slot.
 fn fault_of(i: u32, bytes: &[u8]) -> Option<NotATable>
     requires { i < 65535 }
@@ -137,7 +161,8 @@ fn fault_of(i: u32, bytes: &[u8]) -> Option<NotATable>
     ensures long { result ≡ None → 63 ≤ length bytes.now }
 {
     let gate = 320 + 64 * (i as u64);
-    let kind = departure(gate + 1, &kind_pattern(), bytes);
+    let two = has_digest(bytes);
+    let kind = departure(gate + 1, &kind_pattern(two), bytes);
     if kind.is_some() {
         return kind;
     }
@@ -146,7 +171,7 @@ fn fault_of(i: u32, bytes: &[u8]) -> Option<NotATable>
     if writer.is_some() {
         return writer;
     }
-    departure(gate + 6, &tail_pattern(), &bytes[5..])
+    departure(gate + 6, &tail_pattern(two), &bytes[5..])
 }
 
 fn read_slot(i: u32, bytes: &[u8]) -> Slot

@@ -1,13 +1,14 @@
 -- The pairs that each message of a trial is given, by computation.
 use Rattle.std.proofs.Common.{◌≡◌, ◌∙◌, List, refl, sym}
 use Rattle.std.specs.Prelude.{Result, Ok, codes}
-use Rattle.fd_key.specs.Canonical.{param_numbers, spelling, canonical, pair_of}
-use Rattle.fd_key.specs.Civil.{date_text, time_text, date_in, date_spelling, time_in, time_spelling}
+use Rattle.fd_spelling.specs.Canonical.{param_numbers, spelling, canonical, pair_of}
+use Rattle.fd_spelling.specs.Civil.{date_text, time_text, date_in, date_spelling, time_in, time_spelling}
 use Rattle.fd_key.specs.Given.{Refusal, plain_pair, with_piece, pairs_from, given_of}
-use Rattle.fd_key.specs.Levels.{levtype_text, types_in, levtype_spelling, level_text, unsigned_level, level_spelling, levelist_spelling, scaled_text, surface_text}
-use Rattle.fd_key.specs.Numerals.{number_up_to, cut}
+use Rattle.fd_spelling.specs.Levels.{levtype_text, types_in, levtype_spelling, level_text, unsigned_level, level_spelling, levelist_spelling, scaled_text}
+use Rattle.fd_key.specs.Fields.{surface_text}
+use Rattle.fd_spelling.specs.Numerals.{number_up_to, cut}
 use Rattle.fd_key.specs.Pairs.{Pair}
-use Rattle.fd_key.specs.Steps.{step_text, unit_of, unsigned_step, step_spelling}
+use Rattle.fd_spelling.specs.Steps.{step_text, unit_of, unsigned_step, step_spelling}
 use Rattle.fd_outcome.specs.Trying.{trial_given}
 
 given_is : given_of (codes "class=od,expver=0001") ≡ Ok trial_given

@@ -3,7 +3,7 @@ use Rattle.std.specs.Prelude.{ℕ, ◌≤◌, ◌<◌, IfSome, Bool, false, not,
 use Rattle.std.specs.Str.{bytes_eq}
 use Rattle.std.specs.Map.{lookup}
 use Rattle.fd_key.specs.Pairs.{Pair, text_of}
-use Rattle.fd_key.specs.Canonical.{pair_of}
+use Rattle.fd_spelling.specs.Canonical.{pair_of}
 use Rattle.fd_key.specs.Given.{Refusal, given_of}
 use Rattle.fd_words.specs.declared.command.Command.{Command}
 use Rattle.fd_words.specs.declared.command.Command.TheVariants as commands

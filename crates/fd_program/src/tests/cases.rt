@@ -59,6 +59,8 @@ pub(super) enum Event {
     Crash(u64),
     /// A file has the octets of these parts and those.
     Replaced(&'static str, &'static [Part], &'static [Part]),
+    /// Two files have the octets of these parts and those, one after the other.
+    BothReplaced(&'static [(&'static str, &'static [Part], &'static [Part])]),
     /// A file is away.
     Removed(&'static str),
 }
@@ -316,6 +318,16 @@ fn damage(
         && replace(alloc, store, file, Some(&octets))
 }
 
+/// The same of several files.
+fn damage_all(alloc: Global, store: &mut MemStore, files: &[(&str, &[Part], &[Part])]) -> bool {
+    for (file, whole, changes) in files {
+        if !damage(alloc, store, file, whole, changes) {
+            return false;
+        }
+    }
+    true
+}
+
 /// The store after a crash.
 fn crashed(alloc: Global, store: MemStore, choice: u64) -> Option<MemStore> {
     match store.crash(alloc, choice) {
@@ -328,6 +340,7 @@ fn crashed(alloc: Global, store: MemStore, choice: u64) -> Option<MemStore> {
 fn befalls(alloc: Global, store: &mut MemStore, event: &Event) -> bool {
     match event {
         Event::Replaced(file, whole, changes) => damage(alloc, store, file, whole, changes),
+        Event::BothReplaced(files) => damage_all(alloc, store, files),
         Event::Removed(file) => replace(alloc, store, file, None),
         Event::Nothing => true,
         Event::Crash(_) => false,

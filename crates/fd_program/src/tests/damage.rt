@@ -1,6 +1,7 @@
 //! What a retrieve says of a store of one field in which a file was damaged, or in which a call fails.
 use super::cases::{CASE, Case, Event, Row, first_wrong};
 use super::octets::Part;
+use super::sessions::UPPER;
 use super::stores::{ARCHIVED, CREATED, RETRIEVED};
 use fd_disk_mem::Op;
 
@@ -20,7 +21,7 @@ const INDEX_FILE: &[Part] = &[
     Part::Octets(b"\0\0\0\0\0\0\0\x01\0\0\0\x01FEND"),
 ];
 
-/// The table of the dataset, with the one entry.
+/// The table of the dataset, with the one entry of kind 1: what the two files say then stands without digests.
 const TABLE_FILE: &[Part] = &[
     Part::Octets(b"FDTOC001\0\x2C"),
     Part::Text("class=od,expver=0001,date=20240101,time=0000"),
@@ -30,12 +31,21 @@ const TABLE_FILE: &[Part] = &[
     Part::Length(385),
 ];
 
+/// The SHA-256 of the field.
+const DIGEST: &[u8] = &[
+    0x9D, 0x90, 0xB6, 0x4B, 0xFA, 0x67, 0xD6, 0x96, 0xF5, 0x45, 0x2E, 0xC2, 0x8A, 0xCE, 0x65, 0xEE,
+    0x3E, 0x95, 0xC3, 0x2E, 0x4B, 0x2D, 0x83, 0xE8, 0xAF, 0x3D, 0x8C, 0xED, 0x7A, 0x21, 0x96, 0x3A,
+];
+
 /// A store in which the field is archived, and found.
 const SOUND: Case = Case {
     rows: &[CREATED, ARCHIVED],
     after: &[RETRIEVED],
     ..CASE
 };
+
+/// The table has an entry of kind 1.
+const OLD: (&str, &[Part], &[Part]) = (TABLE, TABLE_FILE, &[]);
 
 /// A retrieve that tells of damage.
 const DAMAGED: Row = Row {
@@ -54,7 +64,7 @@ const FIELD_FILES: &[Case] = &[
         ..SOUND
     },
     Case {
-        event: Event::Replaced(FIELDS, &[Part::Field(&[])], &[Part::Length(182)]),
+        event: Event::BothReplaced(&[OLD, (FIELDS, &[Part::Field(&[])], &[Part::Length(182)])]),
         after: &[Row {
             report: "damaged class=od,expver=0001,date=20240101,time=0000 Length 1-1.fields 183 182\n",
             ..DAMAGED
@@ -74,7 +84,7 @@ const INDEX_FILES: &[Case] = &[
         ..SOUND
     },
     Case {
-        event: Event::Replaced(INDEX, INDEX_FILE, &[Part::Length(4000)]),
+        event: Event::BothReplaced(&[OLD, (INDEX, INDEX_FILE, &[Part::Length(4000)])]),
         after: &[Row {
             report: "damaged class=od,expver=0001,date=20240101,time=0000 Length 1-1.index 4120 4000\n",
             ..DAMAGED
@@ -82,7 +92,7 @@ const INDEX_FILES: &[Case] = &[
         ..SOUND
     },
     Case {
-        event: Event::Replaced(INDEX, INDEX_FILE, &[Part::At(0, 0)]),
+        event: Event::BothReplaced(&[OLD, (INDEX, INDEX_FILE, &[Part::At(0, 0)])]),
         after: &[Row {
             report: "damaged class=od,expver=0001,date=20240101,time=0000 Index 1-1.index 0\n",
             ..DAMAGED
@@ -90,7 +100,7 @@ const INDEX_FILES: &[Case] = &[
         ..SOUND
     },
     Case {
-        event: Event::Replaced(INDEX, INDEX_FILE, &[Part::At(90, 0xB8)]),
+        event: Event::BothReplaced(&[OLD, (INDEX, INDEX_FILE, &[Part::At(90, 0xB8)])]),
         after: &[Row {
             report: "damaged class=od,expver=0001,date=20240101,time=0000 Beyond 1-1.fields 184 183\n",
             ..DAMAGED
@@ -102,6 +112,74 @@ const INDEX_FILES: &[Case] = &[
 #[test]
 fn a_damaged_index_is_named(rt: HostRuntime) {
     assert_eq!(rt; first_wrong(&rt, rt.alloc(), INDEX_FILES), None);
+}
+
+/// A store of the one field with digests, in which a file is another.
+const DIGESTS: &[Case] = &[
+    Case {
+        event: Event::Replaced(FIELDS, &[Part::Field(&[])], &[Part::Octets(DIGEST)]),
+        ..SOUND
+    },
+    Case {
+        event: Event::Replaced(
+            FIELDS,
+            &[Part::Field(&[])],
+            &[Part::Octets(DIGEST), Part::At(100, 7)],
+        ),
+        after: &[Row {
+            report: "damaged class=od,expver=0001,date=20240101,time=0000 FieldDigest 1-1.fields 0 9d90b64bfa67d696f5452ec28ace65ee3e95c32e4b2d83e8af3d8ced7a21963a 63e13a1dc1a034985157704dae3c802965ca2a7654ec7477cac51214342b2a03\n",
+            ..DAMAGED
+        }],
+        ..SOUND
+    },
+    Case {
+        event: Event::Replaced(INDEX, INDEX_FILE, &[Part::At(90, 0xB8)]),
+        after: &[Row {
+            report: "damaged class=od,expver=0001,date=20240101,time=0000 IndexDigest 1-1.index f24e9ee22323bbf646e70189deb59ab0a2457ca0f6151cdd812c667ca60e02e2 e36888d635fb166f3f763cffb4b3982db9c04c5c50b1cdb4899c27ed36f90361\n",
+            ..DAMAGED
+        }],
+        ..SOUND
+    },
+    Case {
+        event: Event::Replaced(FIELDS, &[Part::Field(&[])], &[Part::Length(214)]),
+        after: &[Row {
+            report: "damaged class=od,expver=0001,date=20240101,time=0000 Length 1-1.fields 215 214\n",
+            ..DAMAGED
+        }],
+        ..SOUND
+    },
+];
+
+/// Another octet of a field or of an index is told, with both digests, and nothing of the field is written.
+#[test]
+fn a_digest_that_differs_is_named(rt: HostRuntime) {
+    assert_eq!(rt; first_wrong(&rt, rt.alloc(), DIGESTS), None);
+}
+
+/// A store whose one entry is of kind 1, and to which another field is added.
+const MIXED: &[Case] = &[Case {
+    event: Event::BothReplaced(&[OLD]),
+    after: &[
+        Row {
+            input: &[UPPER],
+            ..ARCHIVED
+        },
+        Row {
+            input: &[Part::Text(
+                "retrieve,class=od,expver=0001,date=20240101,time=00,centre=98,type=1,levtype=100,param=0.0.0,step=0,levelist=100000/92500",
+            )],
+            output: &[Part::Field(&[]), UPPER],
+            report: "found 2 missed 0\n",
+            ..RETRIEVED
+        },
+    ],
+    ..SOUND
+}];
+
+/// Entries of both kinds stand in one table.
+#[test]
+fn a_table_may_have_both_kinds(rt: HostRuntime) {
+    assert_eq!(rt; first_wrong(&rt, rt.alloc(), MIXED), None);
 }
 
 const TABLES: &[Case] = &[

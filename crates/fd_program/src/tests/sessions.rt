@@ -259,7 +259,7 @@ const FIRST: Part = Part::Field(&[]);
 
 const OTHER: Part = Part::Field(&[(136, 0xA1)]);
 
-const KEYLESS: Part = Part::Field(&[(117, 1)]);
+const KEYLESS: Part = Part::Field(&[(117, 2)]);
 
 const MISCAST: Row = Row {
     status: 3,
@@ -295,7 +295,7 @@ const CASTING: &[Case] = &[Case {
                 OTHER,
                 KEYLESS,
             ],
-            report: "refused script 5 Key Product 1\n",
+            report: "refused script 5 Key Product 2\n",
             ..MISCAST
         },
         Row {

@@ -168,7 +168,7 @@ pub(super) const LISTED: Row = Row {
 /// What it tells of itself.
 pub(super) const ONE_FIELD: Row = Row {
     output: &[Part::Text(
-        "class=od,expver=0001,date=20240101,time=0000 entries 1 fields 1 keys 1 bytes 183\n",
+        "class=od,expver=0001,date=20240101,time=0000 entries 1 fields 1 keys 1 bytes 215\n",
     )],
     ..EMPTY
 };
@@ -201,7 +201,7 @@ class=od,expver=0001,date=20240101,time=0000 centre=98,type=1,levtype=100 step=0
         },
         Row {
             output: &[Part::Text(
-                "class=od,expver=0001,date=20240101,time=0000 entries 2 fields 2 keys 1 bytes 366\n",
+                "class=od,expver=0001,date=20240101,time=0000 entries 2 fields 2 keys 1 bytes 430\n",
             )],
             ..EMPTY
         },
@@ -237,7 +237,7 @@ const MASKING: &[Case] = &[Case {
         LISTED,
         Row {
             output: &[Part::Text(
-                "class=od,expver=0001,date=20240101,time=0000 entries 1 fields 1 keys 1 bytes 366\n",
+                "class=od,expver=0001,date=20240101,time=0000 entries 1 fields 1 keys 1 bytes 430\n",
             )],
             ..EMPTY
         },
@@ -261,4 +261,73 @@ fn keeps_files(rt: HostRuntime) {
         Err(_) => false,
     };
     assert!(rt; kept);
+}
+
+/// The field as member 7 of an ensemble of 51.
+const MEMBER: &[Part] = &[
+    Part::Field(&[(15, 186), (112, 37), (117, 1)]),
+    Part::Length(143),
+    Part::Octets(
+        b"\x03\x07\x33\
+\x00\x00\x00\x15\x05\x00\x00\x00\x04\x00\x00\x43\xFA\x00\x00\x80\x01\x00\x01\x08\x00\
+\x00\x00\x00\x06\x06\xFF\
+\x00\x00\x00\x09\x07\x03\x10\x1D\x2A\
+7777",
+    ),
+];
+
+const VERSIONS: &[Case] = &[
+    Case {
+        rows: &[
+            CREATED,
+            Row {
+                input: MEMBER,
+                report: "refused NoRule centre=98,date=20240101,time=0000,type=1,param=0.0.0,levtype=100,levelist=100000,step=0,number=7,class=od,expver=0001\n",
+                status: 3,
+                ..ARCHIVED
+            },
+            ARCHIVED,
+            RETRIEVED,
+        ],
+        ..CASE
+    },
+    Case {
+        rows: &[
+            Row {
+                input: &[Part::Text("version 3 [a [b [c]]]")],
+                report: "refused schema 1 Version\n",
+                status: 3,
+                ..CREATED
+            },
+            Row {
+                input: &[Part::Text(
+                    "version 2 [class, expver, date, time [centre, type, levtype [param, step, levelist?, number?, stat?]]]",
+                )],
+                ..CREATED
+            },
+            Row {
+                input: MEMBER,
+                ..ARCHIVED
+            },
+            ARCHIVED,
+            Row {
+                input: &[Part::Text("list,levelist=100000")],
+                output: &[Part::Text(
+                    "class=od,expver=0001,date=20240101,time=0000 centre=98,type=1,levtype=100 param=0.0.0,step=0,levelist=100000 183 2
+class=od,expver=0001,date=20240101,time=0000 centre=98,type=1,levtype=100 param=0.0.0,step=0,levelist=100000,number=7 186 1
+",
+                )],
+                ..LISTED
+            },
+            RETRIEVED,
+        ],
+        ..CASE
+    },
+];
+
+/// A member of an ensemble has no rule in a schema of version 1, where the field is stored as ever, and stands beside the field in
+/// one of version 2.
+#[test]
+fn archives_members(rt: HostRuntime) {
+    assert_eq!(rt; first_wrong(&rt, rt.alloc(), VERSIONS), None);
 }

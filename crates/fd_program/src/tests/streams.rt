@@ -130,8 +130,8 @@ const REFUSING_INPUT: &[Case] = &[Case {
     rows: &[
         Row {
             words: STEP,
-            input: &[Part::Field(&[]), Part::Field(&[(117, 1)])],
-            report: "refused key 2 Product 1\n",
+            input: &[Part::Field(&[]), Part::Field(&[(117, 2)])],
+            report: "refused key 2 Product 2\n",
             status: 3,
             ..ROW
         },
@@ -219,10 +219,10 @@ const KEYLESS: &[Part] = &[Part::Text(
     "message 1 length 183
 ident 98 0 2 0 1 2024 1 1 0 0 0 0 1
 grid 0 points 4 6 - - - - - - 2 2 0 - 10000000 0 48 0 10000000 10000000 10000000 0
-product 1 unread
+product 2 unread
 packing 0 coded 4 reference 1140457472 binary -1 decimal 1 bits 8 original 0
 map 255
-key refused Product 1
+key refused Product 2
 ",
 )];
 
@@ -277,7 +277,7 @@ const LIST: Case = Case {
         },
         Row {
             words: DESCRIBE,
-            input: &[Part::Field(&[(117, 1)])],
+            input: &[Part::Field(&[(117, 2)])],
             output: KEYLESS,
             ..ROW
         },

@@ -1,5 +1,5 @@
 use Rattle.std.proofs.Common.{rules, sym, arith, ◌∙◌, ◌≡◌, ap, length}
-use Rattle.fd_key.proofs.GivenLaws.{cut_lengths}
+use Rattle.fd_spelling.proofs.PieceLaws.{cut_lengths}
 use Rattle.fd_inventory.proofs.stored_key.stored_key.Goals as goal
 
 pub stored_at-requires : goal.stored_at-requires

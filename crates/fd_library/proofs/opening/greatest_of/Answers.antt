@@ -1,4 +1,4 @@
-use Rattle.std.proofs.Common.{rules, ◌≡◌, ◌≤◌, ◌*◌, length, All, arith, subst}
+use Rattle.std.proofs.Common.{rules, ◌≤◌, All, subst}
 use Rattle.std.proofs.lemmas.List.{take_all}
 use Rattle.fd_entries.specs.declared.table.Entry.{Entry}
 use Rattle.fd_library.proofs.Named.{greatest_more, larger_bound}

@@ -1,13 +1,15 @@
-use Rattle.std.proofs.Common.{rules, ◌≡◌, ◌∙◌, ap, refl, sym, subst, List, ℕ, Ok, Some, is_some, IfSome, map, length, option_map, string_bytes}
+use Rattle.std.proofs.Common.{rules, ◌⊎◌, ◌≡◌, ◌∙◌, ap, refl, sym, subst, List, ℕ, Ok, Some, is_some, IfSome, map, length, option_map, string_bytes}
+use Rattle.fd_bytes.specs.Causes.{Rose}
 use Rattle.fd_disk.specs.Folders.{SameBut, WhereTold, folder_at, with_table, without_table}
 use Rattle.fd_segment.specs.Held.{batch_of}
 use Rattle.fd_turn.specs.Passes.{BoardId, view}
 use Rattle.fd_turn.specs.Views.{first_view}
 use Rattle.fd_dataset.specs.Listed.{listings}
+use Rattle.fd_recovery.specs.Causes.{OnDisk}
 use Rattle.fd_recovery.specs.Recovered.{all_of, batches_listed, held}
 use Rattle.fd_segment.specs.Shared.{entries, standings}
 use Rattle.fd_library.specs.Open.{OpenDataset, seat_of}
-use Rattle.fd_library.specs.Answers.{HoldsAs, IsOpened}
+use Rattle.fd_library.specs.Answers.{HoldsAs, IsOpened, TableBroke}
 use Rattle.fd_library.specs.Stores.{KeepsTable}
 use Rattle.fd_library.proofs.Holding.{as_many_listed, folder_cause, holds_as, looks_back, writers_listed}
 use Rattle.fd_library.proofs.opening.opened.Goals as goal
@@ -18,7 +20,10 @@ returns-in-Err-clause-cause g c =
     let name = string_bytes c.args.name in
     let first : has c.in-Ok.folder ≡ option_map (λ s. folder_at s name) (g.S.Store.has c.args.store.now) = search rules in
     let left : IfSome (g.S.Store.has c.give_folder-in-Err.new.self) (λ t. has c.taken_up.new.folder ≡ Some (folder_at t name)) = search rules in
-    folder_cause c.in-Err.fault has g.S.Folder.Folder.faults c.in-Ok.folder c.taken_up.new.folder g.S.Folder.Table.Disk.file g.S.Folder.Table.Disk.faults (g.S.Store.has c.args.store.now) (g.S.Store.has c.give_folder-in-Err.new.self) name _ c.in-Err.ensures.cause first
+    let text : c.as_str-2.result.now ≡ name = search rules in
+    let cause : OnDisk c.in-Err.fault (Rose (g.S.Folder.Folder.faults c.in-Ok.folder) (g.S.Folder.Folder.faults c.taken_up.new.folder) ⊎ TableBroke g.S.Folder.Table.Disk.file g.S.Folder.Table.Disk.faults (has c.taken_up.new.folder) name) =
+    subst (λ (n : List ℕ). OnDisk c.in-Err.fault (Rose (g.S.Folder.Folder.faults c.in-Ok.folder) (g.S.Folder.Folder.faults c.taken_up.new.folder) ⊎ TableBroke g.S.Folder.Table.Disk.file g.S.Folder.Table.Disk.faults (has c.taken_up.new.folder) n)) text c.in-Err.ensures.cause in
+    folder_cause c.in-Err.fault has g.S.Folder.Folder.faults c.in-Ok.folder c.taken_up.new.folder g.S.Folder.Table.Disk.file g.S.Folder.Table.Disk.faults (g.S.Store.has c.args.store.now) (g.S.Store.has c.give_folder-in-Err.new.self) name _ cause first
     left
 
 pub returns-in-Ok-begun-clause-opened : goal.returns-in-Ok-begun-clause-opened

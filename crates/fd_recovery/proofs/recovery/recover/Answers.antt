@@ -1,9 +1,13 @@
-use Rattle.std.proofs.Common.{rules, ◌≡◌, ◌∙◌, IfSome, List, Ok, is_some, subst, true}
+use Rattle.std.proofs.Common.{rules, ◌≡◌, ◌∙◌, ◌⊎◌, IfSome, List, Ok, is_some, option_map, subst, true}
+use Rattle.fd_bytes.specs.Causes.{Rose}
+use Rattle.fd_disk.specs.Folders.{with_table, without_table}
+use Rattle.fd_disk.specs.Images.{synced}
 use Rattle.fd_entries.specs.declared.table.Entry.{Entry}
 use Rattle.fd_entries.specs.Table.{listed}
-use Rattle.fd_recovery.specs.Recovered.{AreTakenUp}
+use Rattle.fd_recovery.specs.Causes.{OnFileDisk}
+use Rattle.fd_recovery.specs.Recovered.{AreTakenUp, SomeDigest}
 use Rattle.fd_segment.specs.Shared.{standings}
-use Rattle.fd_recovery.proofs.TakingUp.{each_taken, held_taken, own_taken}
+use Rattle.fd_recovery.proofs.TakingUp.{each_taken, held_taken, own_taken, taken_cause}
 use Rattle.fd_recovery.proofs.recovery.recover.Goals as goal
 
 pub returns-in-Ok-clause-held : goal.returns-in-Ok-clause-held
@@ -25,3 +29,18 @@ returns-in-Ok-clause-own g c =
     let has = g.D.Folder.has in
     let same : g.D.Folder.name c.load_table.new.folder ≡ g.D.Table.Disk.name c.in-Ok-Some.toc.table = search rules in
     own_taken (g.D.Folder.name c.load_table.new.folder) (g.D.Table.Disk.name c.in-Ok-Some.toc.table) (has c.load_table.new.folder) _ c.in-Ok.segments.items same c.in-Ok.ensures.segments
+
+pub returns-in-Disk-clause-cause : goal.returns-in-Disk-clause-cause
+returns-in-Disk-clause-cause g c =
+    let has = g.D.Folder.has in
+    let faults = g.D.Folder.faults in
+    let toc = c.in-Ok-Some.toc in
+    let there : is_some c.in-Ok-Some.field-0 ≡ true = search rules in
+    let lists : IfSome (has c.args.folder.now) (λ v. IfSome v.table (λ f. listed c.args.dataset.now f.reads ≡ Ok toc.entries)) = search rules in
+    let firm : IfSome (has c.args.folder.now) (λ v. g.D.Table.Disk.file toc.table ≡ option_map synced v.table) = search rules in
+    let away : has c.segments_of.new.folder ≡ option_map without_table (has c.args.folder.now) = search rules in
+    let back : has c.give_table.new.self ≡ with_table (g.D.Table.Disk.file toc.table) (has c.segments_of.new.folder) = search rules in
+    let cause : OnFileDisk c.in-Err-segments_of.fault (Rose (faults c.load_table.new.folder) (faults c.segments_of.new.folder) ⊎ SomeDigest toc.entries) =
+    subst (λ (l : List Entry). OnFileDisk c.in-Err-segments_of.fault (Rose (faults c.load_table.new.folder) (faults c.segments_of.new.folder) ⊎ SomeDigest l)) c.entries.ensures.entries c.in-Err-segments_of.ensures.cause in
+    taken_cause c.in-Err-segments_of.fault c.in-Disk.fault g.D.Table.Disk.file g.D.Table.Disk.faults c.args.dataset.now (has c.args.folder.now) (has c.segments_of.new.folder) (has c.give_table.new.self) (g.D.Table.Disk.file toc.table) toc.entries (is_some c.in-Ok-Some.field-0)
+    (faults c.args.folder.now) (faults c.load_table.new.folder) (faults c.segments_of.new.folder) (faults c.give_table.new.self) c.in-Disk.is cause c.in-Ok-Some.ensures.later c.give_table.ensures.faults away firm there c.in-Ok-Some.ensures.none lists back

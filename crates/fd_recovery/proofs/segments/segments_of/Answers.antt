@@ -1,5 +1,5 @@
 use Rattle.std.proofs.Common.{◌∙◌, arith}
-use Rattle.fd_recovery.proofs.TakingUp.{entry_damaged, next_sound, next_taken}
+use Rattle.fd_recovery.proofs.TakingUp.{cause_of, entry_damaged, next_sound, next_taken}
 use Rattle.fd_recovery.proofs.segments.segments_of.Goals as goal
 
 pub returns-in-Err-clause-damaged : goal.returns-in-Err-clause-damaged
@@ -19,3 +19,7 @@ loop-i-preserved g c =
       name = c.in-Ok.ensures.name ∙ c.loop-i.invariant.name;
       later = omega (arith, c.in-Ok.ensures.later, c.loop-i.invariant.later);
     }
+
+pub returns-in-Err-clause-cause : goal.returns-in-Err-clause-cause
+returns-in-Err-clause-cause g c =
+    cause_of c.in-Err.fault (g.D.Folder.faults c.args.folder.now) (g.D.Folder.faults c.loop-i.folder) (g.D.Folder.faults c.segment_of.new.folder) c.args.entries.now c.loop-i.i _ c.loop-i.invariant.later (omega arith) c.in-Err.ensures.cause

@@ -14,17 +14,7 @@ returns-in-Err-Damaged-clause-those g c = less_those c.args.lenses.now c.opened.
 pub returns-in-Err-NoMemory-clause-those : goal.returns-in-Err-NoMemory-clause-those
 returns-in-Err-NoMemory-clause-those g c = less_those c.args.lenses.now c.opened.new.lenses c.args.snapshot.now c.requires.those c.in-Err-NoMemory.ensures.kept
 
-pub returns-in-Ok-answer-clause-those : goal.returns-in-Ok-answer-clause-those
-returns-in-Ok-answer-clause-those g c =
+pub returns-clause-those : goal.returns-clause-those
+returns-clause-those g c =
     still_those c.args.lenses.now c.keep.new.self c.args.snapshot.now c.args.number c.segment-segment.result.now c.requires.those (c.requires.number.0, c.segment-segment.ensures)
-    (kept_again c.args.lenses.now c.opened.new.lenses c.keep.new.self c.args.number c.copy_to-answer.new.self.files c.in-Ok.lens.files c.segment-segment.result.now.files c.copy_to-answer.ensures.files (inr c.in-Ok.ensures.files) c.in-Ok.ensures.kept c.keep.ensures)
-
-pub returns-in-Err-Fault-answer-clause-those : goal.returns-in-Err-Fault-answer-clause-those
-returns-in-Err-Fault-answer-clause-those g c =
-    still_those c.args.lenses.now c.keep.new.self c.args.snapshot.now c.args.number c.segment-segment.result.now c.requires.those (c.requires.number.0, c.segment-segment.ensures)
-    (kept_again c.args.lenses.now c.opened.new.lenses c.keep.new.self c.args.number c.copy_to-answer.new.self.files c.in-Ok.lens.files c.segment-segment.result.now.files c.copy_to-answer.ensures.files (inr c.in-Ok.ensures.files) c.in-Ok.ensures.kept c.keep.ensures)
-
-pub returns-in-Err-Write-clause-those : goal.returns-in-Err-Write-clause-those
-returns-in-Err-Write-clause-those g c =
-    still_those c.args.lenses.now c.keep.new.self c.args.snapshot.now c.args.number c.segment-segment.result.now c.requires.those (c.requires.number.0, c.segment-segment.ensures)
-    (kept_again c.args.lenses.now c.opened.new.lenses c.keep.new.self c.args.number c.copy_to-answer.new.self.files c.in-Ok.lens.files c.segment-segment.result.now.files c.copy_to-answer.ensures.files (inr c.in-Ok.ensures.files) c.in-Ok.ensures.kept c.keep.ensures)
+    (kept_again c.args.lenses.now c.opened.new.lenses c.keep.new.self c.args.number c.copy_checked-answer.new.lens.files c.in-Ok.lens.files c.segment-segment.result.now.files c.copy_checked-answer.ensures.files (inr c.in-Ok.ensures.files) c.in-Ok.ensures.kept c.keep.ensures)

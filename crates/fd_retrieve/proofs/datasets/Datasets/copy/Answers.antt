@@ -4,13 +4,12 @@ use Rattle.fd_entries.specs.declared.batch.Pair.{Pair}
 use Rattle.fd_entries.specs.Batches.{newest}
 use Rattle.fd_segment.specs.Copying.{IsCopied, IsCopiedInPart}
 use Rattle.fd_schema.specs.Rules.{Texts, file_key}
-use Rattle.fd_segment.specs.Causes.{IsBadFrame, IsBadIndex}
 use Rattle.fd_retriever.specs.Answers.{IsAnswer, OnDamaged, TookFront}
 use Rattle.fd_retriever.specs.Kept.{AreThose}
 use Rattle.fd_retrieve.specs.Located.{IsIn, IsLocated}
 use Rattle.fd_retrieve.specs.declared.locating.Located.{Located}
 use Rattle.fd_retrieve.specs.Open.{IsDamagedAt, Open, table_in}
-use Rattle.fd_retrieve.proofs.DamageLemmas.{copied_damage, on_damaged}
+use Rattle.fd_retrieve.proofs.DamageLemmas.{IsMetThere, copied_damage, on_damaged}
 use Rattle.fd_retrieve.proofs.CopiedLemmas.{found_part, found_whole}
 use Rattle.fd_retrieve.proofs.DatasetLemmas.{same_get, those_of}
 use Rattle.fd_retrieve.proofs.datasets.Datasets.copy.Goals as goal
@@ -85,11 +84,11 @@ returns-clause-damaged g c =
       | in-Ok-answer w ↦ subst (λ r. IfErr r (λ e. OnDamaged e (λ d. (k : Located) × (c.args.located ≡ Some k) × IsDamagedAt c.args.self.now k.number d))) (sym w.result-is) tt
       | in-Err w ↦
           subst (λ r. IfErr r (λ e. OnDamaged e (λ d. (k : Located) × (c.args.located ≡ Some k) × IsDamagedAt c.args.self.now k.number d))) (sym w.result-is)
-          (on_damaged w.in-Err.fault (λ d. IfSome (slice_get c.behind-self.inside.snapshot (l.spot.number - 1)) (λ s. IsBadIndex s.files.entry s.files.index d × IsBadFrame s.files.entry s.files.index d))
+          (on_damaged w.in-Err.fault (λ d. IfSome (slice_get c.behind-self.inside.snapshot (l.spot.number - 1)) (IsMetThere l d))
           (λ d. (k : Located) × (c.args.located ≡ Some k) × IsDamagedAt c.args.self.now k.number d) (λ d bad. (
             l,
             c.in-Some.is,
-            copied_damage c.args.self.now l in'.dataset d in'.at in'.within.from in'.within.to
-                (subst (λ ss. IfSome (slice_get ss (l.spot.number - 1)) (λ s. IsBadIndex s.files.entry s.files.index d × IsBadFrame s.files.entry s.files.index d)) (shown ∙ sym (ap (λ (x : Open). x.shown) is)) bad),
+            copied_damage c.args.self.now l in'.dataset d in'.at in'.within
+                (subst (λ ss. IfSome (slice_get ss (l.spot.number - 1)) (IsMetThere l d)) (shown ∙ sym (ap (λ (x : Open). x.shown) is)) bad),
           )) w.in-Err.ensures.damaged)
     ]

@@ -17,3 +17,4 @@ returns-in-Ok-clause-sealed g c = λ b puts.
     (ap (λ (e : Entry). e.fields) c.new.ensures.entry ∙ c.len.ensures.count)
     (ap (λ (e : Entry). e.index_len) c.new.ensures.entry ∙ c.in-Ok.ensures.len)
     (ap (λ (e : Entry). e.fields_len) c.new.ensures.entry)
+    (ap (λ (e : Entry). e.digest) c.new.ensures.entry ∙ c.in-Ok.ensures.digest)

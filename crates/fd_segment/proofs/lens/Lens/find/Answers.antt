@@ -13,9 +13,9 @@ returns-in-Err-clause-sound g c =
 pub returns-then-end-from-clause-batch : goal.returns-then-end-from-clause-batch
 returns-then-end-from-clause-batch g c =
     batch_seen _ _ c.self.inside.index.len c.self.view_is c.self.invariant.0 c.args.key.now (Some (c.in-Ok-Some.place.0, c.in-Ok-Some.place.1)) (rw c.in-Ok-Some.field-0-is at c.in-Ok-Some.ensures.place)
-    (omega (arith, c.if-end-from.true, c.from.ensures, c.from-2.ensures, c.from-3.ensures))
+    (omega (arith, c.if-end-from.true, c.from.ensures, c.from-2.ensures, c.from-3.ensures, c.from-4.ensures, c.behind.ensures.count))
 
 pub returns-clause-sound : goal.returns-clause-sound
 returns-clause-sound g c =
     beyond_seen _ _ c.self.inside.index.len c.self.view_is c.self.invariant.0 c.args.key.now c.in-Ok-Some.place.0 c.in-Ok-Some.place.1 (rw c.in-Ok-Some.field-0-is at c.in-Ok-Some.ensures.place)
-    (omega (arith, c.if-end-from.false, c.from.ensures, c.from-2.ensures, c.from-3.ensures))
+    (omega (arith, c.if-end-from.false, c.from.ensures, c.from-2.ensures, c.from-3.ensures, c.from-4.ensures, c.behind.ensures.count))

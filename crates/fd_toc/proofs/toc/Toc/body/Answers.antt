@@ -1,4 +1,4 @@
-use Rattle.std.proofs.Common.{◌≡◌, ℕ, ◌+◌, ◌<◌, List, [], ◌∷◌, ◌++◌, length, sym, ◌∙◌, ap, subst, arith, Option, Some, None, IfSome, option_map}
+use Rattle.std.proofs.Common.{rules, ◌≡◌, ℕ, ◌+◌, ◌<◌, List, [], ◌∷◌, ◌++◌, length, sym, ◌∙◌, ap, subst, arith, Option, Some, None, IfSome, option_map}
 use Rattle.fd_disk.specs.Folders.{WhereTold}
 use Rattle.fd_disk.specs.Images.{synced, written}
 use Rattle.fd_disk.specs.Moments.{LeavesOnly}
@@ -78,7 +78,7 @@ invariant_of-self-2 g c =
     let made : new ≡ option_map (bodied n e) old = c.in_ok-write_firm.ensures.ok ∙ (λ j. option_map (λ f. synced (written f (place j + 1) (c.body.ensures j))) old) in
     let count : n ≡ length c.args.self.now.entries = ap (λ v. length v.entries) c.self.view_is in
     let few : n < 65535 = omega (arith, count, c.requires.room) in
-    let fits : Fits n e = record { writer = omega (arith, count, c.requires.writer); seq = omega arith; fields = omega arith; index_len = omega arith; fields_len = omega arith } in
+    let fits : Fits n e = record { writer = omega (arith, count, c.requires.writer); seq = omega arith; fields = omega arith; index_len = omega arith; fields_len = omega arith; digest = search rules } in
     record {
       few = c.self.invariant.few;
       fit = c.self.invariant.fit;

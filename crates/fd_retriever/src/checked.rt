@@ -1,0 +1,44 @@
+//! The bytes at a place of an opened segment, checked and copied.
+ghost use Rattle.std.specs.Prelude.{◌≡◌, ◌≤◌, ◌+◌, List, ℕ, Some, IfErr, IsSome, OnOk};
+ghost use Rattle.fd_bytes.specs.Causes.{Rose};
+ghost use Rattle.fd_segment.specs.Causes.{IsFieldDamage, IsPlace, StandsForNone};
+ghost use Rattle.fd_segment.specs.Copying.{IsCopied, IsCopiedInPart, IsDigestedAt};
+ghost use Rattle.fd_segment.specs.Held.{behind};
+ghost use Rattle.fd_retriever.specs.Answers.{OnDamaged, OnWrite, UnlessWrite, Unwritten};
+
+use crate::fault::FetchFault;
+use fd_disk::Reader;
+use fd_io::Sink;
+use fd_segment::{CheckFault, CopyFault, Lens};
+
+/// Checks the bytes at a place of an opened segment against their digest, where there is one, and copies them into the sink.
+/// Of bytes that haven't their digest nothing is written.
+pub(crate) fn copy_checked<F: Send, R: Reader<F>, X, K: Sink<X>>(
+    lens: &mut Lens<F, R>,
+    at: u64,
+    len: u64,
+    sink: &mut K,
+) -> Result<(), FetchFault<F, X>>
+    requires { at + len + behind lens.old.files.entry ≤ lens.old.files.entry.fields_len }
+    ensures ok { OnOk result (IsCopied lens.old.files.fields at len (K.taken sink.old) (K.taken sink.new)) }
+    ensures checked { OnOk result (IsSome lens.old.files.entry.digest → IsDigestedAt lens.old.files.fields at len) }
+    ensures err { IfErr result (λ _. IsCopiedInPart lens.old.files.fields at len (K.taken sink.old) (K.taken sink.new)) }
+    ensures unwritten { IfErr result (λ e. Unwritten e (K.taken sink.new ≡ K.taken sink.old)) }
+    ensures damaged { IfErr result (λ e. OnDamaged e (IsFieldDamage lens.old.files.entry lens.old.files.fields at len)) }
+    ensures sound { IfErr result (λ e. OnDamaged e (λ _. (key : List ℕ) → IsPlace lens.old.files.entry lens.old.files.index key (Some (at, len)) → StandsForNone lens.old.files)) }
+    ensures files { lens.new.files ≡ lens.old.files }
+    ensures sink { K.faults sink.old ≤ K.faults sink.new }
+    ensures calm { UnlessWrite result (K.faults sink.new ≡ K.faults sink.old) }
+    ensures write { IfErr result (λ e. OnWrite e (Rose (K.faults sink.old) (K.faults sink.new))) }
+{
+    match lens.check(at, len) {
+        Ok(()) => {}
+        Err(CheckFault::Fault(fault)) => return Err(FetchFault::Disk(fault)),
+        Err(CheckFault::Damaged(damage)) => return Err(FetchFault::Damaged(damage)),
+    }
+    match lens.copy_to(at, len, sink) {
+        Ok(()) => Ok(()),
+        Err(CopyFault::Fault(fault)) => Err(FetchFault::Disk(fault)),
+        Err(CopyFault::Write(fault)) => Err(FetchFault::Write(fault)),
+    }
+}
