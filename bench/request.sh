@@ -9,7 +9,7 @@ work=$(mktemp -d)
 trap 'rm -rf "$work"' EXIT
 driver=$work/crates/reading_times
 mkdir -p "$driver/src"
-for crate in fd_bytes fd_tokens fd_sections fd_templates fd_key fd_schema fd_request; do
+for crate in fd_bytes fd_tokens fd_sections fd_templates fd_spelling fd_key fd_schema fd_request; do
   mkdir "$work/crates/$crate"
   for part in src specs proofs; do
     if [ -d "$top/crates/$crate/$part" ]; then cp -r "$top/crates/$crate/$part" "$work/crates/$crate/"; fi
