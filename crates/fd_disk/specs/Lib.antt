@@ -6,3 +6,4 @@ pub mod Moments
 pub mod Names
 pub mod Outstanding
 pub mod Reading
+pub mod Renewals

@@ -5,11 +5,13 @@
 mod file;
 mod folders;
 mod law;
+mod renewing;
 mod shelves;
 mod traits;
 
 pub use file::{File, Range, Ranges};
 pub use folders::{FileKind, FileName};
 pub use law::every_image;
+pub use renewing::Renew;
 pub use shelves::{Folder, Shelf, Store};
 pub use traits::{Disk, Down, Reader, Sealed};

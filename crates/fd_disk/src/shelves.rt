@@ -9,7 +9,9 @@ ghost use Rattle.fd_disk.specs.Images.{firm_file};
 ghost use Rattle.fd_bytes.specs.Causes.{Rose};
 ghost use Rattle.fd_disk.specs.Causes.{HasDownCause, OnNoMemory};
 ghost use Rattle.fd_disk.specs.Names.{name_of};
-ghost use Rattle.fd_disk.specs.Folders.{Contents, Holdings, SameBut, TakesBack, WhereTold, folder_at, founded, keeping, no_files, planted, with_table, without_table};
+ghost use Rattle.fd_disk.specs.Folders.{Contents, Holdings, IsFolderImage, Left, SameBut, TakesBack, WhereTold, folder_at, founded, keeping, no_files, planted, with_table, without_table};
+ghost use Rattle.fd_disk.specs.Moments.{LeavesOnly, MayLeave};
+ghost use Rattle.fd_disk.specs.Renewals.{IsLeftBeside, StandsStill};
 
 use crate::{Disk, Down, FileKind, FileName, Sealed};
 use fd_bytes::NoMemory;
@@ -100,6 +102,13 @@ pub trait Folder<F: Send>: Send + Drop {
     /// How many calls have failed; it never falls.
     ghost faults: { Self → ℕ };
 
+    /// The clock: a number that doesn't fall. Where the table is out, it is given.
+    ghost moment: { Self → Option Self.Table → ℕ };
+
+    /// What a crash at some moment from that one on might have left, of the files that it has and of the table, which is
+    /// given where it is out. It says nothing of what shelves that are out have, nor of times when one came back.
+    ghost left_since: { Self → Option Self.Table → ℕ → Left → Type 0 };
+
     /// Makes a table of these bytes, which is firm, where there is none. After an `Err`, and after any crash, there is
     /// this table or none: a crash in its middle leaves what one before or after it leaves (`IsLeftByFound`).
     fn found(&mut self, alloc: Global, first: &[u8]) -> Result<(), Down<F>>
@@ -126,6 +135,8 @@ pub trait Folder<F: Send>: Send + Drop {
         ensures out_err { OnErr result (table_out self.new ≡ false) }
         ensures last_writer { last_writer self.new ≡ last_writer self.old }
         ensures name { name self.new ≡ name self.old }
+        ensures time { IfOk result (λ o. StandsStill (moment self.old None) (moment self.new o) (left_since self.old None) (left_since self.new o)) }
+        ensures time_err { OnErr result (StandsStill (moment self.old None) (moment self.new None) (left_since self.old None) (left_since self.new None)) }
         ensures cause { HasDownCause (faults self.old) (faults self.new) result };
 
     /// Puts the table back.
@@ -136,6 +147,7 @@ pub trait Folder<F: Send>: Send + Drop {
         ensures back { table_out self.new ≡ false }
         ensures last_writer { last_writer self.new ≡ last_writer self.old }
         ensures name { name self.new ≡ name self.old }
+        ensures time { StandsStill (moment self.old (Some table)) (moment self.new None) (left_since self.old (Some table)) (left_since self.new None) }
         ensures faults { faults self.old ≤ faults self.new };
 
     /// Makes a shelf for a writer whose number is greater than each that was asked for since the store handed the folder
@@ -169,7 +181,28 @@ pub trait Folder<F: Send>: Send + Drop {
         ensures out { table_out self.new ≡ table_out self.old }
         ensures last_writer { last_writer self.new ≡ last_writer self.old }
         ensures name { name self.new ≡ name self.old }
+        ensures time { (out : Option Self.Table) → StandsStill (moment self.old out) (moment self.new out) (left_since self.old out) (left_since self.new out) }
         ensures cause { HasDownCause (faults self.old) (faults self.new) result };
+
+    /// This moment is one of those since an earlier one.
+    ghost counts_now: { (d : Self) (v : Contents) (t : ℕ) (left : Left) → has d ≡ Some v → table_out d ≡ false → t ≤ moment d None → IsFolderImage v left → left_since d None t left };
+
+    /// Since this moment there is no other.
+    ghost only_now: { (d : Self) (v : Contents) (left : Left) → has d ≡ Some v → table_out d ≡ false → left_since d None (moment d None) left → IsFolderImage v left };
+
+    /// The same while the table is out.
+    ghost only_beside: { (d : Self) (table : Self.Table) (left : Left) → left_since d (Some table) (moment d (Some table)) left → IsLeftBeside (has d) (MayLeave (Self.Table.file table)) left };
+
+    /// What is left since a moment is left since each before it.
+    ghost earlier: { (d : Self) (out : Option Self.Table) (t u : ℕ) (left : Left) → u ≤ t → left_since d out t left → left_since d out u left };
+
+    /// While the table is out, the clock goes on with its own.
+    ghost ticks: { (d : Self) (old new : Self.Table) → Self.Table.moment old ≤ Self.Table.moment new → moment d (Some old) ≤ moment d (Some new) };
+
+    /// What calls that write nothing of the table leave while it is out, it leaves beside the files.
+    ghost quiet: { (d : Self) (old new : Self.Table) (t : ℕ) (left : Left)
+        → LeavesOnly Self.Table.moment Self.Table.left_since old new (MayLeave (Self.Table.file old)) → left_since d (Some new) t left
+        → left_since d (Some old) t left ⊎ IsLeftBeside (has d) (MayLeave (Self.Table.file old)) left };
 }
 
 /// A store of datasets. One that tells has one root, which any name enters.

@@ -11,6 +11,8 @@ use Rattle.fd_disk_mem.specs.contracts.drawers.Drawers as Drawers
 use Rattle.fd_file_mem.proofs.Sending.{disk_send, plan_send, plans_send}
 use Rattle.fd_disk_mem.proofs.slots.Slots.TheLaws.TheKnot.{send-Slots}
 use Rattle.fd_disk_mem.proofs.drawers.Drawers.TheLaws.TheKnot.{send-Drawers}
+use Rattle.fd_disk_mem.specs.contracts.past.Past as Past
+use Rattle.fd_disk_mem.proofs.past.Past.TheLaws.TheKnot.{send-Past}
 
 drawers_send : IsSend (Drawers.the_field).row
 drawers_send = send-Drawers (search (sendable, crosses, maps.crosses) depth 20) (λ h s. search (sendable, crosses, maps.crosses) depth 20)
@@ -24,5 +26,8 @@ slot_send = let stored = stored_send in search (sendable, crosses, maps.crosses)
 slots_send : IsSend (Slots.the_field).row
 slots_send = send-Slots slot_send (λ h s. search (sendable, crosses, maps.crosses) depth 20)
 
+past_send : IsSend (Past.the_field).row
+past_send = let disk = disk_send in send-Past disk_send (λ h s. search (sendable, crosses, maps.crosses) depth 20) (search (sendable, crosses, maps.crosses) depth 20)
+
 pub folder_send : IsSend MemFolder.the_row
-folder_send = let disk = disk_send in let drawers = drawers_send in let slots = slots_send in let plan = plan_send in let plans = plans_send in search (sendable, crosses, maps.crosses) depth 20
+folder_send = let disk = disk_send in let past = past_send in let drawers = drawers_send in let slots = slots_send in let plan = plan_send in let plans = plans_send in search (sendable, crosses, maps.crosses) depth 20

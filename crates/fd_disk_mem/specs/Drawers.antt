@@ -18,3 +18,8 @@ is_named (k ∷ ks) n = same_name k.name n || is_named ks n
 abbrev pub bytes_in : Drawers → FileName → Option (List ℕ)
 bytes_in Empty n = None
 bytes_in (More' ks p rest) n = if is_named ks.items n then bytes_among ks.items n else bytes_in rest n
+
+-- the drawers below the first
+abbrev pub below : Drawers → Drawers
+below Empty = Empty
+below (More' ks p rest) = rest

@@ -1,7 +1,7 @@
 // The files that shelves kept, the newest first.
 ghost use Rattle.std.specs.Prelude.{◌≡◌, if◌then◌else◌, [], ◌∷◌, Bool, true, false, List, ℕ, Option, Some, None, OnOk, OnErr, IfOk, MatchOption, option_map};
 ghost use Rattle.fd_disk.specs.Names.{same_name};
-ghost use Rattle.fd_disk_mem.specs.Drawers.{bytes_among, is_named, bytes_in};
+ghost use Rattle.fd_disk_mem.specs.Drawers.{below, bytes_among, is_named, bytes_in};
 
 use fd_disk::{FileKind, FileName};
 use std::alloc::{AllocError, Global};
@@ -73,7 +73,8 @@ pub(crate) fn drawer_of(
 
 /// Lays a drawer upon the others.
 pub(crate) fn lay(drawers: &mut Drawers, files: Vec<Kept>, place: Box<Drawers>)
-    ensures { (n : FileName) → bytes_in drawers.new n ≡ (if is_named files.items n then bytes_among files.items n else bytes_in drawers.old n) }
+    ensures bytes { (n : FileName) → bytes_in drawers.new n ≡ (if is_named files.items n then bytes_among files.items n else bytes_in drawers.old n) }
+    ensures below { below drawers.new ≡ drawers.old }
 {
     let mut place = place;
     *place = mem::replace(drawers, Drawers::Empty);

@@ -10,6 +10,7 @@ ghost use Rattle.fd_disk_mem.specs.Slots.{contents_of, folder_in};
 
 use crate::MemFolder;
 use crate::names::sorted_names;
+use crate::past::Past;
 use crate::slots::{Slot, Slots, Stored, crash_all, opened, take_slot};
 use fd_bytes::NoMemory;
 use fd_disk::{Down, Store};
@@ -199,6 +200,7 @@ impl Store<MemFault> for MemStore {
             plan: _,
             plans: _,
             room: _,
+            past: _,
         } = folder;
         *place = mem::replace(&mut self.slots, Slots::Empty);
         let slot = Slot {
@@ -244,6 +246,7 @@ impl MemStore {
             plan,
             plans,
             room: self.room,
+            past: Past::Start,
         })
     }
 }

@@ -2,7 +2,7 @@
 use Rattle.std.proofs.Common.{◌≡◌, ◌⊎◌, inl, inr, ℕ, ◌+◌, ◌≤◌, Bool, true, false, max, List, [], ◌∷◌, ◌++◌, length, take, slice_index, refl, sym, ◌∙◌, ap, subst, arith, Some}
 use Rattle.std.proofs.lemmas.List.{take_all, take-append-le, length_push}
 use Rattle.fd_disk.specs.declared.file.File.{File}
-use Rattle.fd_disk.specs.Images.{IsImage, IsDisturbed, firm_file, written, loosened, synced}
+use Rattle.fd_disk.specs.Images.{IsImage, IsDisturbed, WritesAlike, firm_file, overwritten, written, loosened, synced}
 use Rattle.fd_disk.proofs.ImageLemmas.{overwritten_long, overwritten_reaches}
 use Rattle.fd_disk.specs.Moments.{Elapses}
 use Rattle.fd_file_mem.specs.Calls.{Call, Wrote, Failed, Synced, Memory, called, replayed, file_after, file_of, synced_by, extent_by, with_call}
@@ -75,10 +75,12 @@ extent_within m = reaches 0 (firm_file m.start) m.calls (omega arith)
 
 -- a write that failed leaves what a read gives
 pub disturbed : (f : File) (at len : ℕ) (g : File) → g ≡ loosened f at len f.reads → IsDisturbed f at len g
+unfolding WritesAlike
 disturbed f at len g is =
     let reads : g.reads ≡ f.reads = ap (λ (h : File). h.reads) is in
     record {
       file = is ∙ ap (loosened f at len) (sym reads);
       no_shorter = omega (arith, ap length reads);
       agrees = λ k lt out. ap (λ (l : List ℕ). slice_index l k) reads;
+      again = λ bytes long. ap (λ (l : List ℕ). overwritten l at bytes) reads;
     }

@@ -36,6 +36,15 @@ impl<T: Copy> Buffer<T> {
         Ok(Buffer { items, size })
     }
 
+    /// The same once more, with as much room.
+    pub(crate) fn copied(&self, alloc: Global) -> Result<Buffer<T>, AllocError>
+        ensures { IfOk result (λ b. b ≡ self.now) }
+    {
+        let mut copy = Buffer::with_room(alloc, self.size)?;
+        copy.append(self.as_slice());
+        Ok(copy)
+    }
+
     pub(crate) fn as_slice(&self) -> &[T]
         ensures items { result.now ≡ self.now.items }
         ensures within { length self.now.items ≤ self.now.size }

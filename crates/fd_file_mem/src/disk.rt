@@ -57,6 +57,19 @@ impl MemDisk {
         })
     }
 
+    /// The file with its calls once more, as it is now.
+    pub fn copied(&self, alloc: Global) -> Result<MemDisk, AllocError>
+        ensures { IfOk result (λ d. d.file ≡ self.now.file) }
+    {
+        Ok(MemDisk {
+            name: Vec::from_slice(alloc, &self.name)?,
+            made: self.made,
+            file: self.file.copied(alloc)?,
+            faults: self.faults,
+            plan: self.plan.again(alloc)?,
+        })
+    }
+
     /// How many bytes it may have.
     pub fn size(&self) -> usize
         ensures { result ≡ self.now.file.size }

@@ -65,6 +65,20 @@ impl Recorded {
         })
     }
 
+    /// The same file with its calls once more.
+    pub(crate) fn copied(&self, alloc: Global) -> Result<Recorded, AllocError>
+        ensures { IfOk result (λ f. f ≡ self.now) }
+    {
+        Ok(Recorded {
+            start: self.start.copied(alloc)?,
+            firm: self.firm.copied(alloc)?,
+            reads: self.reads.copied(alloc)?,
+            loose: self.loose.copied(alloc)?,
+            marks: self.marks.copied(alloc)?,
+            written: self.written.copied(alloc)?,
+        })
+    }
+
     /// What a read gives.
     pub(crate) fn reads(&self) -> &[u8]
         ensures reads { result.now ≡ (file_of self.now).reads }

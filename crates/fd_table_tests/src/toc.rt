@@ -3,7 +3,7 @@ ghost use Rattle.std.specs.Prelude.{◌≡◌, ◌≤◌, false, true, IfOk, IfS
 
 use fd_bytes::NoMemory;
 use fd_disk::{Disk, Folder, Store};
-use fd_disk_mem::{MemStore, Op};
+use fd_disk_mem::{MemFault, MemStore, Op};
 use fd_entries::every_table;
 use fd_toc::*;
 use std::alloc::Global;
@@ -172,6 +172,20 @@ fn plan(alloc: Global, store: &mut MemStore, fails: [(Op, u32); 2]) -> bool {
         && store.fail(alloc, "a=1/toc", second.0, second.1).is_ok()
 }
 
+/// What three appends answer over a store in memory.
+fn written_in(alloc: Global, store: &mut MemStore) -> Option<[Answer; 3]>
+    requires { ⟦<MemStore as Store<MemFault>>⟧.out store.old (codes "a=1") ≡ false }
+{
+    written(alloc, store)
+}
+
+/// Tells whether a crash left a store in memory whose table is as it is to be.
+fn stands_in(alloc: Global, left: Result<MemStore, (MemStore, NoMemory)>, want: Want<'_>) -> bool
+    requires { IfOk left (λ s. ⟦<MemStore as Store<MemFault>>⟧.out s (codes "a=1") ≡ false) }
+{
+    stands(alloc, left, want)
+}
+
 /// What three appends to a new table answer where these two calls of it fail, and whether it is so after a crash.
 fn crashed(
     alloc: Global,
@@ -183,11 +197,11 @@ fn crashed(
         return None;
     };
     let answers = if plan(alloc, &mut store, fails) {
-        written(alloc, &mut store)
+        written_in(alloc, &mut store)
     } else {
         None
     };
-    let is_left = stands(alloc, store.crash(alloc, choice), want);
+    let is_left = stands_in(alloc, store.crash(alloc, choice), want);
     Some((answers?, is_left))
 }
 

@@ -22,11 +22,11 @@ returns-clause-ok c =
       others = search rules;
       table = sym (ap (λ (v : Contents). v.table) is) ∙ ap (λ (v : Contents). v.table) was;
       file = sym (ap (λ (v : Contents). v.files n) is)
-          ∙ c.lay.ensures n
+          ∙ c.lay.ensures.bytes n
           ∙ ap (λ (b : Bool). if b then bytes_among ks n else bytes_in f.files n) (c.in_ok-drawer.ensures.named n ∙ same_name_refl n)
           ∙ c.in_ok-drawer.ensures.bytes n (same_name_refl n);
       files = λ m out. sym (ap (λ (v : Contents). v.files m) is)
-          ∙ c.lay.ensures m
+          ∙ c.lay.ensures.bytes m
           ∙ ap (λ (b : Bool). if b then bytes_among ks m else bytes_in f.files m) (c.in_ok-drawer.ensures.named m ∙ out)
           ∙ ap (λ (v : Contents). v.files m) was;
       here = search rules;
