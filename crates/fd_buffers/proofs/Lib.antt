@@ -1,1 +1,4 @@
 mod AheadLemmas
+mod CallLemmas
+mod GatheringLemmas
+mod TimeLemmas

@@ -1,5 +1,5 @@
 -- What a sync that failed may have lost of a file.
-use Rattle.std.specs.Prelude.{◌≡◌, ◌+◌, ◌-◌, ◌^◌, ◌&&◌, ◌||◌, if◌then◌else◌, ℕ, Bool, false, min, max, nat_le, nat_eq, Option, Some, None, is_some}
+use Rattle.std.specs.Prelude.{◌&&◌, ◌||◌, if◌then◌else◌, ℕ, Bool, false, min, max, nat_le, nat_eq, Option, Some, None, is_some}
 use Rattle.fd_disk_real.specs.declared.unsynced.Span.{Span}
 use Rattle.fd_disk_real.specs.declared.unsynced.Unsynced.{Unsynced}
 
@@ -25,10 +25,6 @@ abbrev pub is_all : ℕ → ℕ → Option Span → Bool
 is_all from end None = false
 is_all from end (Some s) = nat_eq s.from from && nat_eq s.end end
 
--- after the bytes that were gathered were written
-abbrev pub after_flush : ℕ → ℕ → Unsynced → Unsynced
-after_flush start len u = if nat_eq len 0 then u else after_write start (min (start + len) (2 ^ 64 - 1)) u
-
 -- bytes of the file or its name are lost: no sync answers well
 abbrev pub is_lost : Unsynced → Bool
 is_lost u = is_some u.lost || u.is_name_lost
@@ -36,8 +32,3 @@ is_lost u = is_some u.lost || u.is_name_lost
 -- nothing was written since a sync that answered well
 abbrev pub all_firm : Unsynced
 all_firm = record { written = None; lost = None; is_name_lost = false }
-
--- bytes that are lost stay so, unless one of these two writes covers them all
-abbrev pub StaysLost : Option Span → ℕ → ℕ → ℕ → ℕ → Option Span → Type 0
-StaysLost None from end at to now = now ≡ None
-StaysLost (Some s) from end at to now = covers from end s ≡ false → covers at to s ≡ false → now ≡ Some s

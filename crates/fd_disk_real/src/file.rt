@@ -2,11 +2,8 @@
 ghost use Rattle.std.specs.Prelude.{◌≡◌, ◌⊎◌, ◌+◌, ◌-◌, ◌^◌, ◌≤◌, true, false, min, length, IfOk, OnOk, OnErr};
 ghost use Rattle.fd_disk_real.specs.Lost.{after_write, all_firm, is_all, is_lost};
 
-use crate::budget::{Budget, Permit};
-use crate::files::{Host, filled, open, open_to_write};
-use crate::names::Names;
-use crate::table::Seen;
 use crate::unsynced::Unsynced;
+use fd_host::{Budget, Names, Opened, Permit, Seen, filled, open, open_to_write};
 use std::alloc::{AllocError, Global};
 use std::fs::File;
 use std::io;
@@ -41,8 +38,8 @@ enum Way {
 /// A file that is written. A system tells of what it failed to write back only to descriptors that were open then, so the
 /// descriptor of a write is closed behind a sync through it: it is kept up to the sync, or else each write is synced itself.
 #[derive(Drop)]
-pub(crate) struct RealFile<R> {
-    pub(crate) host: R,
+pub(crate) struct RealFile {
+    pub(crate) host: HostRuntime,
     path: String,
     naming: Naming,
     way: Way,
@@ -58,16 +55,16 @@ pub(crate) struct RealFile<R> {
     pub(crate) unsynced: Unsynced,
 }
 
-impl<R: Host> RealFile<R> {
+impl RealFile {
     /// The file with this path, of which nothing is open.
     pub(crate) fn new(
         alloc: Global,
-        host: R,
+        host: HostRuntime,
         path: &str,
         budget: &Arc<Budget>,
         most: u64,
         unsynced: Unsynced,
-    ) -> Result<RealFile<R>, AllocError>
+    ) -> Result<RealFile, AllocError>
         ensures { IfOk result (λ f. f.unsynced ≡ unsynced) }
     {
         Ok(RealFile {
@@ -84,20 +81,22 @@ impl<R: Host> RealFile<R> {
         })
     }
 
-    /// Takes it as a new file, of which no sync has failed.
-    pub(crate) fn renewed(&mut self)
+    /// Takes it as a table that was opened. Of a new file no sync has failed.
+    pub(crate) fn found(&mut self, table: Opened)
         ensures { self.new.unsynced ≡ self.old.unsynced }
     {
-        self.is_broken = false;
-    }
-
-    /// Takes it as one that was found, by these descriptors of it and of its folder, whose reads are noted.
-    pub(crate) fn found(&mut self, file: File, folder: File, seen: Arc<Seen>)
-        ensures { self.new.unsynced ≡ self.old.unsynced }
-    {
+        let Opened {
+            file,
+            folder,
+            seen,
+            is_new,
+        } = table;
         self.way = Way::Found(file);
         self.naming = Naming::Alone(folder);
         self.seen = Some(seen);
+        if is_new {
+            self.is_broken = false;
+        }
     }
 
     /// Makes it an empty file of a shelf.
@@ -242,10 +241,8 @@ impl<R: Host> RealFile<R> {
             self.is_broken = true;
             return Err(error);
         }
-        if let Err(error) = self.sync_name() {
-            self.unsynced.name_failed();
-            return Err(error);
-        }
+        let named = self.sync_name();
+        self.unsynced.named(named)?;
         self.unsynced.synced();
         Ok(())
     }

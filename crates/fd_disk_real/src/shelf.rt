@@ -1,23 +1,24 @@
 // One writer's files in one dataset.
-ghost use Rattle.std.specs.Prelude.{◌≡◌, ◌≤◌, IfOk, string_bytes};
+ghost use Rattle.std.specs.Prelude.{◌≡◌, ◌≤◌, IfOk, None, Some, string_bytes};
 
-use crate::budget::{Budget, FILES};
 use crate::fault::counted;
 use crate::file::RealFile;
-use crate::files::Host;
-use crate::names::Names;
-use crate::output::{GATHERED, Output};
 use crate::unsynced::Unsynced;
-use crate::{RealDisk, RealFault, RealSealed};
+use crate::{RealDisk, RealFault, RealGathered, RealSealed};
 use fd_bytes::NoMemory;
 use fd_disk::{Down, FileKind, FileName, Shelf};
+use fd_host::{Budget, FILES, Names};
 use std::alloc::{AllocError, Global};
+use std::io::{Error, ErrorKind};
 use std::sync::Arc;
+
+/// How many bytes of small writes to a file of fields are gathered.
+const GATHERED: usize = 8192;
 
 /// One writer's files in one dataset. They stand in the folder from the time when they are made.
 #[derive(Drop)]
-pub struct RealShelf<R> {
-    pub(crate) host: R,
+pub struct RealShelf {
+    pub(crate) host: HostRuntime,
     pub(crate) name: String,
     pub(crate) folder: String,
     pub(crate) names: Arc<Names>,
@@ -26,12 +27,12 @@ pub struct RealShelf<R> {
     pub(crate) faults: u64,
 }
 
-impl<R: Host + Send + Sync> Shelf<RealFault> for RealShelf<R> {
+impl Shelf<RealFault> for RealShelf {
     ghost use Rattle.std.specs.Prelude.{None, false, string_bytes};
 
-    type Sealed = RealSealed<R>;
+    type Sealed = RealSealed;
 
-    type File = RealDisk<R>;
+    type File = RealGathered;
 
     ghost kept = { λ s. None };
 
@@ -43,12 +44,13 @@ impl<R: Host + Send + Sync> Shelf<RealFault> for RealShelf<R> {
 
     ghost faults = { λ s. s.faults };
 
+    /// Want of memory is a fault where the file is made by then.
     fn create(
         &mut self,
         alloc: Global,
         seq: u32,
         kind: FileKind,
-    ) -> Result<RealDisk<R>, Down<RealFault>> {
+    ) -> Result<RealGathered, Down<RealFault>> {
         let made = FileName {
             writer: self.writer,
             seq,
@@ -58,9 +60,19 @@ impl<R: Host + Send + Sync> Shelf<RealFault> for RealShelf<R> {
         else {
             return Err(Down::NoMemory);
         };
-        match disk.output.file.create(names) {
-            Ok(()) => Ok(disk),
-            Err(error) => Err(Down::Fault(counted(&mut self.faults, error))),
+        if let Err(error) = disk.file.create(names) {
+            return Err(Down::Fault(counted(&mut self.faults, error)));
+        }
+        let room = match kind {
+            FileKind::Fields => GATHERED,
+            FileKind::Index => 0,
+        };
+        match RealGathered::new(alloc, disk, room) {
+            Ok(file) => Ok(file),
+            Err(_) => {
+                let error = Error::from(ErrorKind::OutOfMemory);
+                Err(Down::Fault(counted(&mut self.faults, error)))
+            }
         }
     }
 
@@ -68,8 +80,8 @@ impl<R: Host + Send + Sync> Shelf<RealFault> for RealShelf<R> {
         &mut self,
         alloc: Global,
         seq: u32,
-        fields: &RealSealed<R>,
-        index: &RealSealed<R>,
+        fields: &RealSealed,
+        index: &RealSealed,
     ) -> Result<(), NoMemory> {
         let _ = alloc;
         let _ = seq;
@@ -79,16 +91,12 @@ impl<R: Host + Send + Sync> Shelf<RealFault> for RealShelf<R> {
     }
 }
 
-impl<R: Host> RealShelf<R> {
+impl RealShelf {
     // The file of this name, which isn't made yet.
-    fn named(&self, alloc: Global, file: FileName) -> Result<RealDisk<R>, AllocError>
+    fn named(&self, alloc: Global, file: FileName) -> Result<RealDisk, AllocError>
         ensures name { IfOk result (λ d. string_bytes d.name ≡ string_bytes self.now.name) }
         ensures made { IfOk result (λ d. d.made ≡ Some file) }
     {
-        let room = match file.kind {
-            FileKind::Fields => GATHERED,
-            FileKind::Index => 0,
-        };
         let path = path_of(alloc, self.folder.as_str(), file)?;
         let written = RealFile::new(
             alloc,
@@ -101,7 +109,7 @@ impl<R: Host> RealShelf<R> {
         Ok(RealDisk {
             name: String::from_str(alloc, self.name.as_str())?,
             made: Some(file),
-            output: Output::new(alloc, written, room)?,
+            file: written,
             extent: 0,
             is_synced: false,
             faults: 0,

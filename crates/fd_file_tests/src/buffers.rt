@@ -1,7 +1,9 @@
 // Buffers over files in memory, some of whose calls are planned to fail.
-use fd_buffers::Ahead;
-use fd_disk::{Reader, Sealed};
-use fd_file_mem::{Fuse, MemFault, MemReader, MemSealed, Op, Plan};
+ghost use Rattle.std.specs.Prelude.{◌≤◌, ◌<◌, ◌+◌, ◌^◌, length};
+
+use fd_buffers::{Ahead, Gathering};
+use fd_disk::{Disk, Reader, Sealed};
+use fd_file_mem::{Fuse, MemDisk, MemFault, MemReader, MemSealed, Op, Plan, Room};
 use std::alloc::Global;
 
 /// A plan by which one call fails.
@@ -63,6 +65,93 @@ fn reads_ahead_to_the_end(rt: HostRuntime) {
     };
     let is_right = match text {
         Some(text) => text.as_slice() == b"01 23 ! 23 89 9 1 012345 ".as_slice(),
+        None => false,
+    };
+    assert!(rt; is_right);
+}
+
+/// Writes, and tells whether it failed.
+fn write<F: Send + Drop, T: Disk<F>>(
+    file: &mut T,
+    at: u64,
+    bytes: &[u8],
+    text: &mut Vec<u8>,
+) -> Option<()>
+where
+    requires small { at + length bytes.now < 2 ^ 63 }
+{
+    match file.write_at(at, bytes) {
+        Ok(()) => text.push(b'w').ok(),
+        Err(_) => text.push(b'!').ok(),
+    }
+}
+
+/// Syncs, and tells whether it failed.
+fn sync<F: Send + Drop, T: Disk<F>>(file: &mut T, text: &mut Vec<u8>) -> Option<()> {
+    match file.sync() {
+        Ok(()) => text.push(b's').ok(),
+        Err(_) => text.push(b'!').ok(),
+    }
+}
+
+/// Puts the bytes of the file behind the text.
+fn all<F: Send + Drop, T: Disk<F>>(file: &mut T, text: &mut Vec<u8>) -> Option<()> {
+    let mut piece = [b'_'; 16];
+    match file.read_at(0, &mut piece) {
+        Ok(n) => text.extend_from_slice(&piece[..n]).ok(),
+        Err(_) => text.push(b'!').ok(),
+    }
+}
+
+/// Small writes, one elsewhere, a sync that fails and one more, a read in the middle, and a write larger than the room:
+/// what each of them tells.
+fn calls<F: Send + Drop, T: Disk<F>>(alloc: Global, file: &mut T) -> Option<Vec<u8>> {
+    let mut text = Vec::new(alloc);
+    write(file, 0, b"ab", &mut text)?;
+    write(file, 2, b"c", &mut text)?;
+    write(file, 5, b"z", &mut text)?;
+    sync(file, &mut text)?;
+    sync(file, &mut text)?;
+    all(file, &mut text)?;
+    write(file, 1, b"BB", &mut text)?;
+    all(file, &mut text)?;
+    write(file, 0, b"12345", &mut text)?;
+    write(file, 5, b"6", &mut text)?;
+    sync(file, &mut text)?;
+    Some(text)
+}
+
+/// A file that gathers up to four bytes, and whose second write to the file below fails.
+fn gathering(alloc: Global) -> Option<Gathering<MemFault, MemDisk>> {
+    let room = Room {
+        size: 32,
+        calls: 16,
+    };
+    let plan = planned(alloc, Op::Write, 2)?;
+    let file = MemDisk::empty(alloc, Vec::new(alloc), None, plan, room).ok()?;
+    Gathering::new(alloc, file, 4).ok()
+}
+
+/// Writes the file behind the text, once it changes no more.
+fn ended<F: Send + Drop, T: Disk<F>>(alloc: Global, mut file: T) -> Option<Vec<u8>> {
+    let mut text = calls(alloc, &mut file)?;
+    if file.sync().is_err() {
+        return None;
+    }
+    let sealed = file.seal();
+    let mut reader = sealed.reader(alloc).ok()?;
+    read(&mut reader, 0, 16, &mut text)?;
+    Some(text)
+}
+
+#[test]
+fn gathers_writes(rt: HostRuntime) {
+    let text = match gathering(rt.alloc()) {
+        Some(file) => ended(rt.alloc(), file),
+        None => None,
+    };
+    let is_right = match text {
+        Some(text) => text.as_slice() == b"www!sabc\0\0zwaBB\0\0zwws123456".as_slice(),
         None => false,
     };
     assert!(rt; is_right);

@@ -1,9 +1,9 @@
 //! A dataset on the real disk, in the folder where the test runs.
-ghost use Rattle.std.specs.Prelude.{◌≡◌, ◌≤◌, ◌<◌, ◌+◌, ◌^◌, length, true, false, None, IfSome};
+ghost use Rattle.std.specs.Prelude.{◌≡◌, ◌≤◌, ◌<◌, ◌+◌, ◌^◌, length, true, false, None, IfSome, IsTrue};
 ghost use Rattle.fd_disk.specs.declared.folders.FileKind.TheVariants.{Fields, Index};
 ghost use Rattle.fd_disk.specs.Names.{name_of};
 
-use fd_disk::{Disk, FileKind, FileName, Folder, Reader, Sealed, Shelf, Store};
+use fd_disk::{Disk, FileKind, FileName, Folder, Reader, Renew, Sealed, Shelf, Store};
 use fd_disk_real::*;
 use std::alloc::Global;
 use std::fs;
@@ -21,7 +21,7 @@ const FIELDS: FileName = FileName {
 };
 
 /// Tells that nothing stands in the store.
-fn is_empty<R: Host + Send + Sync>(alloc: Global, store: &mut RealStore<R>) -> bool {
+fn is_empty(alloc: Global, store: &mut RealStore) -> bool {
     let has_names = match store.names(alloc) {
         Ok(names) => !names.is_empty(),
         Err(_) => true,
@@ -30,7 +30,7 @@ fn is_empty<R: Host + Send + Sync>(alloc: Global, store: &mut RealStore<R>) -> b
 }
 
 /// Tells that the store takes a schema, and gives it back.
-fn takes_schema<R: Host + Send + Sync>(alloc: Global, store: &mut RealStore<R>) -> bool {
+fn takes_schema(alloc: Global, store: &mut RealStore) -> bool {
     if store.plant(alloc, SCHEMA).is_err() {
         return false;
     }
@@ -41,7 +41,7 @@ fn takes_schema<R: Host + Send + Sync>(alloc: Global, store: &mut RealStore<R>) 
 }
 
 /// Tells that a store in a root of its own is empty, keeps a schema, and has no folder outside.
-fn keeps_schema<R: Host + Send + Sync>(alloc: Global, host: R) -> bool {
+fn keeps_schema(alloc: Global, host: HostRuntime) -> bool {
     let Ok(mut store) = RealStore::new(alloc, host) else {
         return false;
     };
@@ -92,7 +92,7 @@ where
 }
 
 /// Tells that the store has the dataset.
-fn has_dataset<R: Host + Send + Sync>(alloc: Global, store: &mut RealStore<R>) -> bool {
+fn has_dataset(alloc: Global, store: &mut RealStore) -> bool {
     match store.names(alloc) {
         Ok(names) => names.iter().any(|name| name.as_str() == DATASET),
         Err(_) => false,
@@ -100,10 +100,10 @@ fn has_dataset<R: Host + Send + Sync>(alloc: Global, store: &mut RealStore<R>) -
 }
 
 /// A folder of the store.
-fn folder<R: Host + Send + Sync>(alloc: Global, host: R, name: &str) -> Option<RealFolder<R>>
-    ensures writer { IfSome result (λ d. ⟦<RealFolder<R> as Folder<RealFault>>⟧.last_writer d ≡ 0) }
-    ensures back { IfSome result (λ d. ⟦<RealFolder<R> as Folder<RealFault>>⟧.table_out d ≡ false) }
-    ensures name { IfSome result (λ d. ⟦<RealFolder<R> as Folder<RealFault>>⟧.name d ≡ name.now) }
+fn folder(alloc: Global, host: HostRuntime, name: &str) -> Option<RealFolder>
+    ensures writer { IfSome result (λ d. ⟦<RealFolder as Folder<RealFault>>⟧.last_writer d ≡ 0) }
+    ensures back { IfSome result (λ d. ⟦<RealFolder as Folder<RealFault>>⟧.table_out d ≡ false) }
+    ensures name { IfSome result (λ d. ⟦<RealFolder as Folder<RealFault>>⟧.name d ≡ name.now) }
 {
     let mut store = RealStore::new(alloc, host).ok()?;
     store.folder(alloc, name).ok()
@@ -118,7 +118,7 @@ fn dataset_keeps_table(rt: HostRuntime) -> bool {
 }
 
 /// Tells that a store names the dataset.
-fn names_dataset<R: Host + Send + Sync>(alloc: Global, host: R) -> bool {
+fn names_dataset(alloc: Global, host: HostRuntime) -> bool {
     match RealStore::new(alloc, host) {
         Ok(mut store) => has_dataset(alloc, &mut store),
         Err(_) => false,
@@ -178,6 +178,7 @@ where
 fn write_batch<F: Send + Drop, D: Folder<F>>(alloc: Global, folder: &mut D) -> Option<u64>
 where
     requires writer { D.last_writer folder.old ≡ 0 }
+    ensures out { D.table_out folder.new ≡ D.table_out folder.old }
 {
     let mut shelf = folder.shelf(alloc, 7).ok()?;
     let len = written(alloc, &mut shelf);
@@ -196,15 +197,6 @@ fn reader_of<F: Send + Drop, D: Folder<F>>(
     sealed.reader(alloc).ok()
 }
 
-/// What reads the fields of a batch of a dataset.
-fn batch_reader(rt: HostRuntime) -> Option<RealReader<HostRuntime>> {
-    let mut folder = folder(rt.alloc(), rt, "class=xd")?;
-    if write_batch(rt.alloc(), &mut folder) != Some(4) {
-        return None;
-    }
-    reader_of(rt.alloc(), &mut folder)
-}
-
 /// Reads behind the first octet.
 fn read<F: Send + Drop, R: Reader<F>>(reader: &mut R) -> Option<(usize, [u8; 8])> {
     let mut bytes = [0u8; 8];
@@ -212,16 +204,30 @@ fn read<F: Send + Drop, R: Reader<F>>(reader: &mut R) -> Option<(usize, [u8; 8])
     Some((n, bytes))
 }
 
+/// What is read of the fields of a batch, and again once its file was cut.
+fn reads_of<F: Send + Drop, D: Folder<F>>(
+    rt: HostRuntime,
+    folder: &mut D,
+) -> Option<[Option<(usize, [u8; 8])>; 2]>
+where
+    requires writer { D.last_writer folder.old ≡ 0 }
+{
+    if write_batch(rt.alloc(), folder) != Some(4) {
+        return None;
+    }
+    let mut reader = reader_of(rt.alloc(), folder)?;
+    let before = read(&mut reader);
+    fs::write(&rt, "class=xd/7-1.fields", b"G".as_slice()).ok()?;
+    Some([before, read(&mut reader)])
+}
+
 #[test]
 fn keeps_sealed_files(rt: HostRuntime) {
-    let Some(mut reader) = batch_reader(rt) else {
-        panic!(rt; "no reader")
+    let reads = match folder(rt.alloc(), rt, "class=xd") {
+        Some(mut folder) => reads_of(rt, &mut folder),
+        None => None,
     };
-    let before = read(&mut reader);
-    let is_cut = fs::write(&rt, "class=xd/7-1.fields", b"G".as_slice()).is_ok();
-    let after = read(&mut reader);
-    let is_right = before == Some((3, *b"RIB\0\0\0\0\0")) && is_cut && after.is_none();
-    assert!(rt; is_right);
+    assert!(rt; reads == Some([Some((3, *b"RIB\0\0\0\0\0")), None]));
 }
 
 /// The bytes of a field of 200,000 octets.
@@ -295,13 +301,6 @@ where
     create(alloc, &mut shelf, FileKind::Fields)
 }
 
-/// The same of a file of a dataset.
-fn gathered_in_dataset(rt: HostRuntime, all: &[u8]) -> Option<(u64, RealReader<HostRuntime>)> {
-    let mut folder = folder(rt.alloc(), rt, "class=rd")?;
-    let file = file_in(rt.alloc(), &mut folder)?;
-    gathered(rt.alloc(), file, all)
-}
-
 /// Tells that the file has the first so many of these bytes, and the end.
 fn is_whole(file: &[u8], all: &[u8], at: u64) -> bool {
     match file.split_last_chunk::<3>() {
@@ -346,23 +345,27 @@ fn reads_ahead<F: Send + Drop, R: Reader<F>>(reader: &mut R, bytes: &[u8]) -> bo
 }
 
 /// Tells that a file of a dataset is read as its bytes were written, and stands so under its path.
-fn is_read_ahead(rt: HostRuntime, all: &[u8]) -> bool {
-    let Some((at, mut reader)) = gathered_in_dataset(rt, all) else {
-        return false;
-    };
-    match fs::read(&rt, "class=rd/7-1.fields") {
-        Ok(bytes) => is_whole(&bytes, all, at) && reads_ahead(&mut reader, &bytes),
-        Err(_) => false,
-    }
+fn is_read_ahead<F: Send + Drop, D: Folder<F>>(
+    rt: HostRuntime,
+    folder: &mut D,
+    all: &[u8],
+) -> Option<bool>
+where
+    requires writer { D.last_writer folder.old ≡ 0 }
+{
+    let file = file_in(rt.alloc(), folder)?;
+    let (at, mut reader) = gathered(rt.alloc(), file, all)?;
+    let bytes = fs::read(&rt, "class=rd/7-1.fields").ok()?;
+    Some(is_whole(&bytes, all, at) && reads_ahead(&mut reader, &bytes))
 }
 
 #[test]
 fn gathers_writes_and_reads_ahead(rt: HostRuntime) {
-    let is_right = match many_bytes(rt.alloc()) {
-        Some(all) => is_read_ahead(rt, &all),
-        None => false,
+    let is_right = match (many_bytes(rt.alloc()), folder(rt.alloc(), rt, "class=rd")) {
+        (Some(all), Some(mut folder)) => is_read_ahead(rt, &mut folder, &all),
+        _ => None,
     };
-    assert!(rt; is_right);
+    assert!(rt; is_right == Some(true));
 }
 
 /// Tells that a folder gives a shelf to a writer.
@@ -461,4 +464,164 @@ fn names_datasets(rt: HostRuntime) -> Option<bool> {
 #[test]
 fn passes_over_strays(rt: HostRuntime) {
     assert!(rt; names_datasets(rt) == Some(true));
+}
+
+/// The table of a folder, which is founded.
+fn founded<F: Send + Drop, D: Folder<F>>(alloc: Global, folder: &mut D) -> Option<D::Table>
+where
+    requires untold { D.has folder.old ≡ None }
+    requires back { D.table_out folder.old ≡ false }
+    requires short { length (D.name folder.old) ≤ 255 }
+    ensures out { IfSome result (λ t. D.table_out folder.new ≡ true) }
+    ensures table { IfSome result (λ t. D.Table.name t ≡ D.name folder.new) }
+    ensures untold { D.has folder.new ≡ None }
+    ensures name { D.name folder.new ≡ D.name folder.old }
+    ensures writer { D.last_writer folder.new ≡ D.last_writer folder.old }
+{
+    if folder.found(alloc, b"table").is_err() {
+        return None;
+    }
+    match folder.table(alloc) {
+        Ok(table) => table,
+        Err(_) => None,
+    }
+}
+
+/// Renews the table of a folder, which is founded.
+fn renewed<F: Send + Drop, D: Renew<F>>(alloc: Global, folder: &mut D) -> bool
+where
+    requires untold { D.has folder.old ≡ None }
+    requires back { D.table_out folder.old ≡ false }
+    requires short { length (D.name folder.old) ≤ 255 }
+    ensures untold { D.has folder.new ≡ None }
+    ensures back { IsTrue result → D.table_out folder.new ≡ false }
+    ensures name { D.name folder.new ≡ D.name folder.old }
+    ensures writer { D.last_writer folder.new ≡ D.last_writer folder.old }
+{
+    match founded(alloc, folder) {
+        Some(table) => folder.renew(alloc, table, b"new").is_ok(),
+        None => false,
+    }
+}
+
+/// Tells that the table of a folder is renewed, is written then, and is taken away.
+fn renews<F: Send + Drop, D: Renew<F>>(rt: HostRuntime, folder: &mut D) -> Option<bool>
+where
+    requires untold { D.has folder.old ≡ None }
+    requires back { D.table_out folder.old ≡ false }
+    requires short { length (D.name folder.old) ≤ 255 }
+{
+    if !renewed(rt.alloc(), folder) {
+        return None;
+    }
+    let is_new = fs::read(&rt, "class=nd/toc").ok()?.as_slice() == b"new".as_slice();
+    let mut table = folder.table(rt.alloc()).ok()??;
+    let is_written = write_table(&mut table);
+    let is_gone = folder.unfound(rt.alloc(), table).is_ok();
+    let is_left = fs::exists(&rt, "class=nd/toc").ok()?
+        || fs::exists(&rt, "class=nd/toc.new").ok()?;
+    Some(is_new && is_written && is_gone && !is_left)
+}
+
+#[test]
+fn renews_a_table(rt: HostRuntime) {
+    let is_right = match folder(rt.alloc(), rt, "class=nd") {
+        Some(mut folder) => renews(rt, &mut folder),
+        None => None,
+    };
+    assert!(rt; is_right == Some(true));
+}
+
+/// Tells that a file of a batch is removed, and that there is none to remove then.
+fn removes<F: Send + Drop, D: Renew<F>>(rt: HostRuntime, folder: &mut D) -> Option<bool>
+where
+    requires writer { D.last_writer folder.old ≡ 0 }
+    requires back { D.table_out folder.old ≡ false }
+{
+    write_batch(rt.alloc(), folder)?;
+    let was_there = fs::exists(&rt, "class=vd/7-1.fields").ok()?;
+    let is_removed = folder.remove(rt.alloc(), FIELDS).is_ok();
+    let is_there = fs::exists(&rt, "class=vd/7-1.fields").ok()?;
+    Some(was_there && is_removed && !is_there && folder.remove(rt.alloc(), FIELDS).is_ok())
+}
+
+#[test]
+fn removes_a_file(rt: HostRuntime) {
+    let is_right = match folder(rt.alloc(), rt, "class=vd") {
+        Some(mut folder) => removes(rt, &mut folder),
+        None => None,
+    };
+    assert!(rt; is_right == Some(true));
+}
+
+/// Tells that the table of a folder, which is read and then written anew by somebody else, is renewed.
+fn is_renewed<F: Send + Drop, D: Renew<F>>(
+    rt: HostRuntime,
+    folder: &mut D,
+    bytes: &[u8],
+) -> Option<bool>
+where
+    requires back { D.table_out folder.old ≡ false }
+{
+    let mut table = folder.table(rt.alloc()).ok()??;
+    let mut read = [0u8; 16];
+    table.read_at(0, &mut read).ok()?;
+    fs::write(&rt, "class=zd/toc", bytes).ok()?;
+    let is_renewed = folder.renew(rt.alloc(), table, b"new").is_ok();
+    let is_new = fs::read(&rt, "class=zd/toc").ok()?.as_slice() == b"new".as_slice();
+    if is_new != is_renewed {
+        return None;
+    }
+    Some(is_renewed)
+}
+
+/// The same of a folder of the store.
+fn renews_stale(rt: HostRuntime, bytes: &[u8]) -> Option<bool> {
+    fs::create_dir_all(&rt, "class=zd").ok()?;
+    fs::write(&rt, "class=zd/toc", b"table".as_slice()).ok()?;
+    let mut folder = folder(rt.alloc(), rt, "class=zd")?;
+    is_renewed(rt, &mut folder, bytes)
+}
+
+#[test]
+fn renews_what_was_read(rt: HostRuntime) {
+    assert!(rt;
+        renews_stale(rt, b"tables") == Some(false) && renews_stale(rt, b"table") == Some(true)
+    );
+}
+
+/// Tells that the second of two folders of a dataset renews its table, or removes a file, only once the first is let go.
+fn one_renews<F: Send + Drop, D: Renew<F>>(alloc: Global, first: D, mut second: D) -> bool
+where
+    requires untold { D.has first ≡ None }
+    requires back { D.table_out first ≡ false }
+    requires short { length (D.name first) ≤ 255 }
+    requires second { D.table_out second ≡ false }
+{
+    let is_kept_out = is_held(alloc, first, &mut second);
+    is_kept_out && second.remove(alloc, FIELDS).is_ok()
+}
+
+/// Tells that the first of two folders renews its table, and then the second doesn't remove a file.
+fn is_held<F: Send + Drop, D: Renew<F>>(alloc: Global, mut first: D, second: &mut D) -> bool
+where
+    requires untold { D.has first ≡ None }
+    requires back { D.table_out first ≡ false }
+    requires short { length (D.name first) ≤ 255 }
+    requires second { D.table_out second.old ≡ false }
+    ensures second { D.table_out second.new ≡ false }
+{
+    renewed(alloc, &mut first) && second.remove(alloc, FIELDS).is_err()
+}
+
+#[test]
+fn one_renews_a_dataset(rt: HostRuntime) {
+    let is_right = match (
+        folder(rt.alloc(), rt, "class=yd"),
+        folder(rt.alloc(), rt, "class=yd"),
+    ) {
+        (Some(first), Some(second)) => one_renews(rt.alloc(), first, second),
+        _ => false,
+    };
+    assert!(rt; is_right);
 }

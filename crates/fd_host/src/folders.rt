@@ -1,5 +1,5 @@
 // Folders: how they are made, and which of them are datasets.
-use crate::files::{Host, if_there, open};
+use crate::files::{if_there, open};
 use std::alloc::Global;
 use std::collections::BTreeSet;
 use std::fs;
@@ -8,7 +8,7 @@ use std::io::{Error, ErrorKind, Result};
 use std::os::unix::fs::MetadataExt;
 use std::path::AsPath;
 
-fn is_folder<R: Host, P: AsPath>(rt: R, path: P) -> Result<bool> {
+fn is_folder<P: AsPath>(rt: HostRuntime, path: P) -> Result<bool> {
     match if_there(fs::metadata(&rt, path))? {
         Some(found) => Ok(found.is_dir()),
         None => Ok(false),
@@ -16,7 +16,7 @@ fn is_folder<R: Host, P: AsPath>(rt: R, path: P) -> Result<bool> {
 }
 
 /// Makes a folder, and its name firm, unless it is there.
-pub(crate) fn make_folder<R: Host>(rt: R, path: &str) -> Result<()> {
+pub(crate) fn make_folder(rt: HostRuntime, path: &str) -> Result<()> {
     if is_folder(rt, path)? {
         return Ok(());
     }
@@ -28,7 +28,7 @@ pub(crate) fn make_folder<R: Host>(rt: R, path: &str) -> Result<()> {
 /// Makes a folder, unless it is there, and its name firm: a descriptor of it. An empty one is made anew, since its name may be
 /// known to the system alone, which failed to write it to the folder above once. Nothing is put into a folder before its
 /// name is firm.
-pub(crate) fn make_firm<R: Host>(rt: R, path: &str) -> Result<File> {
+pub(crate) fn make_firm(rt: HostRuntime, path: &str) -> Result<File> {
     let names = open(rt, above(path))?;
     let _ = fs::remove_dir(&rt, path);
     make(rt, path)?;
@@ -46,7 +46,7 @@ pub(crate) fn stands(folder: &File) -> Result<()> {
 }
 
 // Makes a folder, unless it is there.
-fn make<R: Host>(rt: R, path: &str) -> Result<()> {
+fn make(rt: HostRuntime, path: &str) -> Result<()> {
     match fs::create_dir(&rt, path) {
         Ok(()) => Ok(()),
         Err(error) => {
@@ -59,7 +59,7 @@ fn make<R: Host>(rt: R, path: &str) -> Result<()> {
 }
 
 /// Makes a folder and those above it, each firm in the one above it, where they aren't there.
-pub(crate) fn make_folders<R: Host>(rt: R, path: &str) -> Result<()> {
+pub fn make_folders(rt: HostRuntime, path: &str) -> Result<()> {
     if is_folder(rt, path)? {
         return Ok(());
     }
@@ -84,8 +84,8 @@ fn above(path: &str) -> &str {
 
 /// Adds the names of the datasets' folders that a folder has, which is none where it isn't there itself. What can't be a
 /// dataset's text is passed over; a link to a folder is one.
-pub(crate) fn gather<R: Host>(
-    rt: R,
+pub fn gather(
+    rt: HostRuntime,
     alloc: Global,
     path: &str,
     names: &mut BTreeSet<String>,

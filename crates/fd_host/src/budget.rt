@@ -5,10 +5,10 @@ use std::sync::Arc;
 use std::sync::atomic::{AtomicU64, Ordering};
 
 /// How many files that are written keep their descriptor.
-pub(crate) const FILES: u64 = 256;
+pub const FILES: u64 = 256;
 
 /// How many of them are tables.
-pub(crate) const TABLES: u64 = 64;
+pub const TABLES: u64 = 64;
 
 /// How many datasets are locked one by one.
 pub(crate) const LOCKS: u64 = 128;
@@ -18,19 +18,19 @@ const TOO_MANY: [i32; 2] = [24, 23];
 
 /// How many descriptors are kept between calls.
 #[derive(Drop)]
-pub(crate) struct Budget {
+pub struct Budget {
     taken: AtomicU64,
     most: u64,
 }
 
 /// The leave to keep one descriptor.
-pub(crate) struct Permit {
+pub struct Permit {
     budget: Arc<Budget>,
 }
 
 impl Budget {
     /// That of a process which may have so many open: a quarter of them.
-    pub(crate) fn new(limit: u64) -> Budget {
+    pub fn new(limit: u64) -> Budget {
         Budget {
             taken: AtomicU64::new(0),
             most: limit / 4,
@@ -38,7 +38,7 @@ impl Budget {
     }
 
     /// The leave to keep one more, where fewer than so many are kept, and fewer than all.
-    pub(crate) fn take(budget: &Arc<Budget>, most: u64) -> Result<Option<Permit>, AllocError> {
+    pub fn take(budget: &Arc<Budget>, most: u64) -> Result<Option<Permit>, AllocError> {
         let permit = Permit {
             budget: Arc::try_clone(budget)?,
         };
@@ -50,7 +50,7 @@ impl Budget {
     }
 
     /// Has none left from now on, where an open failed for want of descriptors.
-    pub(crate) fn note(&self, error: &Error) {
+    pub fn note(&self, error: &Error) {
         if let Some(code) = error.raw_os_error() {
             if TOO_MANY.contains(&code) {
                 self.taken.fetch_add(FILES, Ordering::SeqCst);

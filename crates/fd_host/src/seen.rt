@@ -1,5 +1,5 @@
-// What a process has read of a table, and how it is written again.
-use crate::files::{Host, create, filled, name_firmly, open};
+// What a process has read of a table, and a new file in its place.
+use crate::files::{create, filled, name_firmly, open};
 use std::fs::File;
 use std::io;
 use std::io::{Error, ErrorKind};
@@ -15,7 +15,7 @@ const PRIME: u64 = 0x0100_0000_01b3;
 
 /// The front of a table that was read from its start on, in the order of the places: its length and its digest.
 #[derive(Drop)]
-pub(crate) struct Seen {
+pub struct Seen {
     len: AtomicU64,
     digest: AtomicU64,
     /// The last read met the end.
@@ -41,12 +41,12 @@ impl Seen {
     }
 
     /// The table is what its name stands for, and not the file that was opened.
-    pub(crate) fn is_renewed(&self) -> bool {
+    pub fn is_renewed(&self) -> bool {
         self.is_renewed.load(Ordering::SeqCst)
     }
 
     /// Notes a read. After one elsewhere than at the end of those before the table counts as changed.
-    pub(crate) fn add(&self, at: u64, bytes: &[u8], is_ended: bool) {
+    pub fn add(&self, at: u64, bytes: &[u8], is_ended: bool) {
         if at != self.len.load(Ordering::SeqCst) {
             self.digest.store(0, Ordering::SeqCst);
             return;
@@ -56,6 +56,18 @@ impl Seen {
         self.len
             .store(at.wrapping_add(bytes.len() as u64), Ordering::SeqCst);
         self.is_ended.store(is_ended, Ordering::SeqCst);
+    }
+
+    /// An error where this table, or that there is none, isn't what was read of it.
+    pub(crate) fn check(&self, table: Option<&File>) -> io::Result<()> {
+        let is_same = match table {
+            Some(file) => self.is_of(file)?,
+            None => self.len.load(Ordering::SeqCst) == 0,
+        };
+        if is_same {
+            return Ok(());
+        }
+        Err(Error::from(ErrorKind::StaleNetworkFileHandle))
     }
 
     // The table has these bytes still.
@@ -89,18 +101,16 @@ fn digested(digest: u64, bytes: &[u8]) -> u64 {
 /// Puts a new file of the same bytes in the place of a table, and makes it firm: a block of the old one may be one that another
 /// process failed to write back. The system then has what it was to hold, and no later write of it reaches the disk. At
 /// every moment, and after every crash, there is the old file or the new one. Who has no lock of the dataset may not call
-/// it. An error comes where the table isn't what was seen of it.
-pub(crate) fn renew<R: Host>(
-    host: R,
+/// it. An error comes where the table isn't what was read of it.
+pub(crate) fn renew(
+    host: HostRuntime,
     folder: &str,
     unfinished: &str,
     path: &str,
     seen: &Seen,
 ) -> io::Result<()> {
     let old = open(host, path)?;
-    if !seen.is_of(&old)? {
-        return Err(Error::from(ErrorKind::StaleNetworkFileHandle));
-    }
+    seen.check(Some(&old))?;
     let names = open(host, folder)?;
     let new = create(host, unfinished)?;
     copy(&old, &new)?;

@@ -1,6 +1,6 @@
 // Which process writes to a dataset.
 use crate::budget::{Budget, LOCKS, Permit};
-use crate::files::{Host, open_lock};
+use crate::files::open_lock;
 use std::alloc::{AllocError, Global};
 use std::fs::File;
 use std::io;
@@ -11,21 +11,21 @@ use std::sync::{Arc, OnceLock};
 /// more datasets than are locked one by one has that of the root, and none may hold one that it writes to. Each takes its
 /// own before it looks at the other's, so of two processes one at least sees the other.
 #[derive(Drop)]
-pub(crate) struct Locks {
+pub struct Locks {
     budget: Arc<Budget>,
     root: OnceLock<File>,
 }
 
 /// The lock of a dataset, for as long as it isn't let go.
 #[derive(Drop)]
-pub(crate) struct Lock {
+pub struct Lock {
     _file: Option<File>,
     _permit: Option<Permit>,
 }
 
 impl Locks {
     /// No lock, in a process that may have so many descriptors.
-    pub(crate) fn new(alloc: Global, limit: u64) -> Result<Locks, AllocError> {
+    pub fn new(alloc: Global, limit: u64) -> Result<Locks, AllocError> {
         Ok(Locks {
             budget: Arc::new(alloc, Budget::new(limit))?,
             root: OnceLock::new(),
@@ -33,7 +33,7 @@ impl Locks {
     }
 
     /// Locks the dataset with this file, in the root with that one; an error where another process writes to it.
-    pub(crate) fn lock<R: Host>(&self, host: R, path: &str, root: &str) -> io::Result<Lock> {
+    pub fn lock(&self, host: HostRuntime, path: &str, root: &str) -> io::Result<Lock> {
         if self.root.get().is_none() {
             if let Some(permit) = Budget::take(&self.budget, LOCKS)? {
                 let file = exclusive(host, path)?;
@@ -56,7 +56,7 @@ impl Locks {
 }
 
 /// The file of a lock, locked, until it is let go; an error where another has the lock.
-pub(crate) fn exclusive<R: Host>(host: R, path: &str) -> io::Result<File> {
+pub fn exclusive(host: HostRuntime, path: &str) -> io::Result<File> {
     let file = open_lock(host, path)?;
     match file.try_lock() {
         Ok(()) => Ok(file),

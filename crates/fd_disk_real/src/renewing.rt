@@ -1,0 +1,101 @@
+// A dataset whose table is renewed or taken away, and whose files are removed.
+ghost use Rattle.std.specs.Prelude.{◌≡◌, ◌⊎◌, true, false, OnOk, OnErr};
+ghost use Rattle.fd_disk_real.specs.Lost.{all_firm};
+
+use crate::fault::counted;
+use crate::shelf::path_of;
+use crate::unsynced::Unsynced;
+use crate::{RealDisk, RealFault, RealFolder};
+use fd_disk::{Down, FileName, Folder, Renew};
+use std::alloc::Global;
+use std::io;
+
+impl Renew<RealFault> for RealFolder {
+    /// The new table is firm under another name before it takes the place of the old one. A dataset to which another process
+    /// writes, or has written since the table was read, is a fault. After another fault the table's name counts as
+    /// lost, since either of the two may be there after a crash.
+    fn renew(
+        &mut self,
+        alloc: Global,
+        table: RealDisk,
+        bytes: &[u8],
+    ) -> Result<(), Down<RealFault>> {
+        self.give_table(table);
+        match self.replaced(alloc, bytes) {
+            Ok(()) => Ok(()),
+            Err(error) => Err(Down::Fault(counted(&mut self.faults, error))),
+        }
+    }
+
+    /// Faults as those of `renew`.
+    fn unfound(&mut self, alloc: Global, table: RealDisk) -> Result<(), Down<RealFault>> {
+        self.give_table(table);
+        match self.unlisted(alloc) {
+            Ok(()) => Ok(()),
+            Err(error) => Err(Down::Fault(counted(&mut self.faults, error))),
+        }
+    }
+
+    /// Faults as those of `renew`.
+    fn remove(&mut self, alloc: Global, file: FileName) -> Result<(), Down<RealFault>> {
+        let Ok(path) = path_of(alloc, self.place.path(), file) else {
+            return Err(Down::NoMemory);
+        };
+        match self.without(alloc, path.as_str()) {
+            Ok(()) => Ok(()),
+            Err(error) => Err(Down::Fault(counted(&mut self.faults, error))),
+        }
+    }
+}
+
+impl RealFolder {
+    // Has a table of these bytes in place of the one that is there.
+    fn replaced(&mut self, alloc: Global, bytes: &[u8]) -> io::Result<()>
+        ensures out { self.new.table_out ≡ self.old.table_out }
+        ensures last_writer { self.new.last_writer ≡ self.old.last_writer }
+        ensures name { self.new.name ≡ self.old.name }
+        ensures faults { self.new.faults ≡ self.old.faults }
+        ensures sound { OnOk result (self.old.unsynced.is_name_lost ≡ false) }
+        ensures firm { OnOk result (self.new.unsynced ≡ all_firm) }
+        ensures lost { OnErr result ((self.new.unsynced ≡ self.old.unsynced) ⊎ (self.new.unsynced.is_name_lost ≡ true)) }
+    {
+        self.unsynced.check_name()?;
+        self.place.claim(alloc)?;
+        let replaced = self.place.replace(bytes);
+        self.unsynced.named(replaced)?;
+        self.unsynced = Unsynced::made();
+        Ok(())
+    }
+
+    // Has no table in place of the one that is there. One that is founded then is a new file.
+    fn unlisted(&mut self, alloc: Global) -> io::Result<()>
+        ensures out { self.new.table_out ≡ self.old.table_out }
+        ensures last_writer { self.new.last_writer ≡ self.old.last_writer }
+        ensures name { self.new.name ≡ self.old.name }
+        ensures faults { self.new.faults ≡ self.old.faults }
+        ensures sound { OnOk result (self.old.unsynced.is_name_lost ≡ false) }
+        ensures lost { OnErr result ((self.new.unsynced ≡ self.old.unsynced) ⊎ (self.new.unsynced.is_name_lost ≡ true)) }
+    {
+        self.unsynced.check_name()?;
+        self.place.claim(alloc)?;
+        let unlisted = self.place.unlist();
+        self.unsynced.named(unlisted)?;
+        self.unsynced = Unsynced::found();
+        Ok(())
+    }
+
+    // Removes the file of this path.
+    fn without(&mut self, alloc: Global, path: &str) -> io::Result<()>
+        ensures out { self.new.table_out ≡ self.old.table_out }
+        ensures last_writer { self.new.last_writer ≡ self.old.last_writer }
+        ensures name { self.new.name ≡ self.old.name }
+        ensures faults { self.new.faults ≡ self.old.faults }
+        ensures sound { OnOk result (self.old.unsynced.is_name_lost ≡ false) }
+        ensures lost { OnErr result ((self.new.unsynced ≡ self.old.unsynced) ⊎ (self.new.unsynced.is_name_lost ≡ true)) }
+    {
+        self.unsynced.check_name()?;
+        self.place.claim(alloc)?;
+        let removed = self.place.remove(path);
+        self.unsynced.named(removed)
+    }
+}
