@@ -172,7 +172,7 @@ fn datasets_of_both_kinds(rt: HostRuntime) {
     let damaged = Found::Damaged(Damage::IndexDigest { file, want, got });
     for (digest, fails, found) in [
         (DIGEST, NEVER, Found::Segments(2)),
-        (DIGEST, (Op::Read, 2), Found::Disk),
+        (DIGEST, (Op::Read, 1), Found::Disk),
         (want, NEVER, damaged),
     ] {
         assert_eq!(rt; run_mixed(rt.alloc(), &digest, fails), found);

@@ -1,11 +1,11 @@
 //! A table of contents with 65,535 entries, which takes none more.
 ghost use Rattle.std.specs.Prelude.{◌≡◌, ◌≤◌, false, length, codes};
 
-use crate::stores::archived;
+use crate::stores::archived_in_memory;
 use crate::writing::{Key, Two, Went};
 use fd_bytes::NoMemory;
 use fd_disk::{Disk, Folder, Store};
-use fd_disk_mem::MemStore;
+use fd_disk_mem::{MemFault, MemStore};
 use fd_entries::Entry;
 use fd_toc::{AppendFault, Toc};
 use std::alloc::Global;
@@ -92,6 +92,13 @@ where
     }
 }
 
+/// The same of a store in memory.
+fn refused_in_memory(alloc: Global, store: MemStore) -> Option<u32>
+    requires { ⟦<MemStore as Store<MemFault>>⟧.out store (codes "a=1") ≡ false }
+{
+    refused_in(alloc, store)
+}
+
 /// How a flush goes where the table is full, and at how many entries an append is refused.
 fn run<R: Wait>(rt: &R, alloc: Global) -> Option<(Went, u32)> {
     let Ok(mut store) = MemStore::new(alloc, 65_536, 256) else {
@@ -103,8 +110,8 @@ fn run<R: Wait>(rt: &R, alloc: Global) -> Option<(Went, u32)> {
         apart: false,
     };
     let is_full = fill(alloc, &mut store);
-    let went = archived(rt, alloc, &mut store, 2, two);
-    let count = refused_in(alloc, store);
+    let went = archived_in_memory(rt, alloc, &mut store, 2, two);
+    let count = refused_in_memory(alloc, store);
     if is_full { Some((went?, count?)) } else { None }
 }
 

@@ -1,10 +1,12 @@
-ghost use Rattle.std.specs.Prelude.{◌≡◌, ◌≤◌, [], ◌∷◌, Some, IfOk, IfErr, OnOk, IfSome, IsSome};
+ghost use Rattle.std.specs.Prelude.{◌≡◌, ◌≤◌, [], ◌∷◌, Option, Some, IfOk, IfErr, OnOk, IfSome, IsSome};
 ghost use Rattle.fd_bytes.specs.Causes.{Rose};
+ghost use Rattle.fd_disk.specs.Renewals.{StandsStill};
 ghost use Rattle.fd_recovery.specs.Causes.{OnFileDamaged, OnFileDisk};
 ghost use Rattle.fd_recovery.specs.Damages.{damages_of, digest_damages, index_file};
 ghost use Rattle.fd_segment.specs.Copying.{IsDigestOf};
 
 use crate::fault::FileFault;
+use fd_buffers::Ahead;
 use fd_disk::{Down, FileKind, FileName, Folder, Sealed};
 use fd_entries::Entry;
 use fd_segment::{Damage, digest_at};
@@ -25,6 +27,7 @@ where
     ensures out { D.table_out folder.new ≡ D.table_out folder.old }
     ensures last_writer { D.last_writer folder.new ≡ D.last_writer folder.old }
     ensures name { D.name folder.new ≡ D.name folder.old }
+    ensures time { (out : Option D.Table) → StandsStill (D.moment folder.old out) (D.moment folder.new out) (D.left_since folder.old out) (D.left_since folder.new out) }
     ensures later { D.faults folder.old ≤ D.faults folder.new }
     ensures cause { IfErr result (λ e. OnFileDisk e (Rose (D.faults folder.old) (D.faults folder.new))) }
 {
@@ -72,16 +75,22 @@ pub(crate) fn check_index<F: Send, Z: Sealed<F>>(
     }))
 }
 
-/// The SHA-256 of the first bytes of a file.
+/// How many bytes of an index are read at once at most.
+const MOST: u64 = 1_048_576;
+
+/// The SHA-256 of the first bytes of a file, which are read ahead, as many at once as there may be.
 fn digest_of<F: Send, Z: Sealed<F>>(alloc: Global, file: &Z, len: u64) -> Result<[u8; 32], Down<F>>
     requires { len ≤ Z.len file.now }
     ensures { IfOk result (IsDigestOf (Z.bytes file.now) 0 len) }
 {
-    let mut reader = match file.reader(alloc) {
+    let reader = match file.reader(alloc) {
         Ok(reader) => reader,
         Err(down) => return Err(down),
     };
-    match digest_at(&mut reader, 0, len) {
+    let Ok(mut ahead) = Ahead::new(alloc, reader, 1, len.min(MOST) as usize) else {
+        return Err(Down::NoMemory);
+    };
+    match digest_at(&mut ahead, 0, len) {
         Ok(digest) => Ok(digest),
         Err(fault) => Err(Down::Fault(fault)),
     }

@@ -1,8 +1,9 @@
-ghost use Rattle.std.specs.Prelude.{◌≡◌, ◌⊎◌, ◌≤◌, [], List, ℕ, Option, Some, None, Ok, Err, is_some, false, IfOk, IfErr, IfSome, OnOk, OnErr, option_map, map, length};
+ghost use Rattle.std.specs.Prelude.{◌≡◌, ◌⊎◌, ◌≤◌, [], List, ℕ, Option, Some, None, Ok, Err, is_some, false, IfOk, IfErr, IfSome, IsSome, OnOk, OnErr, option_map, map, length};
 ghost use Rattle.fd_bytes.specs.Causes.{Rose};
 ghost use Rattle.fd_disk.specs.Folders.{without_table};
 ghost use Rattle.fd_disk.specs.Images.{synced};
 ghost use Rattle.fd_disk.specs.Moments.{MayLeave};
+ghost use Rattle.fd_disk.specs.Renewals.{IsQuiet};
 ghost use Rattle.fd_entries.specs.declared.table.Entry.{Entry};
 ghost use Rattle.fd_entries.specs.Table.{AllFit, listed};
 ghost use Rattle.fd_segment.specs.Held.{batch_of};
@@ -65,6 +66,9 @@ where
     ensures cause { IfErr result (λ e. OnDisk e (Rose (D.faults folder.old) (D.faults folder.new) ⊎ (TableFailed D.Table.file D.Table.faults (D.has folder.old) (D.has folder.new) ⊎ ReadsIndex dataset.now (D.has folder.new)))) }
     ensures out { IfOk result (λ o. D.table_out folder.new ≡ is_some o) }
     ensures out_err { OnErr result (D.table_out folder.new ≡ false) }
+    ensures short { IfOk result (λ o. IsSome o → length dataset.now ≤ 255) }
+    ensures time { IfOk result (λ o. IsQuiet (D.moment folder.old None) (D.moment folder.new (option_map (λ r. r.toc.table) o)) (D.left_since folder.old None) (D.left_since folder.new (option_map (λ r. r.toc.table) o)) (D.has folder.old)) }
+    ensures time_err { OnErr result (IsQuiet (D.moment folder.old None) (D.moment folder.new None) (D.left_since folder.old None) (D.left_since folder.new None) (D.has folder.old)) }
     ensures has { OnOk result (D.has folder.new ≡ option_map without_table (D.has folder.old)) }
     ensures has_err { OnErr result ((D.has folder.new ≡ D.has folder.old) ⊎ (D.has folder.new ≡ option_map with_firm_table (D.has folder.old))) }
     ensures last_writer { D.last_writer folder.new ≡ D.last_writer folder.old }
@@ -110,6 +114,9 @@ fn load_table<F: Send, D: Folder<F>>(
     ensures cause { IfErr result (λ e. OnDisk e (Rose (D.faults folder.old) (D.faults folder.new) ⊎ TableFailed D.Table.file D.Table.faults (D.has folder.old) (D.has folder.new))) }
     ensures out { IfOk result (λ o. D.table_out folder.new ≡ is_some o) }
     ensures out_err { OnErr result (D.table_out folder.new ≡ false) }
+    ensures short { IfOk result (λ o. IsSome o → length dataset.now ≤ 255) }
+    ensures time { IfOk result (λ o. IsQuiet (D.moment folder.old None) (D.moment folder.new (option_map (λ toc. toc.table) o)) (D.left_since folder.old None) (D.left_since folder.new (option_map (λ toc. toc.table) o)) (D.has folder.old)) }
+    ensures time_err { OnErr result (IsQuiet (D.moment folder.old None) (D.moment folder.new None) (D.left_since folder.old None) (D.left_since folder.new None) (D.has folder.old)) }
     ensures has { OnOk result (D.has folder.new ≡ option_map without_table (D.has folder.old)) }
     ensures has_err { OnErr result ((D.has folder.new ≡ D.has folder.old) ⊎ (D.has folder.new ≡ option_map with_firm_table (D.has folder.old))) }
     ensures last_writer { D.last_writer folder.new ≡ D.last_writer folder.old }

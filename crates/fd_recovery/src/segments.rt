@@ -1,5 +1,6 @@
-ghost use Rattle.std.specs.Prelude.{◌≡◌, ◌≤◌, ◌⊎◌, [], IfOk, IfErr, IfSome, IsSome};
+ghost use Rattle.std.specs.Prelude.{◌≡◌, ◌≤◌, ◌⊎◌, [], Option, IfOk, IfErr, IfSome, IsSome};
 ghost use Rattle.fd_bytes.specs.Causes.{Rose};
+ghost use Rattle.fd_disk.specs.Renewals.{StandsStill};
 ghost use Rattle.fd_recovery.specs.Causes.{OnFileDamaged, OnFileDisk};
 ghost use Rattle.fd_recovery.specs.Damages.{IsFirst, damages, damages_at, field_file};
 ghost use Rattle.fd_recovery.specs.Recovered.{AreTakenUp, IsNamed, SomeDigest, files_of};
@@ -27,6 +28,7 @@ where
     ensures out { D.table_out folder.new ≡ D.table_out folder.old }
     ensures last_writer { D.last_writer folder.new ≡ D.last_writer folder.old }
     ensures name { D.name folder.new ≡ D.name folder.old }
+    ensures time { (out : Option D.Table) → StandsStill (D.moment folder.old out) (D.moment folder.new out) (D.left_since folder.old out) (D.left_since folder.new out) }
     ensures later { D.faults folder.old ≤ D.faults folder.new }
     ensures cause { IfErr result (λ e. OnFileDisk e (Rose (D.faults folder.old) (D.faults folder.new) ⊎ SomeDigest entries.now)) }
 {
@@ -62,6 +64,7 @@ where
     ensures out { D.table_out folder.new ≡ D.table_out folder.old }
     ensures last_writer { D.last_writer folder.new ≡ D.last_writer folder.old }
     ensures name { D.name folder.new ≡ D.name folder.old }
+    ensures time { (out : Option D.Table) → StandsStill (D.moment folder.old out) (D.moment folder.new out) (D.left_since folder.old out) (D.left_since folder.new out) }
     ensures later { D.faults folder.old ≤ D.faults folder.new }
     ensures cause { IfErr result (λ e. OnFileDisk e (Rose (D.faults folder.old) (D.faults folder.new) ⊎ IsSome entry.now.digest)) }
 {

@@ -54,7 +54,7 @@ where
         Err(LensFault::Damaged(damage)) => return Err(FetchFault::Damaged(damage)),
         Err(LensFault::NoMemory) => return Err(FetchFault::NoMemory),
     };
-    let answer = copy_checked(&mut lens, at, len, sink);
+    let answer = copy_checked(alloc, &mut lens, at, len, sink);
     lenses.keep(number, lens);
     answer
 }

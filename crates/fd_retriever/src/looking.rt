@@ -44,7 +44,7 @@ fn copied<F: Send, R: Reader<F>, X, K: Sink<X>>(
         Err(LensFault::Damaged(damage)) => return Ok(Err(damage)),
         Err(LensFault::NoMemory) => return Err(FetchFault::NoMemory),
     };
-    match copy_checked(lens, at, len, sink) {
+    match copy_checked(alloc, lens, at, len, sink) {
         Ok(()) => Ok(Ok(Got::Found(len))),
         Err(FetchFault::Disk(fault)) => Err(FetchFault::Disk(fault)),
         Err(FetchFault::Write(fault)) => Err(FetchFault::Write(fault)),

@@ -1,6 +1,6 @@
 -- Bytes of a file that were copied in pieces.
-use Rattle.std.proofs.Common.{◌≡◌, ◌≤◌, ◌<◌, ◌+◌, ◌%◌, ℕ, List, [], ◌∷◌, ◌++◌, length, take, drop, Option, Some, None, Ok, refl, sym, ap, ◌∙◌, arith, length-append}
-use Rattle.std.proofs.lemmas.List.{take_at, take-take, append-nil, drop-drop}
+use Rattle.std.proofs.Common.{◌≡◌, ◌≤◌, ◌<◌, ◌+◌, ◌%◌, ℕ, List, [], ◌∷◌, ◌++◌, length, take, drop, Option, Some, None, Ok, refl, sym, ap, ◌∙◌, arith, length-append, length-take, length-drop}
+use Rattle.std.proofs.lemmas.List.{take_at, take-take, append-nil, drop-drop, drop-take}
 use Rattle.std.proofs.Math.Seq.{take-add}
 use Rattle.fd_disk.specs.Reading.{ReadsBytes}
 use Rattle.fd_io.specs.Streams.{Takes, TakesFront}
@@ -27,6 +27,21 @@ piece_front (Some f) at n bytes front rest p is =
       long = refl;
       told = sym (take_at front rest (length front) refl) ∙ ap (take (length front)) (sym is ∙ p.told) ∙ take-take (length front) n (drop at f) le;
     }
+
+-- the front of a piece, and what stands behind it
+pub piece_before : (fields : Option (List ℕ)) (at len more : ℕ) (bytes : List ℕ) → IsPiece fields at (len + more) bytes → IsPiece fields at len (take len bytes)
+piece_before None at len more bytes p = record { long = omega (arith, length-take len bytes, p.long); told = tt }
+piece_before (Some f) at len more bytes p = record {
+  long = omega (arith, length-take len bytes, p.long);
+  told = ap (take len) p.told ∙ take-take len (len + more) (drop at f) (omega arith);
+}
+
+pub piece_behind : (fields : Option (List ℕ)) (at len more : ℕ) (bytes : List ℕ) → IsPiece fields at (len + more) bytes → IsPiece fields (at + len) more (drop len bytes)
+piece_behind None at len more bytes p = record { long = omega (arith, length-drop len bytes, p.long); told = tt }
+piece_behind (Some f) at len more bytes p = record {
+  long = omega (arith, length-drop len bytes, p.long);
+  told = ap (drop len) p.told ∙ drop-take len more (drop at f) ∙ ap (take more) (drop-drop len at f);
+}
 
 drop_all : (xs : List ℕ) → drop (length xs) xs ≡ []
 drop_all [] = refl

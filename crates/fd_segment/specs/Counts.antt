@@ -37,3 +37,8 @@ pub record HasCopied (len : ℕ) (old new : Opened) : Type 0 where
 pub record HasChecked (len : ℕ) (old new : Opened) : Type 0 where
   pub few : new.field_reads ≤ old.field_reads + (pieces len + 1)
   pub asked : new.field_asked ≤ old.field_asked + (len + 32)
+
+-- One read at most was made, and it asked for so many bytes at most.
+pub record HasReadOnce (size : ℕ) (old new : Opened) : Type 0 where
+  pub few : new.field_reads ≤ old.field_reads + 1
+  pub asked : new.field_asked ≤ old.field_asked + size

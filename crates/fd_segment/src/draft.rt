@@ -16,9 +16,10 @@ ghost use Rattle.fd_segment.specs.Steps.{StopsPutting, StopsSealing, digested, w
 ghost use Rattle.sha2.specs.Sha256.{sha256};
 
 use crate::fault::PutFault;
+use crate::field::Field;
 use crate::firm::make_firm;
 use crate::segment::Segment;
-use crate::writing::write_digested;
+use crate::writing::{field_digest, write_digested};
 use fd_disk::{Disk, Down, Shelf};
 use fd_index::IndexBuilder;
 use std::alloc::Global;
@@ -150,13 +151,61 @@ impl<F: Send, H: Shelf<F>> Draft<F, H> {
         ensures later { (self.old.field_faults ≤ self.new.field_faults) × (self.new.index_faults ≡ self.old.index_faults) }
         ensures cause { IfErr result (λ e. OnPutFault e (Rose self.old.field_faults self.new.field_faults)) }
     {
+        self.put_digested(key, bytes, &field_digest(bytes))
+    }
+
+    /// The same for a field whose digest was perhaps looked for: where it was, none is computed here.
+    pub fn put_field(&mut self, key: &[u8], field: &Field) -> Result<(), PutFault<F>>
+        requires key { length key.now ≤ 256 }
+        requires sum { self.old.end + (length field.now + 32) < 2 ^ 63 }
+        ensures ok { OnOk result ((b : List Pair) → Puts self.old b → Puts self.new (b ++ record { key = key.now; bytes = field.now } ∷ [])) }
+        ensures end { OnOk result (self.new.end ≡ self.old.end + (length field.now + 32)) }
+        ensures err { OnErr result ((b : List Pair) → Puts self.old b → Puts self.new b) }
+        ensures refused { OnErr result ((self.new.held ≡ self.old.held) × (self.new.end ≡ self.old.end)) }
+        ensures file { OnOk result (self.new.field_file ≡ option_map (digested self.old.end field.now) self.old.field_file) }
+        ensures file_err { IfErr result (λ e. OnPutFault e (WhereTold self.old.field_file self.new.field_file (StopsPutting self.old.end field.now))) }
+        ensures index_file { self.new.index_file ≡ self.old.index_file }
+        ensures origin { self.new.origin ≡ self.old.origin }
+        ensures room { (self.new.held.keys ≡ self.old.held.keys) × (self.new.held.bytes ≡ self.old.held.bytes) }
+        ensures full { FullAs (room_for self.old.held key.now) result }
+        ensures unwritten { IfErr result (λ e. OnPutFull e (self.new ≡ self.old)) }
+        ensures later { (self.old.field_faults ≤ self.new.field_faults) × (self.new.index_faults ≡ self.old.index_faults) }
+        ensures cause { IfErr result (λ e. OnPutFault e (Rose self.old.field_faults self.new.field_faults)) }
+    {
+        self.put_digested(key, field.as_slice(), &field.digest())
+    }
+
+    // The same for bytes with this digest.
+    fn put_digested(
+        &mut self,
+        key: &[u8],
+        bytes: &[u8],
+        digest: &[u8; 32],
+    ) -> Result<(), PutFault<F>>
+        requires key { length key.now ≤ 256 }
+        requires digest { digest.now ≡ sha256 bytes.now }
+        requires sum { self.old.end + (length bytes.now + 32) < 2 ^ 63 }
+        ensures ok { OnOk result ((b : List Pair) → Puts self.old b → Puts self.new (b ++ record { key = key.now; bytes = bytes.now } ∷ [])) }
+        ensures end { OnOk result (self.new.end ≡ self.old.end + (length bytes.now + 32)) }
+        ensures err { OnErr result ((b : List Pair) → Puts self.old b → Puts self.new b) }
+        ensures refused { OnErr result ((self.new.held ≡ self.old.held) × (self.new.end ≡ self.old.end)) }
+        ensures file { OnOk result (self.new.field_file ≡ option_map (digested self.old.end bytes.now) self.old.field_file) }
+        ensures file_err { IfErr result (λ e. OnPutFault e (WhereTold self.old.field_file self.new.field_file (StopsPutting self.old.end bytes.now))) }
+        ensures index_file { self.new.index_file ≡ self.old.index_file }
+        ensures origin { self.new.origin ≡ self.old.origin }
+        ensures room { (self.new.held.keys ≡ self.old.held.keys) × (self.new.held.bytes ≡ self.old.held.bytes) }
+        ensures full { FullAs (room_for self.old.held key.now) result }
+        ensures unwritten { IfErr result (λ e. OnPutFull e (self.new ≡ self.old)) }
+        ensures later { (self.old.field_faults ≤ self.new.field_faults) × (self.new.index_faults ≡ self.old.index_faults) }
+        ensures cause { IfErr result (λ e. OnPutFault e (Rose self.old.field_faults self.new.field_faults)) }
+    {
         if let Err(full) = self.records.fits(key) {
             return Err(PutFault::Full {
                 keys: full.keys,
                 left: full.left,
             });
         }
-        if let Err(fault) = write_digested(&mut self.field_file, self.end, bytes) {
+        if let Err(fault) = write_digested(&mut self.field_file, self.end, bytes, digest) {
             return Err(PutFault::Fault(fault));
         }
         let Ok(()) = self.records.put(key, self.end, bytes.len() as u64) else {

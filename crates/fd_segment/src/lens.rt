@@ -4,14 +4,17 @@ ghost use Rattle.fd_bytes.specs.Causes.{Rose};
 ghost use Rattle.fd_pages.specs.Paging.{HasRead, digits};
 ghost use Rattle.fd_pages.specs.Parts.{IsSeen, pages_by};
 ghost use Rattle.fd_segment.specs.Causes.{IsBadIndex, IsFieldDamage, IsFindDamage, IsPlace, OnCheckDamaged, OnCheckFault, OnCopyFault, OnDamaged, OnLensFault, StandsForNone, UnlessWrite, lens_fault};
-ghost use Rattle.fd_segment.specs.Copying.{IsBatchIndex, IsCopied, IsCopiedInPart, IsDigestedAt, IsOfBatch};
-ghost use Rattle.fd_segment.specs.Counts.{HasChecked, HasCopied, KeepsFieldCounts, KeepsIndexCounts, paging_of};
+ghost use Rattle.fd_segment.specs.Copying.{IsBatchIndex, IsCopied, IsCopiedInPart, IsDigestedAt, IsOfBatch, IsPiece};
+ghost use Rattle.fd_segment.specs.Counts.{HasChecked, HasCopied, HasReadOnce, KeepsFieldCounts, KeepsIndexCounts, paging_of};
 ghost use Rattle.fd_segment.specs.Held.{IsIndexOf, behind};
 
 use crate::copying::copy_pieces;
 use crate::digest::{digest_at, kept_at};
 use crate::fault::{CheckFault, CopyFault, Damage, LensFault};
-use fd_disk::{FileKind, FileName, Reader};
+use crate::whole::{read_whole, take_digest};
+use crate::writing::field_digest;
+use fd_bytes::Bytes;
+use fd_disk::{Down, FileKind, FileName, Reader};
 use fd_entries::Entry;
 use fd_index::{Index, IndexFault};
 use fd_io::Sink;
@@ -158,6 +161,47 @@ impl<F: Send, R: Reader<F>> Lens<F, R> {
             return Ok(());
         }
         Err(CheckFault::Damaged(Damage::FieldDigest {
+            file: file_name(&self.entry, FileKind::Fields),
+            at,
+            want,
+            got,
+        }))
+    }
+
+    /// Reads the bytes at a place of the field file, which are at most 1 MiB, with their digest behind them, where the batch
+    /// has digests, in one read, and gives them once they were checked against it.
+    ///
+    /// `Damaged` is here only `FieldDigest`, exactly where the digest that stands there isn't that of the bytes. It never
+    /// comes at the place of a key where the files stand for a batch. `Fault` comes only where the field file's count of
+    /// faults rose. At `NoMemory` nothing was read.
+    pub fn read_field(&mut self, alloc: Global, at: u64, len: u64) -> Result<Bytes, LensFault<F>>
+        requires inside { at + len + behind self.old.files.entry ≤ self.old.files.entry.fields_len }
+        requires few { len ≤ 1048576 }
+        ensures ok { IfOk result (IsPiece self.old.files.fields at len) }
+        ensures checked { OnOk result (IsSome self.old.files.entry.digest → IsDigestedAt self.old.files.fields at len) }
+        ensures damaged { IfErr result (λ e. OnDamaged e (IsFieldDamage self.old.files.entry self.old.files.fields at len)) }
+        ensures sound { IfErr result (λ e. OnDamaged e (λ _. (key : List ℕ) → IsPlace self.old.files.entry self.old.files.index key (Some (at, len)) → StandsForNone self.old.files)) }
+        ensures files { self.new.files ≡ self.old.files }
+        ensures once { HasReadOnce (len + behind self.old.files.entry) self.old self.new }
+        ensures unread { KeepsIndexCounts self.old self.new }
+        ensures later { (self.new.index_faults ≡ self.old.index_faults) × (self.old.field_faults ≤ self.new.field_faults) }
+        ensures cause { IfErr result (λ e. OnLensFault e (Rose self.old.field_faults self.new.field_faults)) }
+    {
+        let size = len + behind(&self.entry);
+        let mut octets = match read_whole(alloc, &mut self.field_file, at, size) {
+            Ok(octets) => octets,
+            Err(Down::Fault(fault)) => return Err(LensFault::Fault(fault)),
+            Err(Down::NoMemory) => return Err(LensFault::NoMemory),
+        };
+        if self.entry.digest.is_none() {
+            return Ok(Bytes::from_vec(octets));
+        }
+        let want = take_digest(&mut octets, len as usize);
+        let got = field_digest(&octets);
+        if want == got {
+            return Ok(Bytes::from_vec(octets));
+        }
+        Err(LensFault::Damaged(Damage::FieldDigest {
             file: file_name(&self.entry, FileKind::Fields),
             at,
             want,

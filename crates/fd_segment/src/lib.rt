@@ -6,13 +6,16 @@ mod copying;
 mod digest;
 mod draft;
 mod fault;
+mod field;
 mod firm;
 mod lens;
 mod segment;
+mod whole;
 mod writing;
 
 pub use digest::digest_at;
 pub use draft::{Draft, Room};
 pub use fault::{CheckFault, CopyFault, Damage, LensFault, PutFault};
+pub use field::Field;
 pub use lens::Lens;
 pub use segment::Segment;

@@ -8,19 +8,21 @@ use fd_disk::Disk;
 use sha2::{Digest, Sha256};
 
 /// The digest of a field.
-fn field_digest(bytes: &[u8]) -> [u8; 32]
+pub(crate) fn field_digest(bytes: &[u8]) -> [u8; 32]
     ensures { result ≡ sha256 bytes.now }
 {
     Sha256::digest(bytes)
 }
 
-/// Writes the bytes at a place, and then their SHA-256 behind them.
+/// Writes the bytes at a place, and then their SHA-256, which is given, behind them.
 pub(crate) fn write_digested<F: Send, T: Disk<F>>(
     file: &mut T,
     at: u64,
     bytes: &[u8],
+    digest: &[u8; 32],
 ) -> Result<(), F>
-    requires { at + (length bytes.now + 32) < 2 ^ 63 }
+    requires sum { at + (length bytes.now + 32) < 2 ^ 63 }
+    requires digest { digest.now ≡ sha256 bytes.now }
     ensures ok { OnOk result (T.file file.new ≡ option_map (digested at bytes.now) (T.file file.old)) }
     ensures err { OnErr result (WhereTold (T.file file.old) (T.file file.new) (StopsPutting at bytes.now)) }
     ensures told { is_some (T.file file.new) ≡ is_some (T.file file.old) }
@@ -33,8 +35,7 @@ pub(crate) fn write_digested<F: Send, T: Disk<F>>(
     if let Err(fault) = file.write_at(at, bytes) {
         return Err(fault);
     }
-    let digest = field_digest(bytes);
-    if let Err(fault) = file.write_at(at + bytes.len() as u64, &digest) {
+    if let Err(fault) = file.write_at(at + bytes.len() as u64, digest) {
         return Err(fault);
     }
     Ok(())

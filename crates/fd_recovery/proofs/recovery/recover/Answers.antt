@@ -1,7 +1,9 @@
-use Rattle.std.proofs.Common.{rules, ◌≡◌, ◌∙◌, ◌⊎◌, IfSome, List, Ok, is_some, option_map, subst, true}
+use Rattle.std.proofs.Common.{rules, ◌≡◌, ◌∙◌, ◌⊎◌, IfSome, List, Ok, is_some, option_map, subst, Some, None, true}
 use Rattle.fd_bytes.specs.Causes.{Rose}
 use Rattle.fd_disk.specs.Folders.{with_table, without_table}
 use Rattle.fd_disk.specs.Images.{synced}
+use Rattle.fd_disk.specs.Renewals.{IsQuiet, StandsStill}
+use Rattle.fd_disk.proofs.RenewalLemmas.{quiet_still}
 use Rattle.fd_entries.specs.declared.table.Entry.{Entry}
 use Rattle.fd_entries.specs.Table.{listed}
 use Rattle.fd_recovery.specs.Causes.{OnFileDisk}
@@ -44,3 +46,52 @@ returns-in-Disk-clause-cause g c =
     subst (λ (l : List Entry). OnFileDisk c.in-Err-segments_of.fault (Rose (faults c.load_table.new.folder) (faults c.segments_of.new.folder) ⊎ SomeDigest l)) c.entries.ensures.entries c.in-Err-segments_of.ensures.cause in
     taken_cause c.in-Err-segments_of.fault c.in-Disk.fault g.D.Table.Disk.file g.D.Table.Disk.faults c.args.dataset.now (has c.args.folder.now) (has c.segments_of.new.folder) (has c.give_table.new.self) (g.D.Table.Disk.file toc.table) toc.entries (is_some c.in-Ok-Some.field-0)
     (faults c.args.folder.now) (faults c.load_table.new.folder) (faults c.segments_of.new.folder) (faults c.give_table.new.self) c.in-Disk.is cause c.in-Ok-Some.ensures.later c.give_table.ensures.faults away firm there c.in-Ok-Some.ensures.none lists back
+
+pub returns-in-Ok-clause-time : goal.returns-in-Ok-clause-time
+returns-in-Ok-clause-time g c =
+    let d = c.args.folder.now in
+    let mid = c.load_table.new.folder in
+    let toc = c.in-Ok-Some.toc in
+    let load : IsQuiet (g.D.Folder.moment d None) (g.D.Folder.moment mid (Some toc.table)) (g.D.Folder.left_since d None) (g.D.Folder.left_since mid (Some toc.table)) (g.D.Folder.has d) =
+    subst (λ o. IsQuiet (g.D.Folder.moment d None) (g.D.Folder.moment mid (option_map (λ t. t.table) o)) (g.D.Folder.left_since d None) (g.D.Folder.left_since mid (option_map (λ t. t.table) o)) (g.D.Folder.has d)) c.in-Ok-Some.field-0-is c.in-Ok-Some.ensures.time in
+    let taken = quiet_still _ _ _ _ _ _ (g.D.Folder.has d) load (c.segments_of.ensures.time (Some toc.table)) in
+    taken
+
+pub returns-in-Disk-clause-time_err : goal.returns-in-Disk-clause-time_err
+returns-in-Disk-clause-time_err g c =
+    let d = c.args.folder.now in
+    let mid = c.load_table.new.folder in
+    let toc = c.in-Ok-Some.toc in
+    let load : IsQuiet (g.D.Folder.moment d None) (g.D.Folder.moment mid (Some toc.table)) (g.D.Folder.left_since d None) (g.D.Folder.left_since mid (Some toc.table)) (g.D.Folder.has d) =
+    subst (λ o. IsQuiet (g.D.Folder.moment d None) (g.D.Folder.moment mid (option_map (λ t. t.table) o)) (g.D.Folder.left_since d None) (g.D.Folder.left_since mid (option_map (λ t. t.table) o)) (g.D.Folder.has d)) c.in-Ok-Some.field-0-is c.in-Ok-Some.ensures.time in
+    let taken = quiet_still _ _ _ _ _ _ (g.D.Folder.has d) load (c.segments_of.ensures.time (Some toc.table)) in
+    let last = c.segments_of.new.folder in
+    let new = c.give_table.new.self in
+    quiet_still _ _ _ _ _ _ (g.D.Folder.has d) taken
+    (subst (λ x. StandsStill (g.D.Folder.moment last (Some x)) (g.D.Folder.moment new None) (g.D.Folder.left_since last (Some x)) (g.D.Folder.left_since new None)) c.into_table.ensures.table c.give_table.ensures.time)
+
+pub returns-in-Damaged-clause-time_err : goal.returns-in-Damaged-clause-time_err
+returns-in-Damaged-clause-time_err g c =
+    let d = c.args.folder.now in
+    let mid = c.load_table.new.folder in
+    let toc = c.in-Ok-Some.toc in
+    let load : IsQuiet (g.D.Folder.moment d None) (g.D.Folder.moment mid (Some toc.table)) (g.D.Folder.left_since d None) (g.D.Folder.left_since mid (Some toc.table)) (g.D.Folder.has d) =
+    subst (λ o. IsQuiet (g.D.Folder.moment d None) (g.D.Folder.moment mid (option_map (λ t. t.table) o)) (g.D.Folder.left_since d None) (g.D.Folder.left_since mid (option_map (λ t. t.table) o)) (g.D.Folder.has d)) c.in-Ok-Some.field-0-is c.in-Ok-Some.ensures.time in
+    let taken = quiet_still _ _ _ _ _ _ (g.D.Folder.has d) load (c.segments_of.ensures.time (Some toc.table)) in
+    let last = c.segments_of.new.folder in
+    let new = c.give_table.new.self in
+    quiet_still _ _ _ _ _ _ (g.D.Folder.has d) taken
+    (subst (λ x. StandsStill (g.D.Folder.moment last (Some x)) (g.D.Folder.moment new None) (g.D.Folder.left_since last (Some x)) (g.D.Folder.left_since new None)) c.into_table.ensures.table c.give_table.ensures.time)
+
+pub returns-in-NoMemory-clause-time_err : goal.returns-in-NoMemory-clause-time_err
+returns-in-NoMemory-clause-time_err g c =
+    let d = c.args.folder.now in
+    let mid = c.load_table.new.folder in
+    let toc = c.in-Ok-Some.toc in
+    let load : IsQuiet (g.D.Folder.moment d None) (g.D.Folder.moment mid (Some toc.table)) (g.D.Folder.left_since d None) (g.D.Folder.left_since mid (Some toc.table)) (g.D.Folder.has d) =
+    subst (λ o. IsQuiet (g.D.Folder.moment d None) (g.D.Folder.moment mid (option_map (λ t. t.table) o)) (g.D.Folder.left_since d None) (g.D.Folder.left_since mid (option_map (λ t. t.table) o)) (g.D.Folder.has d)) c.in-Ok-Some.field-0-is c.in-Ok-Some.ensures.time in
+    let taken = quiet_still _ _ _ _ _ _ (g.D.Folder.has d) load (c.segments_of.ensures.time (Some toc.table)) in
+    let last = c.segments_of.new.folder in
+    let new = c.give_table.new.self in
+    quiet_still _ _ _ _ _ _ (g.D.Folder.has d) taken
+    (subst (λ x. StandsStill (g.D.Folder.moment last (Some x)) (g.D.Folder.moment new None) (g.D.Folder.left_since last (Some x)) (g.D.Folder.left_since new None)) c.into_table.ensures.table c.give_table.ensures.time)

@@ -1,4 +1,5 @@
 use Rattle.std.proofs.Common.{◌∙◌, arith}
+use Rattle.fd_disk.proofs.RenewalLemmas.{still_then}
 use Rattle.fd_recovery.proofs.TakingUp.{cause_of, entry_damaged, next_sound, next_taken}
 use Rattle.fd_recovery.proofs.segments.segments_of.Goals as goal
 
@@ -17,9 +18,19 @@ loop-i-preserved g c =
       out = c.in-Ok.ensures.out ∙ c.loop-i.invariant.out;
       last_writer = c.in-Ok.ensures.last_writer ∙ c.loop-i.invariant.last_writer;
       name = c.in-Ok.ensures.name ∙ c.loop-i.invariant.name;
+      time = λ out. still_then _ _ _ _ _ _ (c.loop-i.invariant.time out) (c.in-Ok.ensures.time out);
       later = omega (arith, c.in-Ok.ensures.later, c.loop-i.invariant.later);
     }
 
 pub returns-in-Err-clause-cause : goal.returns-in-Err-clause-cause
 returns-in-Err-clause-cause g c =
     cause_of c.in-Err.fault (g.D.Folder.faults c.args.folder.now) (g.D.Folder.faults c.loop-i.folder) (g.D.Folder.faults c.segment_of.new.folder) c.args.entries.now c.loop-i.i _ c.loop-i.invariant.later (omega arith) c.in-Err.ensures.cause
+
+pub returns-in-Err-clause-time : goal.returns-in-Err-clause-time
+returns-in-Err-clause-time g c = λ out. still_then _ _ _ _ _ _ (c.loop-i.invariant.time out) (c.segment_of.ensures.time out)
+
+pub returns-in_default-clause-time : goal.returns-in_default-clause-time
+returns-in_default-clause-time g c = λ out. still_then _ _ _ _ _ _ (c.loop-i.invariant.time out) (c.segment_of.ensures.time out)
+
+pub returns-in_default-push-clause-time : goal.returns-in_default-push-clause-time
+returns-in_default-push-clause-time g c = λ out. still_then _ _ _ _ _ _ (c.loop-i.invariant.time out) (c.segment_of.ensures.time out)

@@ -1,6 +1,6 @@
 use Rattle.std.proofs.Common.{refl}
 use Rattle.fd_segment.proofs.Putting.{begins_stopped, refused, taken}
-use Rattle.fd_segment.proofs.draft.Draft.put.Goals as goal
+use Rattle.fd_segment.proofs.draft.Draft.put_digested.Goals as goal
 
 pub returns-in-Err-write_digested-clause-err : goal.returns-in-Err-write_digested-clause-err
 returns-in-Err-write_digested-clause-err g c = λ b puts.
