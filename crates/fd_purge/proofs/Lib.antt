@@ -1,0 +1,7 @@
+mod CarryLemmas
+mod DivideLemmas
+mod ExitLemmas
+mod HeldLemmas
+mod KeptLemmas
+mod KeyLemmas
+mod PurgeLemmas
