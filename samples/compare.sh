@@ -1,7 +1,8 @@
 #!/usr/bin/env bash
 # Compares, where ecCodes is installed (Debian: libeccodes-tools), `fdb values` with `grib_get_data` and the numbers of
-# `fdb describe` with `grib_dump`, message by message of forecast.grib2 and ensemble.grib2, or of the files given. FDB names
-# the program, where it isn't to be built here. No part of the gate.
+# `fdb describe` with `grib_dump`, field by field of forecast.grib2, ensemble.grib2 and several.grib2, or of the files given.
+# Fields that share a message are taken apart by `fdb split`, here and by ecCodes there. FDB names the program, where it
+# isn't to be built here. No part of the gate.
 set -eu
 here=$(cd "$(dirname "$0")" && pwd)
 fdb=${FDB:-$here/../fdb}
@@ -11,10 +12,12 @@ if ! command -v grib_get_data > /dev/null || ! command -v grib_dump > /dev/null;
 fi
 work=$(mktemp -d)
 trap 'rm -rf "$work"' EXIT
-[ $# -gt 0 ] || set -- "$here/forecast.grib2" "$here/ensemble.grib2"
+[ $# -gt 0 ] || set -- "$here/forecast.grib2" "$here/ensemble.grib2" "$here/several.grib2"
 cat "$@" > "$work/stream"
-"$fdb" values --decimals 12 < "$work/stream" > "$work/values"
-"$fdb" describe < "$work/stream" > "$work/described"
+"$fdb" split < "$work/stream" > "$work/fields"
+"$fdb" split < "$work/fields" | cmp "$work/fields" -
+"$fdb" values --decimals 12 < "$work/fields" > "$work/values"
+"$fdb" describe < "$work/fields" > "$work/described"
 # Seventeen digits write a double exactly enough; a missing value is `missing`.
 grib_get_data -F %.17g -m missing "$work/stream" > "$work/data"
 grib_dump -O "$work/stream" > "$work/dump"

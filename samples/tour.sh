@@ -36,11 +36,13 @@ step "echo list | fdb axes STORE"
 echo list | "$fdb" axes "$store"
 step "fdb stats STORE"
 "$fdb" stats "$store"
+step "fdb split < samples/several.grib2 | fdb archive STORE --with class=od,expver=0002"
+"$fdb" split < "$here/several.grib2" | "$fdb" archive "$store" --with class=od,expver=0002
 step "(cat samples/script; fdb generate 2) | fdb session STORE > found.grib2"
 (cat "$here/script"; "$fdb" generate 2) | "$fdb" session "$store" > "$work/found.grib2"
-step "fdb trial STORE 400 --workers 4"
-"$fdb" trial "$store" 400 --workers 4
 step "fdb stats STORE"
 "$fdb" stats "$store"
+step "fdb trial OTHER 400 --workers 4"
+"$fdb" trial "$work/other" 400 --workers 4
 echo
 echo "The store stands in $store: $(find "$store" -type f | wc -l) files, $(du -sb "$store" | cut -f1) bytes."

@@ -116,6 +116,7 @@ module _ (given : List keys.Pair) (workers : ℕ) (start now : Option Holdings) 
     -- what holds at 3 and at 9 holds at the status of a refusal
     by_refusal : (P : Status → Type 0) → P statuses.Refused → P Limit → (refusal : Refusal) → P (refusal_status refusal)
     by_refusal P refused limit (refusals.Message at) = refused
+    by_refusal P refused limit (refusals.NoMap number field) = refused
     by_refusal P refused limit (refusals.Cut t) = refused
     by_refusal P refused limit (refusals.Key number fault) = refused
     by_refusal P refused limit (refusals.Field number fault) = refused
@@ -241,6 +242,7 @@ pub starved_outlasts : (result : Status) (has : Option Holdings) (sm sn : ℕ) (
 starved_outlasts result has sm sn left im io c d m n told None = tt
 starved_outlasts result has sm sn left im io c d m n told (Some (commands.Pick wanted)) = tt
 starved_outlasts result has sm sn left im io c d m n told (Some commands.Describe) = tt
+starved_outlasts result has sm sn left im io c d m n told (Some commands.Split) = tt
 starved_outlasts result has sm sn left im io c d m n told (Some (commands.Values decimals)) = tt
 starved_outlasts result has sm sn left im io c d m n told (Some (commands.Generate count)) = tt
 starved_outlasts result has sm sn left im io c d m n told (Some (commands.Create root)) = tt

@@ -86,6 +86,7 @@ OutlastsTrial s workers count (Err cause) h i = i ≡ h
 abbrev pub OutlastsCrash : Command → Status → Object Holdings → Object (List ℕ) → Object (List ℕ) → Type 0
 OutlastsCrash (commands.Pick wanted) s store input report = Unit {0}
 OutlastsCrash commands.Describe s store input report = Unit {0}
+OutlastsCrash commands.Split s store input report = Unit {0}
 OutlastsCrash (commands.Values decimals) s store input report = Unit {0}
 OutlastsCrash (commands.Generate count) s store input report = Unit {0}
 OutlastsCrash (commands.Create root) s store input report = Unit {0}

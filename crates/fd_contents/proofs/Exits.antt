@@ -43,6 +43,7 @@ use Rattle.fd_contents.specs.Texts.{text_for, texts_for}
 pub uses : (command : Command) → IsListing command → UsesStore command
 uses (commands.Pick wanted) is = absurd is
 uses commands.Describe is = absurd is
+uses commands.Split is = absurd is
 uses (commands.Values decimals) is = absurd is
 uses (commands.Generate count) is = absurd is
 uses (commands.Create root) is = absurd is
@@ -57,6 +58,7 @@ uses (commands.Trial root count workers) is = absurd is
 opens : (command : Command) → IsListing command → (h : Holdings) (names : List (List ℕ)) (octets name : List ℕ) → Contains names name → Opens command h names octets name
 opens (commands.Pick wanted) is h names octets name c = absurd is
 opens commands.Describe is h names octets name c = absurd is
+opens commands.Split is h names octets name c = absurd is
 opens (commands.Values decimals) is h names octets name c = absurd is
 opens (commands.Generate count) is h names octets name c = absurd is
 opens (commands.Create root) is h names octets name c = absurd is
@@ -72,6 +74,7 @@ opens (commands.Trial root count workers) is h names octets name c = absurd is
 broken_there : (command : Command) → IsListing command → (h i : Holdings) (name : List ℕ) (broken : Broken) → Stands name (folder_at h name) broken → IsBroken command h i name broken
 broken_there (commands.Pick wanted) is h i name broken x = absurd is
 broken_there commands.Describe is h i name broken x = absurd is
+broken_there commands.Split is h i name broken x = absurd is
 broken_there (commands.Values decimals) is h i name broken x = absurd is
 broken_there (commands.Generate count) is h i name broken x = absurd is
 broken_there (commands.Create root) is h i name broken x = absurd is
@@ -86,6 +89,7 @@ broken_there (commands.Trial root count workers) is h i name broken x = absurd i
 early_is : (command : Command) → IsListing command → (h : Holdings) (names : List (List ℕ)) (octets : List ℕ) → early command h names octets ≡ output_early (outcome command h names octets)
 early_is (commands.Pick wanted) is h names octets = absurd is
 early_is commands.Describe is h names octets = absurd is
+early_is commands.Split is h names octets = absurd is
 early_is (commands.Values decimals) is h names octets = absurd is
 early_is (commands.Generate count) is h names octets = absurd is
 early_is (commands.Create root) is h names octets = absurd is
@@ -100,6 +104,7 @@ early_is (commands.Trial root count workers) is h names octets = absurd is
 leaves_by : (command : Command) → IsListing command → (s : Status) (calm full : Type 0) (input left : Option (List ℕ)) (before now : Option Holdings) → WhereTold before now Stays → WhereTold before now (Leaves command s calm full input left)
 leaves_by (commands.Pick wanted) is s calm full input left before now stays = absurd is
 leaves_by commands.Describe is s calm full input left before now stays = absurd is
+leaves_by commands.Split is s calm full input left before now stays = absurd is
 leaves_by (commands.Values decimals) is s calm full input left before now stays = absurd is
 leaves_by (commands.Generate count) is s calm full input left before now stays = absurd is
 leaves_by (commands.Create root) is s calm full input left before now stays = absurd is
@@ -115,6 +120,7 @@ leaves_by (commands.Trial root count workers) is s calm full input left before n
 pub seen_at : (command : Command) (input : Option (List ℕ)) (store : Option Holdings) (P : List ℕ → Holdings → Type 0) → WhereSeen command input store P → (octets : List ℕ) (h : Holdings) → Seen command input octets → store ≡ Some h → P octets h
 seen_at (commands.Pick wanted) input store P w octets h d e = w octets h d e
 seen_at commands.Describe input store P w octets h d e = w octets h d e
+seen_at commands.Split input store P w octets h d e = w octets h d e
 seen_at (commands.Values decimals) input store P w octets h d e = w octets h d e
 seen_at (commands.Generate count) input store P w octets h d e = subst (λ o. P o h) (sym d) (w h e)
 seen_at (commands.Create root) input store P w octets h d e = w octets h d e

@@ -59,6 +59,7 @@ IsEarly stops.NoMemory = Unit {0}
 abbrev pub IsListing : Command → Type 0
 IsListing (commands.Pick wanted) = ⊥
 IsListing commands.Describe = ⊥
+IsListing commands.Split = ⊥
 IsListing (commands.Values decimals) = ⊥
 IsListing (commands.Generate count) = ⊥
 IsListing (commands.Create root) = ⊥
@@ -77,6 +78,7 @@ WhereSeen (commands.Stats root) input store P = (h : Holdings) → store ≡ Som
 WhereSeen (commands.Trial root count workers) input store P = (h : Holdings) → store ≡ Some h → P [] h
 WhereSeen (commands.Pick wanted) input store P = (octets : List ℕ) (h : Holdings) → input ≡ Some octets → store ≡ Some h → P octets h
 WhereSeen commands.Describe input store P = (octets : List ℕ) (h : Holdings) → input ≡ Some octets → store ≡ Some h → P octets h
+WhereSeen commands.Split input store P = (octets : List ℕ) (h : Holdings) → input ≡ Some octets → store ≡ Some h → P octets h
 WhereSeen (commands.Values decimals) input store P = (octets : List ℕ) (h : Holdings) → input ≡ Some octets → store ≡ Some h → P octets h
 WhereSeen (commands.Create root) input store P = (octets : List ℕ) (h : Holdings) → input ≡ Some octets → store ≡ Some h → P octets h
 WhereSeen (commands.Archive root given workers) input store P = (octets : List ℕ) (h : Holdings) → input ≡ Some octets → store ≡ Some h → P octets h

@@ -28,6 +28,8 @@ mod script;
 #[cfg(test)]
 mod sections;
 #[cfg(test)]
+mod split;
+#[cfg(test)]
 mod templates;
 #[cfg(test)]
 mod words;

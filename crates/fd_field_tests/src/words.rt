@@ -22,6 +22,7 @@ fn told(command: &Command) -> Told<'_> {
         Command::Axes(root) => ("axes", root.as_str(), 0, 0),
         Command::Stats(root) => ("stats", root.as_str(), 0, 0),
         Command::Session(root) => ("session", root.as_str(), 0, 0),
+        Command::Split => ("split", "", 0, 0),
         Command::Trial(root, count, workers) => ("trial", root.as_str(), *count, *workers),
     }
 }
@@ -86,7 +87,8 @@ axes,s|axes,s,0,0\n\
 stats,s|stats,s,0,0\n\
 session,s|session,s,0,0\n\
 trial,s,--workers,4,400|trial,s,400,4\n\
-trial,s,1|trial,s,1,1\n";
+trial,s,1|trial,s,1,1\n\
+split|split,,0,0\n";
 
 /// Words that have no form.
 const REFUSED: &str = "\
@@ -97,6 +99,7 @@ pick|\n\
 pick,--,step=0|\n\
 pick,step=0,STEP=0|\n\
 describe,s|\n\
+split,s|\n\
 values,1|\n\
 values,--decimals,31|\n\
 values,--decimals=1,--decimals=1|\n\
@@ -127,11 +130,11 @@ stats,s,--|\n";
 
 #[test]
 fn reads_words(rt: HostRuntime) {
-    assert_eq!(rt; agreed(rt.alloc(), READ, is_row), 18);
+    assert_eq!(rt; agreed(rt.alloc(), READ, is_row), 19);
 }
 
 #[test]
 fn refuses_words(rt: HostRuntime) {
-    assert_eq!(rt; agreed(rt.alloc(), REFUSED, is_row), 34);
+    assert_eq!(rt; agreed(rt.alloc(), REFUSED, is_row), 35);
     assert!(rt; asks_for(rt.alloc(), &[], ""));
 }

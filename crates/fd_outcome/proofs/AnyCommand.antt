@@ -21,6 +21,7 @@ use Rattle.fd_outcome.proofs.Exits.{apart, either_of, is_disk_fault, is_input_fa
 abbrev pub Seen : Command → Option (List ℕ) → List ℕ → Type 0
 Seen (commands.Pick wanted) input octets = input ≡ Some octets
 Seen commands.Describe input octets = input ≡ Some octets
+Seen commands.Split input octets = input ≡ Some octets
 Seen (commands.Values decimals) input octets = input ≡ Some octets
 Seen (commands.Generate count) input octets = octets ≡ []
 Seen (commands.Create root) input octets = input ≡ Some octets
@@ -46,6 +47,7 @@ module _ (P : List ℕ → Holdings → Holdings → Type 0) (input : Option (Li
   pub where_seen : (command : Command) → UsesStore command → ((octets : List ℕ) (h i : Holdings) → Seen command input octets → store ≡ Some h → after ≡ Some i → P octets h i) → WhereAsked command input store after P
   where_seen (commands.Pick wanted) uses all = absurd uses
   where_seen commands.Describe uses all = absurd uses
+  where_seen commands.Split uses all = absurd uses
   where_seen (commands.Values decimals) uses all = absurd uses
   where_seen (commands.Generate count) uses all = absurd uses
   where_seen (commands.Create root) uses all = of_input input refl all

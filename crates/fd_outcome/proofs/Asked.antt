@@ -23,6 +23,7 @@ module _ (P Q : List ℕ → Holdings → Holdings → Type 0) (to : (octets : L
   pub where_asked : (command : Command) (input : Option (List ℕ)) (store after : Option Holdings) → WhereAsked command input store after P → WhereAsked command input store after Q
   where_asked (commands.Pick wanted) input store after p = of_input input p
   where_asked commands.Describe input store after p = of_input input p
+  where_asked commands.Split input store after p = of_input input p
   where_asked (commands.Values decimals) input store after p = of_input input p
   where_asked (commands.Generate count) input store after p = to [] nothing_held nothing_held p
   where_asked (commands.Create root) input store after p = of_both input store after p
@@ -52,6 +53,7 @@ module _ (P : List ℕ → Holdings → Holdings → Type 0) (all : (octets : Li
   pub asked_all : (command : Command) (input : Option (List ℕ)) (store after : Option Holdings) → WhereAsked command input store after P
   asked_all (commands.Pick wanted) input store after = all_input input
   asked_all commands.Describe input store after = all_input input
+  asked_all commands.Split input store after = all_input input
   asked_all (commands.Values decimals) input store after = all_input input
   asked_all (commands.Generate count) input store after = all [] nothing_held nothing_held
   asked_all (commands.Create root) input store after = all_both input store after

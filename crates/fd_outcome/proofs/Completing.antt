@@ -24,6 +24,7 @@ use Rattle.fd_outcome.proofs.Starved.{is_idle, starved}
 broken_held : (command : Command) (h i : Holdings) (name : List ℕ) (broken : Broken) → IsBroken command h i name broken → table_at h name ≡ None
 broken_held (commands.Pick wanted) h i name broken x = damaged_held name (folder_at h name) broken x
 broken_held commands.Describe h i name broken x = damaged_held name (folder_at h name) broken x
+broken_held commands.Split h i name broken x = damaged_held name (folder_at h name) broken x
 broken_held (commands.Values decimals) h i name broken x = damaged_held name (folder_at h name) broken x
 broken_held (commands.Generate count) h i name broken x = damaged_held name (folder_at h name) broken x
 broken_held (commands.Create root) h i name broken x = damaged_held name (folder_at h name) broken x

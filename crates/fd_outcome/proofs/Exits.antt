@@ -80,6 +80,7 @@ calm_told command s result text mid input output report m n calm told = elim tol
 -- what holds of 3 and 9 holds of the status of a refused stream
 pub by_refusal : (P : Status → Type 0) → P Refused → P Limit → (refusal : Refusal) → P (refusal_status refusal)
 by_refusal P p q (refusals.Message at) = p
+by_refusal P p q (refusals.NoMap number field) = p
 by_refusal P p q (refusals.Cut cut) = p
 by_refusal P p q (refusals.Key number fault) = p
 by_refusal P p q (refusals.Field number fault) = p

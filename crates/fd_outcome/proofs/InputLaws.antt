@@ -20,7 +20,7 @@ front_of {A = A} f octets lt = at (cases_Bool (nat_le (length octets) input_limi
 cut_after : (front back : List ℕ) (n k : ℕ) → n ≡ length front + k → take n (front ++ back) ≡ front ++ take k back
 cut_after front back n k e = ap (λ (m : ℕ). take m (front ++ back)) e ∙ take-append-add front back k
 
-taken : (octets front back : List ℕ) → octets ≡ front ++ back → length front ≤ input_limit → take input_limit octets ≡ front ++ take (input_limit - length front) back
+pub taken : (octets front back : List ℕ) → octets ≡ front ++ back → length front ≤ input_limit → take input_limit octets ≡ front ++ take (input_limit - length front) back
 taken octets front back e le = ap (take input_limit) e ∙ cut_after front back input_limit (input_limit - length front) (omega arith)
 
 -- what holds of all inputs that begin with these octets

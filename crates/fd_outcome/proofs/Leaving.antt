@@ -47,6 +47,7 @@ tried_idle s idle calm full workers (Err cause) count h = stays h
 leaves_idle : (command : Command) (s : Status) → IsIdle s → (calm full : Type 0) (input left : Option (List ℕ)) (h : Holdings) → Leaves command s calm full input left h h
 leaves_idle (commands.Pick wanted) s idle calm full input left h = refl
 leaves_idle commands.Describe s idle calm full input left h = refl
+leaves_idle commands.Split s idle calm full input left h = refl
 leaves_idle (commands.Values decimals) s idle calm full input left h = refl
 leaves_idle (commands.Generate count) s idle calm full input left h = refl
 leaves_idle (commands.Create root) s idle calm full None left h = tt

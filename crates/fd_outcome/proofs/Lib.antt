@@ -9,3 +9,6 @@ pub mod Completing
 pub mod Exits
 pub mod InputLaws
 pub mod AnyCommand
+pub mod Positions
+pub mod FrameLaws
+pub mod Again

@@ -12,6 +12,7 @@ use Rattle.fd_outcome.specs.Causes.{Cause}
 use Rattle.fd_outcome.specs.Store.{table_at}
 use Rattle.fd_outcome.specs.Picking.{found}
 use Rattle.fd_outcome.specs.Listed.{listed}
+use Rattle.fd_outcome.specs.Splitting.{octets_of, split_of}
 use Rattle.fd_outcome.specs.Asking.{Answer, Asked, answers, asked_of, found_bytes, rules_of}
 use Rattle.fd_outcome.specs.Told.{Told}
 use Rattle.fd_outcome.specs.Outcome.{Outcome, outcome, early, output_early, answered, answered_early, retrieved, retrieved_early, picked, created, archived, generated_messages, tried}
@@ -79,6 +80,7 @@ module _ (h : Holdings) (names : List (List ℕ)) (input : List ℕ) where
   pub within : (command : Command) → Within_ command
   within (commands.Pick wanted) = ((picked (found wanted input)).output, refl)
   within commands.Describe = ([], sym (append-nil (listed listings.Descriptions input).lines))
+  within commands.Split = ([], sym (append-nil (octets_of (split_of input).fields)))
   within (commands.Values decimals) = ([], sym (append-nil (listed (listings.Points decimals) input).lines))
   within (commands.Generate count) = ([], sym (append-nil (generated_messages count)))
   within (commands.Create root) = ((created h.schema input).output, refl)

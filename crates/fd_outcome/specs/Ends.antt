@@ -18,7 +18,7 @@ use Rattle.fd_outcome.specs.Trying.{trial_given, trial_rules, trial_schema}
 use Rattle.fd_outcome.specs.Outcome.{Outcome, Early, outcome, early, generated_messages, nothing_early}
 
 abbrev pub usage : List ℕ
-usage = line (codes "usage: fdb pick describe values generate create archive retrieve list axes stats session trial")
+usage = line (codes "usage: fdb pick describe values generate create archive retrieve list axes stats session trial split")
 
 abbrev pub input_failed : List ℕ
 input_failed = line (codes "input failed")
@@ -127,6 +127,7 @@ AmongTaken given (Err cause) input name = ⊥
 abbrev pub Opens : Command → Holdings → List (List ℕ) → List ℕ → List ℕ → Type 0
 Opens (commands.Pick wanted) h names input name = ⊥
 Opens commands.Describe h names input name = ⊥
+Opens commands.Split h names input name = ⊥
 Opens (commands.Values decimals) h names input name = ⊥
 Opens (commands.Generate count) h names input name = ⊥
 Opens (commands.Create root) h names input name = ⊥
@@ -142,6 +143,7 @@ Opens (commands.Trial root count workers) h names input name = AmongTaken trial_
 abbrev pub UsesStore : Command → Type 0
 UsesStore (commands.Pick wanted) = ⊥
 UsesStore commands.Describe = ⊥
+UsesStore commands.Split = ⊥
 UsesStore (commands.Values decimals) = ⊥
 UsesStore (commands.Generate count) = ⊥
 UsesStore (commands.Create root) = Unit {0}
@@ -157,6 +159,7 @@ UsesStore (commands.Trial root count workers) = Unit {0}
 abbrev pub StoresFields : Command → Type 0
 StoresFields (commands.Pick wanted) = ⊥
 StoresFields commands.Describe = ⊥
+StoresFields commands.Split = ⊥
 StoresFields (commands.Values decimals) = ⊥
 StoresFields (commands.Generate count) = ⊥
 StoresFields (commands.Create root) = ⊥
@@ -173,6 +176,7 @@ StoresFields (commands.Trial root count workers) = Unit {0}
 abbrev pub IsBroken : Command → Holdings → Holdings → List ℕ → Broken → Type 0
 IsBroken (commands.Pick wanted) h i name broken = Stands name (folder_at h name) broken
 IsBroken commands.Describe h i name broken = Stands name (folder_at h name) broken
+IsBroken commands.Split h i name broken = Stands name (folder_at h name) broken
 IsBroken (commands.Values decimals) h i name broken = Stands name (folder_at h name) broken
 IsBroken (commands.Generate count) h i name broken = Stands name (folder_at h name) broken
 IsBroken (commands.Create root) h i name broken = Stands name (folder_at h name) broken
@@ -213,6 +217,7 @@ nothing_held = record { schema = None; folders = λ name. None }
 abbrev pub WhereAsked : Command → Option (List ℕ) → Option Holdings → Option Holdings → (List ℕ → Holdings → Holdings → Type 0) → Type 0
 WhereAsked (commands.Pick wanted) input store after P = IfSome input (λ octets. P octets nothing_held nothing_held)
 WhereAsked commands.Describe input store after P = IfSome input (λ octets. P octets nothing_held nothing_held)
+WhereAsked commands.Split input store after P = IfSome input (λ octets. P octets nothing_held nothing_held)
 WhereAsked (commands.Values decimals) input store after P = IfSome input (λ octets. P octets nothing_held nothing_held)
 WhereAsked (commands.Generate count) input store after P = P [] nothing_held nothing_held
 WhereAsked (commands.Create root) input store after P = IfSome input (λ octets. IfSome store (λ h. IfSome after (P octets h)))
@@ -269,6 +274,7 @@ ReadsOut (commands.Trial root count workers) before after = after ≡ before
 ReadsOut (commands.Session root) before after = IfSome before (λ octets. after ≡ Some [])
 ReadsOut (commands.Pick wanted) before after = IfSome before (λ octets. after ≡ Some [])
 ReadsOut commands.Describe before after = IfSome before (λ octets. after ≡ Some [])
+ReadsOut commands.Split before after = IfSome before (λ octets. after ≡ Some [])
 ReadsOut (commands.Values decimals) before after = IfSome before (λ octets. after ≡ Some [])
 ReadsOut (commands.Create root) before after = IfSome before (λ octets. after ≡ Some [])
 ReadsOut (commands.Archive root given workers) before after = IfSome before (λ octets. after ≡ Some [])
@@ -362,6 +368,7 @@ LeavesTried s calm full workers (Err cause) count h i = Stays h i
 abbrev pub Leaves : Command → Status → Type 0 → Type 0 → Option (List ℕ) → Option (List ℕ) → Holdings → Holdings → Type 0
 Leaves (commands.Pick wanted) s calm full input left h i = i ≡ h
 Leaves commands.Describe s calm full input left h i = i ≡ h
+Leaves commands.Split s calm full input left h i = i ≡ h
 Leaves (commands.Values decimals) s calm full input left h i = i ≡ h
 Leaves (commands.Generate count) s calm full input left h i = i ≡ h
 Leaves (commands.Create root) s calm full input left h i = IfSome input (λ octets. LeavesSchema s octets h i)

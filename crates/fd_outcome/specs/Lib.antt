@@ -1,6 +1,9 @@
 pub mod Codes
 pub mod Limits
 pub mod Inputs
+pub mod Fields
+pub mod Positions
+pub mod Splitting
 pub mod Picking
 pub mod Listed
 pub mod Refusals
@@ -11,6 +14,7 @@ pub mod Archiving
 pub mod Trying
 pub mod Rows
 pub mod Outcome
+pub mod Again
 pub mod Objects
 pub mod Ends
 pub mod Ran

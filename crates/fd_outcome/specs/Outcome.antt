@@ -1,5 +1,5 @@
 -- What a command makes of its input and of the store: what it writes, and its status.
-use Rattle.std.specs.Prelude.{ℕ, Bool, List, [], ◌∷◌, ◌++◌, codes, is_some, map, nat_lt, option_map, Option, Some, None, Result, Ok, Err, if◌then◌else◌}
+use Rattle.std.specs.Prelude.{ℕ, Bool, List, [], ◌∷◌, ◌++◌, codes, is_some, length, map, nat_lt, option_map, Option, Some, None, Result, Ok, Err, if◌then◌else◌}
 use Rattle.std.specs.List.{concat, list_all, range_with_len}
 use Rattle.fd_sections.specs.Message.{Sections, message_octets}
 use Rattle.fd_key.specs.Pairs as keys
@@ -22,6 +22,7 @@ use Rattle.fd_outcome.specs.Refusals.{refusal_line, refusal_status}
 use Rattle.fd_outcome.specs.Causes.{Cause, InSchema, SchemaPresent, telling}
 use Rattle.fd_outcome.specs.Picking.{found}
 use Rattle.fd_outcome.specs.Listed.{Listed, listed}
+use Rattle.fd_outcome.specs.Splitting.{Split, octets_of, split_line, split_of}
 use Rattle.fd_outcome.specs.Store.{table_at, entries_in}
 use Rattle.fd_outcome.specs.Asking.{Answer, Asked, rules_of, partial_in, asked_of, answers, found_bytes, miss_lines, counts_line, count_missed, ◌then◌}
 use Rattle.fd_outcome.specs.Archiving.{Taken, taken, archived_line, datasets_in}
@@ -55,6 +56,14 @@ listing_status (Some refusal) = refusal_status refusal
 
 abbrev pub told : Listed → Outcome
 told x = record { output = x.lines; report = refusal_lines x.refusal; status = listing_status x.refusal }
+
+-- `split` writes the fields, and tells how many they are and how many octets were skipped, or why the input is refused
+abbrev pub split_report : Split → Option Refusal → List ℕ
+split_report x None = split_line (length x.fields) x.junk
+split_report x (Some refusal) = refusal_line refusal
+
+abbrev pub parted : Split → Outcome
+parted x = record { output = octets_of x.fields; report = split_report x x.refusal; status = listing_status x.refusal }
 
 -- the first so many generated messages, one after the other
 abbrev pub generated_messages : ℕ → List ℕ
@@ -150,6 +159,7 @@ abbrev pub outcome : Command → Holdings → List (List ℕ) → List ℕ → O
 outcome (commands.Pick wanted) h names input = Some (picked (found wanted input))
 outcome commands.Describe h names input = Some (told (listed listings.Descriptions input))
 outcome (commands.Values decimals) h names input = Some (told (listed (listings.Points decimals) input))
+outcome commands.Split h names input = Some (parted (split_of input))
 outcome (commands.Generate count) h names input = Some (generated count)
 outcome (commands.Create root) h names input = Some (created h.schema input)
 outcome (commands.Archive root given workers) h names input = Some (archived given (rules_of h.schema) input)
@@ -161,7 +171,7 @@ outcome (commands.Session root) h names input = None
 outcome (commands.Trial root count workers) h names input = tried h count (trial_rules h.schema)
 
 -- What the command may have written, or fronts of it, where it stops before its end: `retrieve` of what it finds and of
--- the lines of its misses; a listing of its lines; `generate` of its messages; `pick`, `create`, `archive` and `trial` nothing.
+-- the lines of its misses; a listing of its lines; `split` of its fields; `generate` of its messages; `pick`, `create`, `archive` and `trial` nothing.
 pub record Early : Type 0 where
   pub output : List ℕ
   pub report : List ℕ
@@ -188,6 +198,7 @@ abbrev pub early : Command → Holdings → List (List ℕ) → List ℕ → Ear
 early (commands.Pick wanted) h names input = nothing_early
 early commands.Describe h names input = lines_early (listed listings.Descriptions input).lines
 early (commands.Values decimals) h names input = lines_early (listed (listings.Points decimals) input).lines
+early commands.Split h names input = lines_early (octets_of (split_of input).fields)
 early (commands.Generate count) h names input = lines_early (generated_messages count)
 early (commands.Create root) h names input = nothing_early
 early (commands.Archive root given workers) h names input = nothing_early

@@ -30,10 +30,15 @@ refused_key_line n fault = line (codes "refused key " ++ decimal n ++ codes " " 
 abbrev pub refused_field_line : ℕ → FieldFault → List ℕ
 refused_field_line n fault = line (codes "refused field " ++ decimal n ++ codes " " ++ field_fault_text fault)
 
+-- the line that tells which field of which message lacks a bit map
+abbrev pub refused_map_line : ℕ → ℕ → List ℕ
+refused_map_line n field = line (codes "refused message " ++ decimal n ++ codes " NoMap " ++ decimal field)
+
 -- the line that tells why the input is refused
 abbrev pub refusal_line : Refusal → List ℕ
 refusal_line (refusals.Message at) = refused_message_line at
 refusal_line (refusals.Cut cut) = cut_message_line cut
+refusal_line (refusals.NoMap n field) = refused_map_line n field
 refusal_line (refusals.Key n fault) = refused_key_line n fault
 refusal_line (refusals.Field n fault) = refused_field_line n fault
 refusal_line (refusals.TooLong len) = line (codes "limit TooLong " ++ decimal len)
@@ -43,6 +48,7 @@ refusal_line refusals.Input = line (codes "limit Input 68719476736")
 abbrev pub refusal_status : Refusal → Status
 refusal_status (refusals.Message at) = Refused
 refusal_status (refusals.Cut cut) = Refused
+refusal_status (refusals.NoMap n field) = Refused
 refusal_status (refusals.Key n fault) = Refused
 refusal_status (refusals.Field n fault) = Refused
 refusal_status (refusals.TooLong len) = Limit

@@ -1,5 +1,5 @@
 -- The worked rows over a store.
-use Rattle.std.specs.Prelude.{◌≡◌, ℕ, List, [], ◌∷◌, ◌++◌, replicate, take, codes, Option, Some, None, Result, Ok, if◌then◌else◌}
+use Rattle.std.specs.Prelude.{◌≡◌, ℕ, List, [], ◌∷◌, ◌++◌, replicate, take, drop, codes, Option, Some, None, Result, Ok, if◌then◌else◌}
 use Rattle.std.specs.Str.{bytes_eq}
 use Rattle.std.specs.Int.{w16, w32, w64, to_be_bytes}
 use Rattle.fd_key.specs.Pairs as keys
@@ -16,7 +16,7 @@ use Rattle.fd_request.specs.Expansion.{Keyword, expand}
 use Rattle.fd_listing.specs.Lines.{line}
 use Rattle.fd_segment.specs.declared.fault.Damage.TheVariants as damages
 use Rattle.fd_entries.specs.Batches.{newest}
-use Rattle.fd_words.specs.declared.command.Command.TheVariants.{Create, Retrieve, List as List_, Axes, Stats, Trial}
+use Rattle.fd_words.specs.declared.command.Command.TheVariants.{Create, Retrieve, List as List_, Axes, Split, Stats, Trial}
 use Rattle.fd_outcome.specs.declared.status.Status.TheVariants.{Done, Missed, Refused, Damaged}
 use Rattle.fd_outcome.specs.Causes.{Cause, BadTable, BadFile, damaged_line}
 use Rattle.fd_outcome.specs.Asking.{Asked, rules_of, request_in, partial_in, placed, ◌then◌}
@@ -32,6 +32,18 @@ field = 71 ∷ 82 ∷ 73 ∷ 66 ∷ 255 ∷ 255 ∷ 0 ∷ 2 ∷ 0 ∷ 0 ∷ 0 �
 -- the same with its last packed octet 2B in place of 2A
 abbrev pub other_field : List ℕ
 other_field = take 178 field ++ 43 ∷ codes "7777"
+
+-- sections 4 to 7 of it
+abbrev pub round : List ℕ
+round = drop 109 (take 179 field)
+
+-- the field twice in one message: these octets behind its own sections, and another length
+abbrev pub field_with : List ℕ → List ℕ
+field_with again = take 15 field ++ 253 ∷ drop 16 (take 179 field) ++ again ++ codes "7777"
+
+-- the same, whose second round has the bit map before it
+abbrev pub unmapped_round : List ℕ
+unmapped_round = take 60 round ++ 254 ∷ drop 61 round
 
 abbrev pub given : List keys.Pair
 given = (codes "class", codes "od") ∷ (codes "expver", codes "0001") ∷ []
@@ -83,6 +95,10 @@ folder = record { table = Some (firm_file (table_of dataset (entry ∷ []) 0 [])
 abbrev pub store : Holdings
 store = record { schema = Some schema_text; folders = λ name. if bytes_eq name dataset then Some folder else None }
 
+-- a store that holds nothing
+abbrev pub nothing : Holdings
+nothing = record { schema = None; folders = λ name. None }
+
 abbrev pub names : List (List ℕ)
 names = dataset ∷ []
 
@@ -102,6 +118,10 @@ pub record Rows : Type 0 where
   pub archived_one : archived given rules field ≡ record { output = []; report = line (codes "archived 1 datasets 1 junk 0"); status = Done }
   pub archived_none : archived given rules [] ≡ record { output = []; report = line (codes "archived 0 datasets 0 junk 0"); status = Done }
   pub archived_two : archived given rules (field ++ other_field) ≡ record { output = []; report = line (codes "archived 2 datasets 1 junk 0"); status = Done }
+  -- `split` of a message of two fields, of the field behind three octets, and of two fields of which the second lacks a bit map
+  pub split_two : outcome Split nothing [] (field_with round) ≡ Some (record { output = field ++ field; report = line (codes "split 2 junk 0"); status = Done })
+  pub split_one : outcome Split nothing [] (codes "GRI" ++ field) ≡ Some (record { output = field; report = line (codes "split 1 junk 3"); status = Done })
+  pub split_unmapped : outcome Split nothing [] (field ++ field_with unmapped_round) ≡ Some (record { output = field; report = line (codes "refused message 2 NoMap 2"); status = Refused })
   -- the request's one key and its place
   pub asked_for : asked (codes "100000") ≡ Ok (record { key = key_of_level (codes "100000"); place = record { rule = 0; dataset = dataset; index = codes "centre=98,type=1,levtype=100"; datum = codes "param=0.0.0,step=0,levelist=100000" } } ∷ [])
   -- the files stand for one batch of one pair

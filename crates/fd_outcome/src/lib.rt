@@ -2,6 +2,8 @@
 //! proved against, what each status says, and the small parts that their bodies share.
 #![tactic(auto)]
 
+ghost use Rattle.std.specs.Prelude.{ℕ, List};
+ghost use Rattle.fd_outcome.specs.Again.{SplitsAgain};
 ghost use Rattle.fd_outcome.specs.Worked.{Rows};
 
 mod kinds;
@@ -30,4 +32,10 @@ pub use stored::{Unruled, stored_schema};
 /// The worked rows.
 pub fn every_row()
     ensures { Rows }
+{}
+
+/// What holds of every input that is split.
+pub fn every_split_input()
+    // A second `split` of what was written writes the same octets.
+    ensures { (input : List ℕ) → SplitsAgain input }
 {}

@@ -13,6 +13,9 @@ pub enum Refusal {
     Message(BadAt),
     /// The input ends inside a message.
     Cut(Truncated),
+    /// A field of the message of this number, which has several, has the bit map of the one before it, and there is none. Fields count
+    /// from 1.
+    NoMap { number: u64, field: u32 },
     /// The message of this number has no key, for this reason.
     Key { number: u64, fault: KeyFault },
     /// The field of the message of this number is not read, for this reason.

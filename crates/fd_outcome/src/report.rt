@@ -2,7 +2,7 @@
 ghost use Rattle.std.specs.Prelude.{◌++◌, codes};
 ghost use Rattle.std.specs.Fmt.{decimal};
 ghost use Rattle.fd_listing.specs.Lines.{line};
-ghost use Rattle.fd_outcome.specs.Refusals.{refusal_line, refusal_status, refused_message_line, cut_message_line, refused_key_line, refused_field_line};
+ghost use Rattle.fd_outcome.specs.Refusals.{refusal_line, refusal_status, refused_message_line, cut_message_line, refused_map_line, refused_key_line, refused_field_line};
 ghost use Rattle.fd_outcome.specs.Ends.{disk_failed, input_failed, output_failed};
 ghost use Rattle.fd_outcome.specs.Told.{Told, ToldOrNoMemory};
 
@@ -67,6 +67,21 @@ fn tell_cut<X: Drop, E: Sink<X>>(alloc: Global, report: &mut E, cut: Truncated) 
     ensures { ToldOrNoMemory Status.Refused (cut_message_line cut) result (E.taken report.old) (E.taken report.new) (E.faults report.old) (E.faults report.new) }
 {
     match format!(in alloc; "refused message {cut}\n") {
+        Ok(line) => tell(report, line.as_str(), Status::Refused),
+        Err(_) => tell_no_memory(report),
+    }
+}
+
+/// Writes the line of a field that lacks a bit map.
+fn tell_no_map<X: Drop, E: Sink<X>>(
+    alloc: Global,
+    report: &mut E,
+    number: u64,
+    field: u32,
+) -> Status
+    ensures { ToldOrNoMemory Status.Refused (refused_map_line number field) result (E.taken report.old) (E.taken report.new) (E.faults report.old) (E.faults report.new) }
+{
+    match format!(in alloc; "refused message {number} NoMap {field}\n") {
         Ok(line) => tell(report, line.as_str(), Status::Refused),
         Err(_) => tell_no_memory(report),
     }
@@ -141,6 +156,7 @@ pub fn tell_refusal<X: Drop, E: Sink<X>>(alloc: Global, report: &mut E, refusal:
     match refusal {
         Refusal::Message(at) => tell_message_fault(alloc, report, at),
         Refusal::Cut(cut) => tell_cut(alloc, report, cut),
+        Refusal::NoMap { number, field } => tell_no_map(alloc, report, number, field),
         Refusal::Key { number, fault } => tell_key_fault(alloc, report, number, fault),
         Refusal::Field { number, fault } => tell_field_fault(alloc, report, number, fault),
         Refusal::TooLong { len } => {

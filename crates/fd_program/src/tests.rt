@@ -4,6 +4,7 @@ mod crashes;
 mod damage;
 mod octets;
 mod sessions;
+mod split;
 mod stores;
 mod streams;
 mod trials;

@@ -19,7 +19,7 @@ use fd_io::{Gate, Sink, Source};
 use fd_outcome::{Listing, Status, tell, tell_no_memory};
 use fd_retrieve::retrieve;
 use fd_session::session;
-use fd_streams::{create, generate, pick, write_list};
+use fd_streams::{create, generate, pick, split, write_list};
 use fd_trial::trial;
 use fd_words::{Command, read_command};
 use std::alloc::Global;
@@ -27,7 +27,7 @@ use std::sync::Wait;
 use std::thread::Threads;
 
 const USAGE: &str =
-    "usage: fdb pick describe values generate create archive retrieve list axes stats session trial\n";
+    "usage: fdb pick describe values generate create archive retrieve list axes stats session trial split\n";
 
 /// Runs the command that the words after the program's name ask for, over a store, an input, an output and a report, each
 /// of which may be real or an object in memory. The gate is passed by what runs in threads of its own. The status tells how
@@ -139,6 +139,7 @@ where
             write_list(alloc, Listing::Points(*decimals), input, output, report)
         }
         Command::Generate(count) => generate(alloc, *count, output, report),
+        Command::Split => split(alloc, input, output, report),
         Command::Create(root) => create(alloc, root, store, input, report),
         Command::Archive(root, given, workers) => {
             archive(rt, alloc, root, given, *workers, store, input, report, gate)

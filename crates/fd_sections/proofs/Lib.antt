@@ -5,4 +5,5 @@ pub mod StreamLaws
 pub mod Pieces
 pub mod Pending
 pub mod Joins
+pub mod Frames
 pub mod Rows

@@ -12,7 +12,7 @@ use crate::whole::message;
 use memchr::memmem;
 
 /// The stream from its first `GRIB` on, or its end where there is none.
-fn from_mark(stream: &[u8]) -> &[u8]
+pub(crate) fn from_mark(stream: &[u8]) -> &[u8]
     ensures { result.now ≡ from_mark stream.now }
 {
     let Some(at) = memmem::find(stream, b"GRIB") else {

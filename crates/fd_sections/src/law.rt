@@ -3,6 +3,7 @@ ghost use Rattle.fd_sections.specs.declared.refusal.BadAt.{BadAt};
 ghost use Rattle.fd_sections.specs.Joining.{EndsAs, GoesTo, IsRefusedStream, IsStream, IsWaiting, RefusesAs, SplitsOn};
 ghost use Rattle.fd_sections.specs.Progress.{Progress};
 ghost use Rattle.fd_sections.specs.Splitting.{answer, fed, finished, progress, start};
+ghost use Rattle.fd_sections.specs.Frames.{FramesEnd, FramesOn, FramesTo, IsFrames, first_frame, frame_answer, frame_progress, frames, read_frames};
 ghost use Rattle.fd_sections.specs.declared.bad.Bad.{Bad};
 ghost use Rattle.fd_sections.specs.Message.{Sections};
 ghost use Rattle.fd_sections.specs.Stream.{stream, first, gap, pending, beginning, after, Refuses, Takes, Bad_end};
@@ -37,4 +38,23 @@ pub fn every_splitting()
     ensures whole { (p : Progress) (octets : List ℕ) (ms : List Sections) → SplitsOn start p octets ms → IsWaiting p → IsStream octets ms (finished p (first p.rest)) }
     // All octets that came are a stream of the messages that were given, and the one behind them is refused.
     ensures refused { (p : Progress) (octets : List ℕ) (ms : List Sections) (at : BadAt) → SplitsOn start p octets ms → RefusesAs p at → IsRefusedStream octets ms at }
+{}
+
+/// What holds of every splitting of a stream into frames, in whatever pieces it comes.
+#[tactic(auto, using(crate::proofs::Frames::framings))]
+pub fn every_framing()
+    // Where nothing came none is given.
+    ensures nothing { (p : Progress) → FramesOn p p [] [] }
+    // A piece comes, and none is given.
+    ensures piece { (p : Progress) (came : List ℕ) → FramesOn p (fed p came) came [] }
+    // What `next_frame` answers, and how far it goes.
+    ensures next { (p : Progress) → FramesTo (λ o. o) p (frame_progress p (first_frame p.rest)) (frame_answer p (first_frame p.rest)) }
+    // One step behind another is a step.
+    ensures both { (p q r : Progress) (a b : List ℕ) (fs gs : List (List ℕ)) → FramesOn p q a fs → FramesOn q r b gs → FramesOn p r (a ++ b) (fs ++ gs) }
+    // What is held ends as `finish` answers.
+    ensures end { (p : Progress) → IsWaiting p → FramesEnd p (finished p (first p.rest)) }
+    // All octets that came are a stream of the frames that were given, and end as `finish` answers.
+    ensures whole { (p : Progress) (octets : List ℕ) (fs : List (List ℕ)) → FramesOn start p octets fs → IsWaiting p → IsFrames octets fs (finished p (first p.rest)) }
+    // The messages of a stream are those that are read of its frames, up to the first that is refused.
+    ensures read { (s : List ℕ) → ((stream s).messages, (stream s).end) ≡ read_frames (frames s).end (frames s).frames }
 {}

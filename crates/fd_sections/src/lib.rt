@@ -4,6 +4,7 @@
 mod bad;
 mod fields;
 mod first;
+mod frame;
 mod law;
 mod reader;
 mod refusal;
@@ -12,7 +13,8 @@ mod splitter;
 mod whole;
 
 pub use bad::Bad;
-pub use law::{every_splitting, every_stream};
+pub use fields::{indicator, local_use, octet, repeats, section};
+pub use law::{every_framing, every_splitting, every_stream};
 pub use refusal::{BadAt, Truncated};
 pub use sections::Message;
 pub use splitter::Splitter;

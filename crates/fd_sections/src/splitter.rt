@@ -9,9 +9,11 @@ ghost use Rattle.fd_sections.specs.Given.{Is};
 ghost use Rattle.fd_sections.specs.Reading.{reading};
 ghost use Rattle.fd_sections.specs.Joining.{GoesTo, SplitsOn};
 ghost use Rattle.fd_sections.specs.Splitting.{answer, answers_some, progress, finished, start, fed, passed};
+ghost use Rattle.fd_sections.specs.Frames.{first_frame, frame_answer, frame_comes, frame_progress, FramesTo};
 ghost use Rattle.fd_sections.specs.contracts.splitter.Splitter.{the_row};
 
 use crate::first::{Found, first};
+use crate::frame::{FoundFrame, first_frame};
 use crate::refusal::{BadAt, Truncated};
 use crate::sections::Message;
 use crate::whole::message;
@@ -158,6 +160,63 @@ impl Splitter {
     {
         if self.advance()? {
             return self.last();
+        }
+        Ok(None)
+    }
+
+    /// Goes on to the next whole frame, if there is one.
+    fn advance_frame(&mut self) -> Result<bool, BadAt>
+        ensures goes_on { self.new ≡ frame_progress self.old (first_frame self.old.rest) }
+        ensures answer { result ≡ frame_comes self.old (first_frame self.old.rest) }
+    {
+        let (_, rest) = self.held.split_at(self.at);
+        match first_frame(rest) {
+            Ok(FoundFrame::Whole(octets, after)) => {
+                let size = octets.len();
+                let left = after.len();
+                self.skipped += (rest.len() - left - size) as u64;
+                self.given = self.given + 1;
+                self.at = self.held.len() - left;
+                self.size = size;
+                Ok(true)
+            }
+            Ok(FoundFrame::Unframed) => {
+                let mark = rest.len().min(3);
+                let count = rest.len() - mark;
+                self.pass(count);
+                Ok(false)
+            }
+            Ok(FoundFrame::Begun { have }) => {
+                let begun = rest.len() - have as usize;
+                self.pass(begun);
+                Ok(false)
+            }
+            Err(bad) => Err(BadAt {
+                number: self.given + 1,
+                bad,
+            }),
+        }
+    }
+
+    /// The octets that were given last.
+    fn last_octets(&self) -> &[u8]
+        ensures { result.now ≡ self.now.last }
+    {
+        let (front, _) = self.held.split_at(self.at);
+        let (_, octets) = front.split_at(self.at - self.size);
+        octets
+    }
+
+    /// The octets that `next` would read as the next message, unread, lent from the splitter. It refuses another edition and too
+    /// great a length alone. None exactly where none are whole yet: then what can begin no message is skipped. After a refusal
+    /// nothing has changed, so it answers the same again. One splitter is asked by this call or by `next`, not by both.
+    pub fn next_frame(&mut self) -> Result<Option<&[u8]>, BadAt>
+        ensures* goes_on { sem 𝓛 (Rests the_row self.entry (λ n. n ≡ frame_progress self.old (first_frame self.old.rest))) }
+        ensures answer { Is (option_map (λ o. o.now)) result (frame_answer self.old (first_frame self.old.rest)) }
+        ensures joined { FramesTo (λ o. o.now) self.old (frame_progress self.old (first_frame self.old.rest)) result }
+    {
+        if self.advance_frame()? {
+            return Ok(Some(self.last_octets()));
         }
         Ok(None)
     }

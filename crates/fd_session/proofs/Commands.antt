@@ -50,6 +50,7 @@ module _ (F : Type 0) (root : List ℕ) (s : Status) (store : Object Holdings) (
 of_session : (command : Command) (P : Type 0) → P → OfSession command P
 of_session (commands.Pick wanted) P p = tt
 of_session commands.Describe P p = tt
+of_session commands.Split P p = tt
 of_session (commands.Values decimals) P p = tt
 of_session (commands.Generate count) P p = tt
 of_session (commands.Create root) P p = tt

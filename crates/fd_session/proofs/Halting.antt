@@ -155,6 +155,7 @@ same_wrong (Some x) v w e f = let p : x ≡ v = cc in let q : x ≡ w = cc in sy
 
 refusal_can : (r : Refusal) → is_refusal (refusal_status r) ≡ true
 refusal_can (refusals.Message at) = refl
+refusal_can (refusals.NoMap number field) = refl
 refusal_can (refusals.Cut cut) = refl
 refusal_can (refusals.Key n fault) = refl
 refusal_can (refusals.Field n fault) = refl

@@ -123,6 +123,7 @@ pub record Begun (rules : List Rule) (s : Scripted) (messages : List (List ℕ))
 abbrev pub OfSession : Command → Type 0 → Type 0
 OfSession (commands.Pick wanted) P = Unit {0}
 OfSession commands.Describe P = Unit {0}
+OfSession commands.Split P = Unit {0}
 OfSession (commands.Values decimals) P = Unit {0}
 OfSession (commands.Generate count) P = Unit {0}
 OfSession (commands.Create root) P = Unit {0}

@@ -8,3 +8,6 @@ pub mod CreatingLemmas
 pub mod CreateExits
 pub mod Generated
 pub mod GenerateExits
+pub mod PartSteps
+pub mod PartRuns
+pub mod PartExits

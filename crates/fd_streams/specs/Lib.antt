@@ -2,5 +2,6 @@ pub mod Found
 pub mod Halted
 pub mod Run
 pub mod Streams
+pub mod Parted
 pub mod Creating
 pub mod Generating

@@ -1,13 +1,14 @@
-//! The commands over one stream, `pick`, `describe` and `values`, and those that ask little: `generate`, which reads nothing,
+//! The commands over one stream, `pick`, `describe`, `values` and `split`, and those that ask little: `generate`, which reads nothing,
 //! and `create`, which stores its input as a schema.
 #![tactic(auto)]
 
 mod listing;
 mod making;
+mod parting;
 mod picking;
 mod planting;
 mod streams;
 
 pub use making::generate;
 pub use planting::create;
-pub use streams::{pick, write_list};
+pub use streams::{pick, split, write_list};

@@ -1,13 +1,16 @@
 // The commands over a stream.
-ghost use Rattle.std.specs.Prelude.{◌≡◌, ℕ, Option};
+ghost use Rattle.std.specs.Prelude.{◌≡◌, ℕ, List, Option};
 ghost use Rattle.fd_disk.specs.Folders.{Holdings};
-ghost use Rattle.fd_words.specs.declared.command.Command.TheVariants.{Pick};
+ghost use Rattle.fd_words.specs.declared.command.Command.TheVariants.{Pick, Split};
 ghost use Rattle.fd_outcome.specs.Objects.{object};
 ghost use Rattle.fd_outcome.specs.Ran.{Ran};
+ghost use Rattle.fd_outcome.specs.Splitting.{split_line};
+ghost use Rattle.fd_outcome.specs.Told.{ToldOrNoMemory};
 ghost use Rattle.fd_streams.specs.Halted.{AreFew};
 ghost use Rattle.fd_streams.specs.Streams.{listing_command};
 
 use crate::listing::{Halt, list};
+use crate::parting::{Tally, split_input};
 use crate::picking::{Stop, last_wanted};
 use fd_io::{Sink, Source, write_all};
 use fd_key::Given;
@@ -61,6 +64,37 @@ pub fn write_list<X: Drop, I: Source<X>, K: Sink<X>, E: Sink<X>>(
 {
     match list(alloc, listing, input, output) {
         Ok(()) => Status::Done,
+        Err(Halt::Unread(_)) => tell_input_failed(report),
+        Err(Halt::Unwritten(_)) => tell_output_failed(report),
+        Err(Halt::Refused(refusal)) => tell_refusal(alloc, report, refusal),
+        Err(Halt::NoMemory) => tell_no_memory(report),
+    }
+}
+
+/// Writes the line of a whole input that was split.
+fn tell_split<X: Drop, E: Sink<X>>(alloc: Global, report: &mut E, tally: &Tally) -> Status
+    ensures { ToldOrNoMemory Status.Done (split_line tally.now.fields tally.now.junk) result (E.taken report.old) (E.taken report.new) (E.faults report.old) (E.faults report.new) }
+{
+    let fields = tally.fields;
+    let junk = tally.junk;
+    match format!(in alloc; "split {fields} junk {junk}\n") {
+        Ok(line) => tell(report, line.as_str(), Status::Done),
+        Err(_) => tell_no_memory(report),
+    }
+}
+
+/// Runs `split`: the output takes all fields of the input, each as a message of its own.
+pub fn split<X: Drop, I: Source<X>, K: Sink<X>, E: Sink<X>>(
+    alloc: Global,
+    input: &mut I,
+    output: &mut K,
+    report: &mut E,
+) -> Status
+    ensures { (has : Option Holdings) (m : ℕ) → Ran Split result (object has has m m) (object (I.left input.old) (I.left input.new) (I.faults input.old) (I.faults input.new))
+        (object (K.taken output.old) (K.taken output.new) (K.faults output.old) (K.faults output.new)) (object (E.taken report.old) (E.taken report.new) (E.faults report.old) (E.faults report.new)) }
+{
+    match split_input(alloc, input, output) {
+        Ok(tally) => tell_split(alloc, report, &tally),
         Err(Halt::Unread(_)) => tell_input_failed(report),
         Err(Halt::Unwritten(_)) => tell_output_failed(report),
         Err(Halt::Refused(refusal)) => tell_refusal(alloc, report, refusal),

@@ -117,6 +117,7 @@ module _ (result : Status) (c d : Option (List ℕ)) (m n : ℕ) where
 
   refusal_no : (refusal : Refusal) → is_whole (refusal_status refusal) ≡ false
   refusal_no (refusals.Message at) = refl
+  refusal_no (refusals.NoMap number field) = refl
   refusal_no (refusals.Cut t) = refl
   refusal_no (refusals.Key number fault) = refl
   refusal_no (refusals.Field number fault) = refl

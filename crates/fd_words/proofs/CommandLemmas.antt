@@ -74,6 +74,9 @@ values_is = record { met = refl; found = refl; name_is = refl; other = refl; lea
 generate_is : IsCommand (codes "generate") [] (shape_named (codes "generate"))
 generate_is = record { met = refl; found = refl; name_is = refl; other = refl; leaf = record { shape = refl; help = refl; subcommand = refl } }
 
+split_is : IsCommand (codes "split") [] (shape_named (codes "split"))
+split_is = record { met = refl; found = refl; name_is = refl; other = refl; leaf = record { shape = refl; help = refl; subcommand = refl } }
+
 create_is : IsCommand (codes "create") [] (shape_named (codes "create"))
 create_is = record { met = refl; found = refl; name_is = refl; other = refl; leaf = record { shape = refl; help = refl; subcommand = refl } }
 
@@ -99,7 +102,7 @@ session_is : IsCommand (codes "session") [] (shape_named (codes "session"))
 session_is = record { met = refl; found = refl; name_is = refl; other = refl; leaf = record { shape = refl; help = refl; subcommand = refl } }
 
 all_are : AreCommands leaves
-all_are = (pick_is, (describe_is, (values_is, (generate_is, (create_is, (retrieve_is, (archive_is, (trial_is, (list_is, (axes_is, (stats_is, (session_is, tt))))))))))))
+all_are = (pick_is, (describe_is, (values_is, (generate_is, (split_is, (create_is, (retrieve_is, (archive_is, (trial_is, (list_is, (axes_is, (stats_is, (session_is, tt)))))))))))))
 
 -- a name among them is that of one, with its options
 abbrev Named : List Leaf → Text → Type 0

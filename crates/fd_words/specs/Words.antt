@@ -57,6 +57,11 @@ generate_of [] = None
 generate_of (word ∷ []) = option_map commands.Generate (count_number word)
 generate_of (word ∷ (other ∷ words)) = None
 
+-- `split` has no words
+abbrev pub split_of : List Text → Option Command
+split_of [] = Some commands.Split
+split_of (word ∷ words) = None
+
 -- ---- commands over a store
 
 -- a root is neither empty nor begins with a hyphen
@@ -127,6 +132,7 @@ command_said name s =
     else if bytes_eq name (codes "values") then values_of s.alone (lookup (bytes_eq (codes "decimals")) s.options)
     else if bytes_eq name (codes "generate") then generate_of s.alone
     else if bytes_eq name (codes "trial") then trial_of s.alone (workers_in (lookup (bytes_eq (codes "workers")) s.options))
+    else if bytes_eq name (codes "split") then split_of s.alone
     else option_and_then (rooted name (given_in (lookup (bytes_eq (codes "with")) s.options)) (workers_in (lookup (bytes_eq (codes "workers")) s.options))) (root_of s.alone)
 
 -- The command that the words ask for, or none where they have no form: a command's name, then its options, each at most
@@ -140,6 +146,7 @@ IsWithinLimits (commands.Values decimals) = IfSome decimals (λ d. d ≤ 30)
 IsWithinLimits (commands.Generate count) = (0 < count) × (count ≤ 100000)
 IsWithinLimits (commands.Pick wanted) = Unit {0}
 IsWithinLimits commands.Describe = Unit {0}
+IsWithinLimits commands.Split = Unit {0}
 IsWithinLimits (commands.Create root) = Unit {0}
 IsWithinLimits (commands.Archive root given workers) = (1 ≤ workers) × (workers ≤ 8)
 IsWithinLimits (commands.Retrieve root workers) = (1 ≤ workers) × (workers ≤ 8)

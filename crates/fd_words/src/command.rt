@@ -7,7 +7,7 @@ ghost use Rattle.fd_words.specs.Texts.{texts};
 ghost use Rattle.fd_words.specs.Reading.{Said, Tells};
 ghost use Rattle.fd_words.specs.Grammar.{options_of};
 ghost use Rattle.fd_words.specs.declared.command.Command.TheVariants.{Retrieve};
-ghost use Rattle.fd_words.specs.Words.{archive_of, command_of, command_said, listing_of, rooted, wanted_pairs, pick_of, describe_of, values_of, is_root, root_of, given_in, given_read, workers_in, IsWithinLimits, generate_of, trial_of};
+ghost use Rattle.fd_words.specs.Words.{archive_of, command_of, command_said, listing_of, rooted, wanted_pairs, pick_of, describe_of, values_of, is_root, root_of, given_in, given_read, workers_in, IsWithinLimits, generate_of, trial_of, split_of};
 
 use crate::numbers::{count_number, decimals_number, worker_number};
 use crate::parse::{alone, option_text, parse};
@@ -45,6 +45,8 @@ pub enum Command {
     Session(Root),
     /// To store so many messages that are made up, and to look for them, by so many workers.
     Trial(Root, u32, u32),
+    /// All fields of a stream, each as a message of its own.
+    Split,
 }
 
 /// The command that the words ask for, or none where they have no form.
@@ -100,6 +102,9 @@ fn command_with(
     }
     if name == "trial" {
         return trial_command(alloc, words, option_text(own, "workers"));
+    }
+    if name == "split" {
+        return Ok(split_command(words));
     }
     match root_in(alloc, words)? {
         Some(root) => rooted(alloc, name, root, own),
@@ -284,6 +289,17 @@ fn describe_command(words: &[&str]) -> Option<Command>
 {
     match words {
         [] => Some(Command::Describe),
+        _ => None,
+    }
+}
+
+/// `split`, which has no words behind it.
+fn split_command(words: &[&str]) -> Option<Command>
+    ensures command { result ≡ split_of (texts words.now) }
+    ensures within { IfSome result IsWithinLimits }
+{
+    match words {
+        [] => Some(Command::Split),
         _ => None,
     }
 }

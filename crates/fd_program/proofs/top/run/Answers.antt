@@ -10,6 +10,9 @@ returns-in-Pick-clause-ran g c = subst (λ command. Ran command c.pick.result (o
 pub returns-in-Describe-clause-ran : goal.returns-in-Describe-clause-ran
 returns-in-Describe-clause-ran g c = subst (λ command. Ran command c.write_list.result (object (g.S.Store.has c.args.store.now) (g.S.Store.has c.args.store.now) (g.S.Store.faults c.args.store.now) (g.S.Store.faults c.args.store.now)) (object (g.I.Source.left c.args.input.now) (g.I.Source.left c.write_list.new.input) (g.I.Source.faults c.args.input.now) (g.I.Source.faults c.write_list.new.input)) (object (g.K.Sink.taken c.args.output.now) (g.K.Sink.taken c.write_list.new.output) (g.K.Sink.faults c.args.output.now) (g.K.Sink.faults c.write_list.new.output)) (object (g.E.Sink.taken c.args.report.now) (g.E.Sink.taken c.write_list.new.report) (g.E.Sink.faults c.args.report.now) (g.E.Sink.faults c.write_list.new.report))) (sym c.in-Describe.is) (c.write_list.ensures _ _)
 
+pub returns-in-Split-clause-ran : goal.returns-in-Split-clause-ran
+returns-in-Split-clause-ran g c = subst (λ command. Ran command c.split.result (object (g.S.Store.has c.args.store.now) (g.S.Store.has c.args.store.now) (g.S.Store.faults c.args.store.now) (g.S.Store.faults c.args.store.now)) (object (g.I.Source.left c.args.input.now) (g.I.Source.left c.split.new.input) (g.I.Source.faults c.args.input.now) (g.I.Source.faults c.split.new.input)) (object (g.K.Sink.taken c.args.output.now) (g.K.Sink.taken c.split.new.output) (g.K.Sink.faults c.args.output.now) (g.K.Sink.faults c.split.new.output)) (object (g.E.Sink.taken c.args.report.now) (g.E.Sink.taken c.split.new.report) (g.E.Sink.faults c.args.report.now) (g.E.Sink.faults c.split.new.report))) (sym c.in-Split.is) (c.split.ensures _ _)
+
 pub returns-in-Values-clause-ran : goal.returns-in-Values-clause-ran
 returns-in-Values-clause-ran g c = subst (λ command. Ran command c.write_list-in-Values.result (object (g.S.Store.has c.args.store.now) (g.S.Store.has c.args.store.now) (g.S.Store.faults c.args.store.now) (g.S.Store.faults c.args.store.now)) (object (g.I.Source.left c.args.input.now) (g.I.Source.left c.write_list-in-Values.new.input) (g.I.Source.faults c.args.input.now) (g.I.Source.faults c.write_list-in-Values.new.input)) (object (g.K.Sink.taken c.args.output.now) (g.K.Sink.taken c.write_list-in-Values.new.output) (g.K.Sink.faults c.args.output.now) (g.K.Sink.faults c.write_list-in-Values.new.output)) (object (g.E.Sink.taken c.args.report.now) (g.E.Sink.taken c.write_list-in-Values.new.report) (g.E.Sink.faults c.args.report.now) (g.E.Sink.faults c.write_list-in-Values.new.report))) (sym c.in-Values.is) (c.write_list-in-Values.ensures _ _)
 
@@ -49,6 +52,9 @@ returns-in-Pick-clause-session g c = rw c.in-Pick.is tt
 pub returns-in-Describe-clause-session : goal.returns-in-Describe-clause-session
 returns-in-Describe-clause-session g c = rw c.in-Describe.is tt
 
+pub returns-in-Split-clause-session : goal.returns-in-Split-clause-session
+returns-in-Split-clause-session g c = rw c.in-Split.is tt
+
 pub returns-in-Values-clause-session : goal.returns-in-Values-clause-session
 returns-in-Values-clause-session g c = rw c.in-Values.is tt
 
@@ -84,6 +90,9 @@ returns-in-Pick-clause-outlasts g c = rw c.in-Pick.is tt
 
 pub returns-in-Describe-clause-outlasts : goal.returns-in-Describe-clause-outlasts
 returns-in-Describe-clause-outlasts g c = rw c.in-Describe.is tt
+
+pub returns-in-Split-clause-outlasts : goal.returns-in-Split-clause-outlasts
+returns-in-Split-clause-outlasts g c = rw c.in-Split.is tt
 
 pub returns-in-Values-clause-outlasts : goal.returns-in-Values-clause-outlasts
 returns-in-Values-clause-outlasts g c = rw c.in-Values.is tt

@@ -1,0 +1,55 @@
+// What comes first in a stream of frames.
+ghost use Rattle.std.specs.Prelude.{◌≡◌, ◌≤◌, length};
+ghost use Rattle.fd_bytes.specs.Numbers.{octets};
+ghost use Rattle.fd_sections.specs.Frames.{frame_at, first_frame};
+ghost use Rattle.fd_sections.specs.FoundFrames.{IsFirstFrame};
+
+use crate::bad::Bad;
+use crate::fields::{MAX_LENGTH, octet, total_length};
+use crate::first::from_mark;
+
+/// What comes first in a stream of frames.
+#[derive(Drop)]
+pub enum FoundFrame<'a> {
+    /// No `GRIB`.
+    Unframed,
+    /// A frame that is not whole yet, with the octets that it has.
+    Begun { have: u64 },
+    /// The octets of a frame, and what follows them.
+    Whole(&'a [u8], &'a [u8]),
+}
+
+/// What comes first at a `GRIB`, unread.
+#[tactic(auto, unfolding(crate::specs::Frames::frame_at))]
+fn frame_at(stream: &[u8]) -> Result<FoundFrame<'_>, Bad>
+    ensures { IsFirstFrame result (frame_at stream.now) }
+{
+    if stream.is_empty() {
+        return Ok(FoundFrame::Unframed);
+    }
+    let have = stream.len() as u64;
+    if have < 16 {
+        return Ok(FoundFrame::Begun { have });
+    }
+    let edition = octet(stream, 8);
+    if edition != 2 {
+        return Err(Bad::Edition(edition));
+    }
+    let said = total_length(stream);
+    if said > MAX_LENGTH {
+        return Err(Bad::TooLong { len: said });
+    }
+    let size = said.max(16);
+    if have < size {
+        return Ok(FoundFrame::Begun { have });
+    }
+    let (octets, rest) = stream.split_at(size as usize);
+    Ok(FoundFrame::Whole(octets, rest))
+}
+
+/// What comes first in a stream of frames.
+pub fn first_frame(stream: &[u8]) -> Result<FoundFrame<'_>, Bad>
+    ensures { IsFirstFrame result (first_frame stream.now) }
+{
+    frame_at(from_mark(stream))
+}

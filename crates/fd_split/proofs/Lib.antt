@@ -1,0 +1,9 @@
+pub mod RoundLaws
+pub mod RoundAgain
+pub mod Whole
+pub mod Special
+pub mod Loops
+pub mod Opening
+pub mod Writing
+pub mod Never
+pub mod Splits
