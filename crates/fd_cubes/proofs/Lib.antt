@@ -1,0 +1,12 @@
+pub mod ReadsBack
+pub mod Permuted
+pub mod Distinct
+pub mod Joined
+pub mod Rising
+pub mod Coded
+pub mod Sizes
+pub mod Ordered
+pub mod Seen
+pub mod Grids
+pub mod Finished
+pub mod Gathered

@@ -1,0 +1,4 @@
+pub mod Cubes
+pub mod Joining
+pub mod Axes
+pub mod Grids
