@@ -15,7 +15,7 @@ ghost use Rattle.fd_archiver.specs.Writing.{IsKept, IsPending};
 use crate::fault::ArchiveFault;
 use fd_disk::{Down, Sealed, Shelf};
 use fd_schema::Place;
-use fd_segment::{Draft, PutFault, Room, Segment};
+use fd_segment::{Draft, Field, PutFault, Room, Segment};
 use std::alloc::Global;
 use std::marker::Model;
 use std::sync::Arc;
@@ -155,6 +155,31 @@ impl<F: Send, H: Shelf<F>> Archiver<F, H> {
         self.put(place, bytes)
     }
 
+    /// The same for a field whose digest was perhaps looked for: where it was, none is computed here.
+    pub fn archive_field(&mut self, place: &Place, field: &Field) -> Result<(), ArchiveFault<F>>
+        requires dataset { (seen_place place.now).dataset ≡ self.old.dataset }
+        requires key { length (file_key (seen_place place.now)) ≤ 256 }
+        requires field { length field.now ≤ 134217728 }
+        requires sum { self.old.draft.end + (length field.now + 32) < 2 ^ 63 }
+        ensures unlisted { (result ≡ Err ArchiveFault.Unlisted) ↔ IsSome self.old.unlisted }
+        ensures ok { OnOk result ((b : List Pair) → IsPending self.old b → IsPending self.new (b ++ record { key = file_key (seen_place place.now); bytes = field.now } ∷ [])) }
+        ensures end { OnOk result (self.new.draft.end ≡ self.old.draft.end + (length field.now + 32)) }
+        ensures err { OnErr result ((b : List Pair) → IsPending self.old b → IsPending self.new b) }
+        ensures refused { OnErr result ((self.new.draft.held ≡ self.old.draft.held) × (self.new.draft.end ≡ self.old.draft.end)) }
+        ensures untouched { IfErr result (λ e. OnUntouched e (self.new ≡ self.old)) }
+        ensures full { self.old.unlisted ≡ None → FullAs (room_for self.old.draft.held (file_key (seen_place place.now))) result }
+        ensures cause { IfErr result (λ e. OnArchiveDisk e (Rose self.old.draft.field_faults self.new.draft.field_faults)) }
+        ensures origin { self.new.draft.origin ≡ self.old.draft.origin }
+        ensures room { (self.new.draft.held.keys ≡ self.old.draft.held.keys) × (self.new.draft.held.bytes ≡ self.old.draft.held.bytes) }
+        ensures rest { self.new ≡ record self.old { draft = self.new.draft } }
+    {
+        let is_waiting = self.unlisted();
+        if is_waiting {
+            return Err(ArchiveFault::Unlisted);
+        }
+        self.put_field(place, field)
+    }
+
     // Puts a field into the batch, where none waits.
     fn put(&mut self, place: &Place, bytes: &[u8]) -> Result<(), ArchiveFault<F>>
         requires none { self.old.unlisted ≡ None }
@@ -174,6 +199,31 @@ impl<F: Send, H: Shelf<F>> Archiver<F, H> {
     {
         let key = place.short_key();
         match self.draft.put(key.as_str().as_bytes(), bytes) {
+            Ok(()) => Ok(()),
+            Err(PutFault::Full { keys, left }) => Err(ArchiveFault::Full { keys, left }),
+            Err(PutFault::Fault(fault)) => Err(ArchiveFault::Disk(fault)),
+        }
+    }
+
+    // The same for a field whose digest was perhaps looked for.
+    fn put_field(&mut self, place: &Place, field: &Field) -> Result<(), ArchiveFault<F>>
+        requires none { self.old.unlisted ≡ None }
+        requires key { length (file_key (seen_place place.now)) ≤ 256 }
+        requires sum { self.old.draft.end + (length field.now + 32) < 2 ^ 63 }
+        ensures listed { result ≢ Err ArchiveFault.Unlisted }
+        ensures ok { OnOk result ((b : List Pair) → IsPending self.old b → IsPending self.new (b ++ record { key = file_key (seen_place place.now); bytes = field.now } ∷ [])) }
+        ensures end { OnOk result (self.new.draft.end ≡ self.old.draft.end + (length field.now + 32)) }
+        ensures err { OnErr result ((b : List Pair) → IsPending self.old b → IsPending self.new b) }
+        ensures refused { OnErr result ((self.new.draft.held ≡ self.old.draft.held) × (self.new.draft.end ≡ self.old.draft.end)) }
+        ensures untouched { IfErr result (λ e. OnUntouched e (self.new ≡ self.old)) }
+        ensures full { FullAs (room_for self.old.draft.held (file_key (seen_place place.now))) result }
+        ensures cause { IfErr result (λ e. OnArchiveDisk e (Rose self.old.draft.field_faults self.new.draft.field_faults)) }
+        ensures origin { self.new.draft.origin ≡ self.old.draft.origin }
+        ensures room { (self.new.draft.held.keys ≡ self.old.draft.held.keys) × (self.new.draft.held.bytes ≡ self.old.draft.held.bytes) }
+        ensures rest { self.new ≡ record self.old { draft = self.new.draft } }
+    {
+        let key = place.short_key();
+        match self.draft.put_field(key.as_str().as_bytes(), field) {
             Ok(()) => Ok(()),
             Err(PutFault::Full { keys, left }) => Err(ArchiveFault::Full { keys, left }),
             Err(PutFault::Fault(fault)) => Err(ArchiveFault::Disk(fault)),

@@ -25,7 +25,7 @@ use Rattle.fd_bulk.specs.Archived.{Grows, GrowsAll, IsBack, IsSure}
 use Rattle.fd_bulk.specs.Columns.{ColumnWorks}
 use Rattle.fd_bulk.specs.Crewing.{Crewed, Finished, HasBegun, HasFull, HoldsRest, SeeFull, Stopping, desks_at}
 use Rattle.fd_bulk.specs.Dealing.{dealt_to}
-use Rattle.fd_bulk.specs.Dealt.{dealt}
+use Rattle.fd_sheets.specs.Dealt.{dealt}
 use Rattle.fd_bulk.specs.Ending.{CanEndOne, CanHand, EndedAs, Ends, IsEnded, IsShorter, column, desk_in, desk_of, parts_in}
 use Rattle.fd_bulk.specs.Halting.{Each}
 use Rattle.fd_bulk.specs.Sharing.{AllWork, MayWork, its_pairs, name_at}

@@ -19,7 +19,7 @@ use Rattle.fd_bulk.specs.declared.round.Job.{Job}
 use Rattle.fd_bulk.specs.declared.round.Parcel.{Parcel}
 use Rattle.fd_bulk.specs.Crewing.{HasBegun, IsLent, Running, Waits, desks_at, with_desk}
 use Rattle.fd_bulk.specs.Dealing.{dealt_to}
-use Rattle.fd_bulk.specs.Dealt.{dealt}
+use Rattle.fd_sheets.specs.Dealt.{dealt}
 use Rattle.fd_bulk.specs.Halting.{Each, HasOneMore, IsSameJob}
 use Rattle.fd_bulk.specs.Sharing.{AllFit, AllWork, AreParcels, SameMet, its_pairs, name_at}
 use Rattle.fd_bulk.specs.Working.{Filling, Stage}

@@ -5,7 +5,6 @@ pub mod Filled
 pub mod Storing
 pub mod Tables
 pub mod Lanes
-pub mod Weighing
 pub mod Sharing
 pub mod Rounds
 pub mod Shares

@@ -20,7 +20,7 @@ use Rattle.fd_bulk.specs.declared.round.Job.{Job}
 use Rattle.fd_bulk.specs.declared.round.Parcel.{Parcel}
 use Rattle.fd_bulk.specs.Crewing.{CanFinish, CanRun, Crewed, Finished, FinishedAs, OnFull, RanAs, Running, Stopping, Waits, octets_of}
 use Rattle.fd_bulk.specs.Dealing.{dealt_to}
-use Rattle.fd_bulk.specs.Dealt.{dealt}
+use Rattle.fd_sheets.specs.Dealt.{dealt}
 use Rattle.fd_bulk.specs.Halting.{Each, Halted, IsLowest, IsQuiet, IsTold}
 use Rattle.fd_bulk.specs.Sharing.{AllWork, AreParcels, CanListAll, CanShare, IsFullAt, Listed, ListedTo, SameMet, Shared, SharedTo, its_pairs, listed_below, name_at, pair_of, share, stopped_at, with_stage}
 use Rattle.fd_bulk.specs.Working.{Filling, Flushed, Stopped}

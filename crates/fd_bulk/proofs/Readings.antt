@@ -26,12 +26,14 @@ use Rattle.fd_bulk.specs.declared.round.Parcel.{Parcel}
 use Rattle.fd_bulk.specs.Archived.{HasRead}
 use Rattle.fd_bulk.specs.Crewing.{Closes, Deals, octets_of}
 use Rattle.fd_sheets.specs.declared.reader.Reach.{Reach}
+use Rattle.fd_sheets.specs.declared.reader.Reach.TheVariants as reaches
 use Rattle.fd_sheets.specs.declared.reader.Stop.{Stop}
 use Rattle.fd_sheets.specs.declared.reader.Stop.TheVariants as stops
 use Rattle.fd_sheets.specs.declared.sheets.Sheet.{Sheet}
 use Rattle.fd_sheets.specs.Reading.{HasRead as HasReadOn, StopsAs, is_unread as sheets_unread}
-use Rattle.fd_sheets.proofs.Ahead.{fed_nothing}
+use Rattle.fd_sheets.proofs.Ahead.{fed_nothing, goes_further, keeps_room}
 use Rattle.fd_sheets.proofs.Placing.{placed_fed_is}
+use Rattle.fd_bulk.specs.Batches.{BatchDealt}
 use Rattle.fd_bulk.specs.Inputs.{EndedOn, EndedThere, EndsAfter, EndsFor, EndsOf, EndsTaken, Going, InputDealt, Midway, Reads, WentOn, is_calm, is_unread}
 use Rattle.fd_bulk.specs.Sheets.{IsTold}
 use Rattle.fd_bulk.proofs.Gone.{ended_stream}
@@ -43,6 +45,13 @@ use Rattle.fd_bulk.proofs.Steps.{ended_now}
 
 abbrev Text : Type 0
 Text = Option (List ℕ)
+
+-- ---- where a reader stops
+
+stops_same : (Z : Type 0) (p q : Progress) (mid after : Text) (reach : Reach) → StopsAs {X = Z} p q mid after (Ok reach) → q ≡ p
+stops_same Z p q mid after reaches.Full h = h.0
+stops_same Z p q mid after reaches.Dealing h = h.0
+stops_same Z p q mid after reaches.End h = h.0
 
 -- ---- what was read
 
@@ -284,6 +293,26 @@ module _ {D H X Y F : Type 0} (has : D → Option Contents) (kept : H → Option
           -- or one wasn't
           pub stopped_batch : {Z : Type 0} (e : BulkFault Z) → EndedThere has kept rules given (fed p h.came) start_has now so_far l₂ qs ks more e → InputDealt has kept rules given left after start_has now l₂ qs ks more (Err e)
           stopped_batch e t = stopped_there e h.mid after now l₂ qs ks more (fed p h.came) h.came h.gives h.few refl t
+
+-- ---- a batch whose messages were dealt
+
+module _ {D H X Y F : Type 0} (has : D → Option Contents) (kept : H → Option (FileName → Option (List ℕ))) (rules : List Rule) (given : List Pair) (left after : Text) (start_has now : Option Holdings) (l : OpenDatasets D) (ps : List (Pass X Y)) (js : List (Job (Writing H) (Pass X Y) (FlushFault F))) (parcels : List Parcel) (p q : Progress) where
+  pub batch_dealt : (Z : Type 0) (before : Text) (sheets : List Sheet) (reach : Reach) (h : HasReadOn {X = Z} rules given p q before after sheets (Ok reach)) → Midway has kept rules given left h.mid start_has now l ps js parcels h.middle → h.middle.fed ≤ input_limit → BatchDealt has kept rules given left after start_has now l ps js parcels p q Z reach
+  batch_dealt Z before sheets reach h m few =
+      let is = stops_same Z h.middle q h.mid after reach h.stops in
+      record {
+        mid = h.mid;
+        midway = subst (Midway has kept rules given left h.mid start_has now l ps js parcels) (sym is) m;
+        few = rw is few;
+        stops = subst (λ (x : Progress). StopsAs {X = Z} x q h.mid after (Ok reach)) (sym is) h.stops;
+        further = λ on. goes_further Z rules given p q before after sheets reach on h;
+        room = λ on. keeps_room Z rules given p q before after sheets reach on h;
+      }
+
+  -- the same, where the end is another's name
+  pub batch_dealt_at : (Z : Type 0) (before : Text) (sheets : List Sheet) (reach : Reach) (end : Result Reach (Stop Z)) → end ≡ Ok reach → (h : HasReadOn {X = Z} rules given p q before after sheets end) → Midway has kept rules given left h.mid start_has now l ps js parcels h.middle → h.middle.fed ≤ input_limit → BatchDealt has kept rules given left after start_has now l ps js parcels p q Z reach
+  batch_dealt_at Z before sheets reach end is =
+      subst (λ (e : Result Reach (Stop Z)). (h : HasReadOn {X = Z} rules given p q before after sheets e) → Midway has kept rules given left h.mid start_has now l ps js parcels h.middle → h.middle.fed ≤ input_limit → BatchDealt has kept rules given left after start_has now l ps js parcels p q Z reach) (sym is) (batch_dealt Z before sheets reach)
 
 -- ---- the count of faults of the input
 

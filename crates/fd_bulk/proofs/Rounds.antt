@@ -5,7 +5,7 @@ use Rattle.fd_entries.specs.declared.batch.Pair.{Pair}
 use Rattle.fd_library.specs.Open.{AreDistinct, among}
 use Rattle.fd_outcome.specs.Archiving.{Stored, pairs_for}
 use Rattle.fd_segment.proofs.Keys.{eq_is, eq_refl}
-use Rattle.fd_bulk.specs.Dealt.{dealt}
+use Rattle.fd_sheets.specs.Dealt.{dealt}
 use Rattle.fd_bulk.specs.Dealing.{dealt_to}
 use Rattle.fd_bulk.specs.Sharing.{AreParcels, IsParcelOf, pair_of, share}
 use Rattle.fd_bulk.specs.declared.round.Parcel.{Parcel}

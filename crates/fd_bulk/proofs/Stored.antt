@@ -8,7 +8,7 @@ use Rattle.fd_archiver.specs.Writing.{Writing}
 use Rattle.fd_library.specs.Open.{AreDistinct}
 use Rattle.fd_outcome.specs.Archiving.{Stored, pairs_for}
 use Rattle.fd_bulk.specs.Dealing.{dealt_to}
-use Rattle.fd_bulk.specs.Dealt.{dealt}
+use Rattle.fd_sheets.specs.Dealt.{dealt}
 use Rattle.fd_bulk.specs.declared.round.Desk.{Desk}
 use Rattle.fd_bulk.specs.declared.round.Parcel.{Parcel}
 use Rattle.fd_bulk.specs.Working.{Stage}

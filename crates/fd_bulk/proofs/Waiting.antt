@@ -13,7 +13,7 @@ use Rattle.fd_bulk.specs.declared.round.Job.{Job}
 use Rattle.fd_bulk.specs.declared.round.Parcel.{Parcel}
 use Rattle.fd_entries.specs.declared.batch.Pair.{Pair}
 use Rattle.fd_bulk.specs.Crewing.{AreMet, CanSeat, Deals, HasBegun, HasDesk, desks_at, message_at}
-use Rattle.fd_bulk.specs.Dealt.{dealt}
+use Rattle.fd_sheets.specs.Dealt.{dealt}
 use Rattle.fd_bulk.specs.Halting.{HaveMetNone}
 use Rattle.fd_bulk.specs.Sharing.{AllFit, AreParcels, IsFit, IsParcelOf}
 use Rattle.fd_bulk.proofs.Matching.{matched_long}

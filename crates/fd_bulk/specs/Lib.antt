@@ -1,5 +1,4 @@
 pub mod Dealing
-pub mod Dealt
 pub mod Merging
 pub mod Gathering
 pub mod Adding
@@ -15,4 +14,5 @@ pub mod Sheets
 pub mod Columns
 pub mod Ending
 pub mod Naming
-pub mod Beside
+pub mod Meets
+pub mod Batches

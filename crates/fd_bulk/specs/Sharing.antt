@@ -16,7 +16,7 @@ use Rattle.fd_bulk.specs.declared.round.Job.{Job}
 use Rattle.fd_bulk.specs.declared.round.Parcel.{Parcel}
 use Rattle.fd_outcome.specs.Archiving.{Stored as Kept, pairs_for}
 use Rattle.fd_bulk.specs.Dealing.{dealt_to}
-use Rattle.fd_bulk.specs.Dealt.{dealt}
+use Rattle.fd_sheets.specs.Dealt.{dealt}
 use Rattle.fd_bulk.specs.Working.{Filling, Flushed, HasSealed, Stage, Stopped, Works}
 
 -- the pair under which a message stands in its dataset

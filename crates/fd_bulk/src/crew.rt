@@ -1,12 +1,12 @@
 //! The workers between their starts: datasets are opened, and messages are dealt.
-ghost use Rattle.std.specs.Prelude.{◌≡◌, ◌==◌, ◌≤◌, ◌<◌, ◌+◌, ◌++◌, ◌∷◌, [], ◌^◌, ℕ, List, Option, Some, All, true, false, is_some, length, slice_get, IfErr, IfOk, IsSome, OnOk};
+ghost use Rattle.std.specs.Prelude.{◌≡◌, ◌==◌, ◌≤◌, ◌<◌, ◌+◌, ◌++◌, ◌∷◌, [], ◌^◌, ℕ, List, Option, Some, All, true, false, is_some, length, slice_get, IfErr, IfOk, IsSome, OnOk, vec_capacity, vec_len};
 ghost use Rattle.fd_bytes.specs.Causes.{Rose};
 ghost use Rattle.fd_disk.specs.Folders.{Holdings, WhereTold};
 ghost use Rattle.fd_bulk.specs.Archived.{Grows, GrowsAll, IsBack, IsSure};
 ghost use Rattle.fd_schema.specs.Grammar.{IsSchema};
 ghost use Rattle.fd_schema.specs.Rules.{file_key};
 ghost use Rattle.fd_schema.specs.Reading.{seen_place};
-ghost use Rattle.fd_library.specs.Open.{OutAre, among, names_of};
+ghost use Rattle.fd_library.specs.Open.{OpenDataset, OutAre, among, names_of};
 ghost use Rattle.fd_sheets.specs.Reading.{ReadOn};
 ghost use Rattle.fd_outcome.specs.Archiving.{Stored, datasets_in, is_too_many};
 ghost use Rattle.fd_opener.specs.Opening.{AreOpen};
@@ -15,15 +15,15 @@ ghost use Rattle.fd_library.specs.Calls.{Changes};
 ghost use Rattle.fd_bulk.specs.Ending.{CanEndOne, EndedAs, IsShorter, column};
 ghost use Rattle.fd_bulk.specs.Halting.{Each, Halted, HasOneMore, HaveMetNone, HaveRoom, IsLower, IsQuiet, IsSameJob, IsTold, OnStore};
 ghost use Rattle.fd_bulk.specs.Inputs.{is_calm};
+ghost use Rattle.fd_bulk.specs.Meets.{Meets};
 ghost use Rattle.fd_bulk.specs.Naming.{IsOpened};
 ghost use Rattle.fd_bulk.specs.Crewing.{CanEnd, CanFinish, CanRun, CanSeat, Closes, Crewed, Deals, DealtAs, Finished, FinishedAs, HasFull, IsUnopened, OpenedAs, RanAs, RanBeside, Running, SeatedAs, SeeFull, Stopping, TooManyAt, Waits, message_at, octets_of};
 
 use crate::bulk::BulkFault;
-use crate::dealt::dealt;
 use crate::handing::hand_back_all;
 use crate::round::{Desk, FolderJob, Halt, Job, Parcel, list_round, run_beside, run_rounds};
 use fd_archiver::FlushFault;
-use fd_bytes::{Bytes, NoMemory};
+use fd_bytes::NoMemory;
 use fd_disk::{Disk, Down, Folder, Shelf, Store};
 use fd_io::{Gate, Source};
 use fd_key::Given;
@@ -31,8 +31,8 @@ use fd_library::FolderPass;
 use fd_opener::Opener;
 use fd_recovery::OpenFault;
 use fd_schema::{Place, Schema};
-use fd_segment::Room;
-use fd_sheets::{Batch, Names, Reader};
+use fd_segment::{Field, Room};
+use fd_sheets::{Batch, Names, Reader, dealt};
 use std::alloc::Global;
 use std::sync::Wait;
 use std::thread::Threads;
@@ -80,6 +80,35 @@ impl<F: Send + Drop, S: Store<F>> Crew<F, S> {
         self.parcels.is_empty()
     }
 
+    // Room for one dataset more.
+    fn reserve(&mut self) -> Result<(), NoMemory>
+        ensures passes { self.new.passes.items ≡ self.old.passes.items }
+        ensures jobs { Each (λ i. IsSameJob) self.old.jobs.items self.new.jobs.items }
+        ensures parcels { self.new.parcels ≡ self.old.parcels }
+        ensures room { OnOk result (vec_len self.new.passes < vec_capacity self.new.passes) }
+        ensures jobs_room { OnOk result (HaveRoom self.new.jobs.items) }
+    {
+        let Ok(()) = self.passes.reserve(1) else {
+            return Err(NoMemory);
+        };
+        make_room(self.jobs.as_mut_slice())
+    }
+
+    // A dataset that was opened just now is met by all workers.
+    fn meet(&mut self, opener: &mut Opener<F, S>, number: u32)
+        requires seated { (h : OpenDataset S.Folder) × (slice_get opener.old.library.each number ≡ Some h) × IsSome h.pass }
+        requires sound { AreOpen opener.old.library }
+        requires room { vec_len self.old.passes < vec_capacity self.old.passes }
+        requires jobs_room { HaveRoom self.old.jobs.items }
+        ensures sound { AreOpen opener.new.library }
+        ensures meets { Meets number opener.old.library opener.new.library self.old.passes.items self.new.passes.items self.old.jobs.items self.new.jobs.items }
+        ensures parcels { self.new.parcels ≡ self.old.parcels }
+    {
+        let pass = opener.seat(number);
+        self.passes.push_reserved(pass);
+        add_dataset(self.jobs.as_mut_slice());
+    }
+
     // The number of the dataset with this text, which is opened by the first call.
     fn opened<X: Drop>(
         &mut self,
@@ -105,10 +134,7 @@ impl<F: Send + Drop, S: Store<F>> Crew<F, S> {
         ensures told { is_some (S.has store.new) ≡ is_some (S.has store.old) }
         ensures later { S.faults store.old ≤ S.faults store.new }
     {
-        let Ok(()) = self.passes.reserve(1) else {
-            return Err(BulkFault::NoMemory);
-        };
-        let Ok(()) = make_room(self.jobs.as_mut_slice()) else {
+        let Ok(()) = self.reserve() else {
             return Err(BulkFault::NoMemory);
         };
         let found = match opener.dataset(alloc, store, name, true) {
@@ -119,9 +145,7 @@ impl<F: Send + Drop, S: Store<F>> Crew<F, S> {
         if (number as usize) < self.passes.len() {
             return Ok(number);
         }
-        let pass = opener.seat(number);
-        self.passes.push_reserved(pass);
-        add_dataset(self.jobs.as_mut_slice());
+        self.meet(opener, number);
         Ok(number)
     }
 
@@ -171,7 +195,7 @@ impl<F: Send + Drop, S: Store<F>> Crew<F, S> {
         store: &mut S,
         round: u32,
         place: Place,
-        bytes: Bytes,
+        bytes: Field,
     ) -> Result<(), BulkFault<X>>
         requires short { length (seen_place place).dataset ≤ 255 }
         requires key { length (file_key (seen_place place)) ≤ 256 }
@@ -354,7 +378,7 @@ fn put_away(parcels: &mut Vec<Parcel>, reader: &mut Reader)
     ensures reader { reader.new ≡ reader.old }
 {
     while let Some(parcel) = parcels.pop() {
-        reader.keep(parcel.bytes);
+        reader.keep(parcel.bytes.into_bytes());
     }
 }
 

@@ -2,10 +2,8 @@
 //! every dataset that it meets, and the datasets come to hold what one batch of all their messages would make of them.
 #![tactic(auto)]
 
-mod beside;
 mod bulk;
 mod crew;
-mod dealt;
 mod handing;
 mod laws;
 mod reading;

@@ -3,13 +3,15 @@ ghost use Rattle.std.specs.Prelude.{◌≡◌, ◌≤◌, ℕ, List, Option, [],
 ghost use Rattle.fd_bytes.specs.Causes.{Rose};
 ghost use Rattle.fd_disk.specs.Folders.{Holdings};
 ghost use Rattle.fd_sections.specs.Progress.{Progress};
+ghost use Rattle.fd_sections.specs.Splitting.{start as nothing_read};
 ghost use Rattle.fd_key.specs.Pairs.{Pair};
 ghost use Rattle.fd_schema.specs.Grammar.{IsSchema};
 ghost use Rattle.fd_schema.specs.Rules.{Rule};
 ghost use Rattle.fd_library.specs.Open.{OutAre, names_of};
 ghost use Rattle.fd_outcome.specs.Archiving.{Stored};
 ghost use Rattle.fd_bulk.specs.Halting.{OnStore};
-ghost use Rattle.fd_bulk.specs.Inputs.{CanGo, EndsOf, Going, GoesOn, InputDealt, InputEnds, is_calm, is_listed, is_unread};
+ghost use Rattle.fd_bulk.specs.Batches.{AllDealt, BatchEnds};
+ghost use Rattle.fd_bulk.specs.Inputs.{CanGo, EndsOf, Going, GoesOn, InputDealt, InputEnds, Midway, is_calm, is_listed, is_unread};
 ghost use Rattle.fd_sections.specs.Joining.{IsWaiting};
 ghost use Rattle.fd_sheets.specs.Names.{IsKnown};
 ghost use Rattle.fd_sheets.specs.Reading.{ReadOn};
@@ -25,7 +27,7 @@ use fd_io::{Gate, Source};
 use fd_key::Given;
 use fd_opener::Opener;
 use fd_schema::Schema;
-use fd_sheets::{Batch, Names, Reader, Sheet, Stop, Unplaced, read_on};
+use fd_sheets::{Batch, Names, Reach, Reader, Sheet, Stop, Unplaced, read_on};
 use std::alloc::Global;
 use std::sync::Wait;
 use std::thread::Threads;
@@ -213,7 +215,111 @@ fn end_of<X>(reader: Reader) -> Result<Counts, BulkFault<X>>
     }
 }
 
-// Deals the messages of the input, batch by batch, and stores what was dealt, where it is enough, while the next batch is read.
+// Reads on, where enough is dealt storing it meanwhile, and deals the messages that were read.
+fn deal_batch<
+    F: Send + Drop,
+    X: Drop,
+    S: Store<F>,
+    I: Source<X>,
+    G: Gate,
+    R: Threads + Wait + Sync,
+>(
+    rt: &R,
+    alloc: Global,
+    input: &mut I,
+    given: &Given,
+    schema: &Schema,
+    names: &mut Names,
+    reader: &mut Reader,
+    are_enough: bool,
+    crew: &mut Crew<F, S>,
+    opener: &mut Opener<F, S>,
+    store: &mut S,
+    gate: &G,
+) -> Result<Reach, BulkFault<X>>
+where
+    requires schema { IsSchema schema.now }
+    requires out { OutAre opener.old.library.each (S.out store.old) }
+    requires can { CanGo S.Folder.has S.Folder.Shelf.kept (S.has store.old) opener.old.library crew.old.passes.items crew.old.jobs.items crew.old.parcels.items reader.old }
+    requires few { reader.old.fed ≤ 68719476736 }
+    requires opened { AreOpened names.old.texts.items (names_of opener.old.library.each) }
+    ensures out { OutAre opener.new.library.each (S.out store.new) }
+    ensures deals { (left : Option (List ℕ)) (start : Option Holdings) → Midway S.Folder.has S.Folder.Shelf.kept schema.now given.now left (I.left input.old) start (S.has store.old) opener.old.library crew.old.passes.items crew.old.jobs.items crew.old.parcels.items reader.old
+        → BatchEnds S.Folder.has S.Folder.Shelf.kept schema.now given.now left (I.left input.new) start (S.has store.new) opener.new.library crew.new.passes.items crew.new.jobs.items crew.new.parcels.items reader.old reader.new result }
+    ensures opened { OnOk result (AreOpened names.new.texts.items (names_of opener.new.library.each)) }
+    ensures calm { OnOk result (I.faults input.new ≡ I.faults input.old) }
+    ensures read { IfErr result (λ e. is_unread e ≡ true → Rose (I.faults input.old) (I.faults input.new)) }
+    ensures read_quiet { IfErr result (λ e. is_calm e ≡ true → I.faults input.new ≡ I.faults input.old) }
+    ensures jobs { length crew.new.jobs.items ≡ length crew.old.jobs.items }
+    ensures cause { IfErr result (λ e. OnStore e (Rose (S.faults store.old) (S.faults store.new))) }
+    ensures told { is_some (S.has store.new) ≡ is_some (S.has store.old) }
+    ensures later { S.faults store.old ≤ S.faults store.new }
+{
+    let batch = match read_batch(
+        rt, alloc, input, given, schema, names, reader, are_enough, crew, opener, store, gate,
+    ) {
+        Ok(batch) => batch,
+        Err(fault) => return Err(fault),
+    };
+    let Batch { sheets, end } = batch;
+    match deal_sheets(alloc, sheets, names, crew, opener, store) {
+        Ok(()) => {}
+        Err(fault) => return Err(fault),
+    }
+    match end {
+        Ok(reach) => Ok(reach),
+        Err(stop) => Err(stopped(stop)),
+    }
+}
+
+// Deals the messages of the input, batch by batch, up to its end, and stores what was dealt, where it is enough, while the next batch
+// is read.
+fn deal_all<F: Send + Drop, X: Drop, S: Store<F>, I: Source<X>, G: Gate, R: Threads + Wait + Sync>(
+    rt: &R,
+    alloc: Global,
+    input: &mut I,
+    given: &Given,
+    schema: &Schema,
+    names: &mut Names,
+    reader: &mut Reader,
+    crew: &mut Crew<F, S>,
+    opener: &mut Opener<F, S>,
+    store: &mut S,
+    gate: &G,
+) -> Result<(), BulkFault<X>>
+where
+    requires schema { IsSchema schema.now }
+    requires unread { reader.old ≡ nothing_read }
+    requires unopened { names.old.texts.items ≡ [] }
+    requires out { OutAre opener.old.library.each (S.out store.old) }
+    requires begun { Deals S.Folder.has S.Folder.Shelf.kept (S.has store.old) (S.has store.old) [] [] [] opener.old.library crew.old.passes.items crew.old.jobs.items crew.old.parcels.items }
+    ensures out { OutAre opener.new.library.each (S.out store.new) }
+    ensures deals { AllDealt S.Folder.has S.Folder.Shelf.kept schema.now given.now (I.left input.old) (I.left input.new) (S.has store.old) (S.has store.new) opener.new.library crew.new.passes.items crew.new.jobs.items crew.new.parcels.items reader.new result }
+    ensures calm { OnOk result (I.faults input.new ≡ I.faults input.old) }
+    ensures read { IfErr result (λ e. is_unread e ≡ true → Rose (I.faults input.old) (I.faults input.new)) }
+    ensures read_quiet { IfErr result (λ e. is_calm e ≡ true → I.faults input.new ≡ I.faults input.old) }
+    ensures jobs { length crew.new.jobs.items ≡ length crew.old.jobs.items }
+    ensures cause { IfErr result (λ e. OnStore e (Rose (S.faults store.old) (S.faults store.new))) }
+    ensures told { is_some (S.has store.new) ≡ is_some (S.has store.old) }
+    ensures later { S.faults store.old ≤ S.faults store.new }
+{
+    let mut are_enough = false;
+    for _ in 0..u64::MAX {
+        let reach = match deal_batch(
+            rt, alloc, input, given, schema, names, reader, are_enough, crew, opener, store, gate,
+        ) {
+            Ok(reach) => reach,
+            Err(fault) => return Err(fault),
+        };
+        if reach.is_end() {
+            return Ok(());
+        }
+        are_enough = reach.is_full() || crew.parcels.len() >= ENOUGH;
+    }
+    Err(BulkFault::InputLimit)
+}
+
+// The messages of the input are dealt, up to its end or to where it stops.
 fn deal_input<
     F: Send + Drop,
     X: Drop,
@@ -251,40 +357,22 @@ where
         return Err(BulkFault::NoMemory);
     };
     let mut names = Names::new(alloc);
-    let mut are_enough = false;
-    for _ in 0..u64::MAX {
-        let batch = match read_batch(
-            rt,
-            alloc,
-            input,
-            given,
-            schema,
-            &names,
-            &mut reader,
-            are_enough,
-            crew,
-            opener,
-            store,
-            gate,
-        ) {
-            Ok(batch) => batch,
-            Err(fault) => return Err(fault),
-        };
-        let Batch { sheets, end } = batch;
-        match deal_sheets(alloc, sheets, &mut names, crew, opener, store) {
-            Ok(()) => {}
-            Err(fault) => return Err(fault),
-        }
-        let reach = match end {
-            Ok(reach) => reach,
-            Err(stop) => return Err(stopped(stop)),
-        };
-        if reach.is_end() {
-            return end_of(reader);
-        }
-        are_enough = reach.is_full() || crew.parcels.len() >= ENOUGH;
+    match deal_all(
+        rt,
+        alloc,
+        input,
+        given,
+        schema,
+        &mut names,
+        &mut reader,
+        crew,
+        opener,
+        store,
+        gate,
+    ) {
+        Ok(()) => end_of(reader),
+        Err(fault) => Err(fault),
     }
-    Err(BulkFault::InputLimit)
 }
 
 // Stores the messages of the input. Where it stops, what was dealt is stored first; a refusal of a worker is that

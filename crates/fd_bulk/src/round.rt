@@ -6,16 +6,15 @@ ghost use Rattle.fd_entries.specs.declared.batch.Pair.{Pair};
 ghost use Rattle.fd_bulk.specs.Sharing.{AllWork, CanListAll, CanListAt, CanShare, CanStore, Listed, ListedAt, SameMet, Shared, StoredAt};
 ghost use Rattle.fd_bulk.specs.Working.{Filling, Stage};
 
-use crate::beside::for_each_beside;
 use crate::working::{list, store};
 use fd_archiver::{Archiver, FlushFault};
-use fd_bytes::Bytes;
 use fd_dataset::{Dataset, DatasetPass};
 use fd_disk::{Disk, Folder, Sealed, Shelf};
 use fd_io::{Gate, Source};
 use fd_key::Given;
 use fd_schema::{Place, Schema};
-use fd_sheets::{Batch, Names, Reader, read_on};
+use fd_segment::Field;
+use fd_sheets::{Batch, Names, Reader, for_each_beside, read_on};
 use std::alloc::Global;
 use std::sync::Wait;
 use std::thread;
@@ -28,7 +27,7 @@ pub(crate) struct Parcel {
     pub(crate) dataset: u32,
     pub(crate) round: u32,
     pub(crate) place: Place,
-    pub(crate) bytes: Bytes,
+    pub(crate) bytes: Field,
 }
 
 /// A worker's archiver and pass in a dataset.
@@ -87,7 +86,7 @@ where
         alloc,
         &datasets[n],
         &parcel.place,
-        parcel.bytes.as_slice(),
+        &parcel.bytes,
         &mut desk.archiver,
         &mut desk.pass,
     )
@@ -166,55 +165,7 @@ where
     );
 }
 
-// Each worker's share of the messages, in threads of their own, while this thread reads on.
-fn run_both<
-    F: Send + Drop,
-    X: Drop,
-    T: Disk<F>,
-    H: Shelf<F>,
-    I: Source<X>,
-    G: Gate,
-    R: Threads + Wait + Sync,
->(
-    rt: &R,
-    alloc: Global,
-    gate: &G,
-    datasets: &[Dataset<F, T, H::Sealed>],
-    parcels: &[Parcel],
-    schema: &Schema,
-    given: &Given,
-    names: &Names,
-    workers: usize,
-    input: &mut I,
-    reader: &mut Reader,
-    jobs: &mut [WorkerJob<F, T, H>],
-) -> Batch<X>
-where
-    requires schema { IsSchema schema.now }
-    requires workers { 0 < workers }
-    requires few { length jobs.old ≤ 8 }
-    requires can { (i : ℕ) (e : _) → i < length jobs.old → CanShare H.kept datasets.now i parcels.now (slice_index_or jobs.old i e) }
-    ensures long { length jobs.new ≡ length jobs.old }
-    ensures shared { (i : ℕ) (e : _) → i < length jobs.old → Shared H.kept datasets.now i parcels.now (slice_index_or jobs.old i e) (slice_index_or jobs.new i e) }
-    ensures reads { ReadOn schema.now given.now names.now.texts.items reader.old reader.new (I.left input.old) (I.left input.new) (I.faults input.old) (I.faults input.new) result }
-{
-    let other = alloc;
-    let mut read = || -> Batch<X>
-        requires { IsSchema schema.now × (0 < workers) }
-        ensures { ReadOn schema.entry.now given.entry.now names.entry.now.texts.items reader.entry.now reader.exit.now (I.left input.entry.now) (I.left input.exit.now) (I.faults input.entry.now) (I.faults input.exit.now) result }
-    { read_on(rt, other, schema, given, names, workers, input, reader) };
-    for_each_beside(
-        rt,
-        &|i: usize, job: &mut WorkerJob<F, T, H>|
-            requires { (i < 8) × CanShare H.kept datasets.now i parcels.now job.old }
-            ensures { Shared H.kept datasets.entry.now i parcels.entry.now job.old job.new }
-        { run_share(rt, alloc, gate, datasets, parcels, i, job) },
-        jobs,
-        &mut read,
-    )
-}
-
-/// Each worker's share of the messages, as above, while the input is read on by this thread. A single worker and the reader take turns.
+/// Each worker's share of the messages, as above, while this thread reads the input on and finds the digests of what it reads.
 pub(crate) fn run_beside<
     F: Send + Drop,
     X: Drop,
@@ -246,12 +197,19 @@ where
     ensures reads { ReadOn schema.now given.now names.now.texts.items reader.old reader.new (I.left input.old) (I.left input.new) (I.faults input.old) (I.faults input.new) result }
 {
     let workers = jobs.len();
-    if workers == 1 {
-        run_rounds(rt, alloc, gate, datasets, parcels, jobs);
-        return read_on(rt, alloc, schema, given, names, workers, input, reader);
-    }
-    run_both(
-        rt, alloc, gate, datasets, parcels, schema, given, names, workers, input, reader, jobs,
+    let other = alloc;
+    let mut read = || -> Batch<X>
+        requires { IsSchema schema.now × (0 < workers) }
+        ensures { ReadOn schema.entry.now given.entry.now names.entry.now.texts.items reader.entry.now reader.exit.now (I.left input.entry.now) (I.left input.exit.now) (I.faults input.entry.now) (I.faults input.exit.now) result }
+    { read_on(rt, other, schema, given, names, workers, input, reader) };
+    for_each_beside(
+        rt,
+        &|i: usize, job: &mut WorkerJob<F, T, H>|
+            requires { (i < 8) × CanShare H.kept datasets.now i parcels.now job.old }
+            ensures { Shared H.kept datasets.entry.now i parcels.entry.now job.old job.new }
+        { run_share(rt, alloc, gate, datasets, parcels, i, job) },
+        jobs,
+        &mut read,
     )
 }
 

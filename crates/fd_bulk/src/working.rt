@@ -11,13 +11,14 @@ use fd_archiver::{ArchiveFault, Archiver, FlushFault};
 use fd_dataset::{Dataset, DatasetPass};
 use fd_disk::{Disk, Sealed, Shelf};
 use fd_schema::Place;
+use fd_segment::Field;
 use std::alloc::Global;
 use std::sync::Wait;
 
 /// Puts a message into the batch, if there is room.
 fn put<F: Send, H: Shelf<F>>(
     place: &Place,
-    bytes: &[u8],
+    bytes: &Field,
     archiver: &mut Archiver<F, H>,
 ) -> Result<(), ArchiveFault<F>>
 where
@@ -29,7 +30,7 @@ where
     ensures puts { (pairs : List Pair) (v : View) → Works H.kept Filling pairs archiver.old v → PutOn H.kept result pairs (record { key = file_key (seen_place place.now); bytes = bytes.now }) archiver.old archiver.new v }
     ensures first { (pairs : List Pair) (v : View) → Works H.kept Emptied pairs archiver.old v → IsNotFull result }
 {
-    archiver.archive(place, bytes)
+    archiver.archive_field(place, bytes)
 }
 
 /// Lists what is pending.
@@ -63,7 +64,7 @@ fn store_listed<F: Send, T: Disk<F>, H: Shelf<F>, R: Wait>(
     alloc: Global,
     dataset: &Dataset<F, T, H::Sealed>,
     place: &Place,
-    bytes: &[u8],
+    bytes: &Field,
     archiver: &mut Archiver<F, H>,
     pass: &mut DatasetPass<F, T, H::Sealed>,
 ) -> Result<(), FlushFault<F>>
@@ -97,7 +98,7 @@ pub(crate) fn store<F: Send, T: Disk<F>, H: Shelf<F>, R: Wait>(
     alloc: Global,
     dataset: &Dataset<F, T, H::Sealed>,
     place: &Place,
-    bytes: &[u8],
+    bytes: &Field,
     archiver: &mut Archiver<F, H>,
     pass: &mut DatasetPass<F, T, H::Sealed>,
 ) -> Result<(), FlushFault<F>>

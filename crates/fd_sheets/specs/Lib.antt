@@ -1,3 +1,5 @@
 pub mod Names
 pub mod Reading
 pub mod Sheets
+pub mod Dealt
+pub mod Beside

@@ -1,14 +1,19 @@
-//! The messages of an input that are whole in what came of it, each with its place by a schema, which a reader takes while others are
-//! stored. The places are looked for by several threads side by side.
+//! The messages of an input that are whole in what came of it, each with its place by a schema and its digest, which a reader takes while
+//! others are stored. The places and the digests are looked for by several threads side by side. By its place each message goes to one of
+//! several workers.
 #![tactic(auto)]
 
+mod beside;
 mod buffers;
+mod dealing;
 mod names;
 mod reader;
 mod rounds;
 mod sheets;
 
+pub use beside::for_each_beside;
 pub use buffers::Buffers;
+pub use dealing::dealt;
 pub use names::Names;
 pub use reader::{Batch, Reach, Reader, Stop, read_on};
 pub use rounds::Rounds;

@@ -11,7 +11,7 @@ ghost use Rattle.fd_sheets.specs.Reading.{HasRead, HasTaken, IsFed, IsStop, Read
 use crate::buffers::Buffers;
 use crate::names::Names;
 use crate::rounds::Rounds;
-use crate::sheets::{Sheet, Unsplit, look_up_all, take_sheets};
+use crate::sheets::{Sheet, Unsplit, find_digests, look_up_all, take_sheets};
 use fd_bytes::{Bytes, NoMemory};
 use fd_io::Source;
 use fd_key::Given;
@@ -249,9 +249,9 @@ impl Reader {
     }
 }
 
-/// Reads messages with their places, which so many threads look for. It stops behind 1,024 messages or 4 MiB, and where a message has no
-/// place, or its dataset isn't one of these: so where a read fails, each message that was read before has a place in one of these
-/// datasets. (What is lent for writing comes last, as a closure wants it.)
+/// Reads messages with their places and their digests, which so many threads look for. It stops behind 1,024 messages or 4 MiB, and
+/// where a message has no place, or its dataset isn't one of these: so where a read fails, each message that was read before has a
+/// place in one of these datasets. (What is lent for writing comes last, as a closure wants it.)
 pub fn read_on<X, I: Source<X>, R: Threads + Sync>(
     rt: &R,
     alloc: Global,
@@ -269,5 +269,7 @@ pub fn read_on<X, I: Source<X>, R: Threads + Sync>(
     let mut sheets = Vec::new(alloc);
     reader.rounds.hand_on();
     let end = reader.fill(rt, alloc, input, schema, given, workers, names, &mut sheets);
+    let threads = reader.rounds.threads(workers);
+    find_digests(rt, threads, sheets.as_mut_slice());
     Batch { sheets, end }
 }

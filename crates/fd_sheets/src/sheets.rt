@@ -6,10 +6,10 @@ ghost use Rattle.fd_sheets.specs.Sheets.{FoundAs, IsLookedUp, IsReadable, Next, 
 
 use crate::buffers::Buffers;
 use crate::rounds::Rounds;
-use fd_bytes::Bytes;
 use fd_key::{Given, KeyFault, key_of};
 use fd_schema::{Place, PlaceFault, Schema};
 use fd_sections::{BadAt, Message, Splitter, message};
+use fd_segment::Field;
 use std::alloc::Global;
 use std::thread;
 use std::thread::Threads;
@@ -17,12 +17,13 @@ use std::thread::Threads;
 /// From how many sheets on their places are looked for in several threads.
 const ENOUGH_SHEETS: usize = 64;
 
-/// A message of the input, with its number and that of its round, from 1, and its place, once that was looked for.
+/// A message of the input, with its number and that of its round, from 1, and its place, once that was looked for. Its bytes have their
+/// digest before they are handed on.
 #[derive(Drop)]
 pub struct Sheet {
     pub number: u64,
     pub round: u32,
-    pub bytes: Bytes,
+    pub bytes: Field,
     pub found: Option<Result<Place, Unplaced>>,
 }
 
@@ -67,7 +68,7 @@ fn next_sheet(
                 Ok(Some(Sheet {
                     number,
                     round,
-                    bytes,
+                    bytes: Field::new(bytes),
                     found: None,
                 }))
             }
@@ -173,5 +174,27 @@ pub(crate) fn look_up_all<R: Threads + Sync>(
             requires { IsSchema schema.now × IsReadable sheet.old }
             ensures { IsLookedUp schema.entry.now given.entry.now sheet.old sheet.new }
         { look_up(alloc, schema, given, sheet) },
+    );
+}
+
+// Finds the digest of a sheet's bytes.
+fn find_digest(sheet: &mut Sheet)
+    ensures { sheet.new ≡ sheet.old }
+{
+    sheet.bytes.find_digest();
+}
+
+/// Finds the digests of sheets, in so many threads. Nothing else of them changes.
+pub(crate) fn find_digests<R: Threads + Sync>(rt: &R, threads: usize, sheets: &mut [Sheet])
+    requires threads { 0 < threads }
+    ensures same { sheets.new ≡ sheets.old }
+{
+    thread::for_each_mut(
+        rt,
+        sheets,
+        threads,
+        &|_i: usize, sheet: &mut Sheet|
+            ensures { sheet.new ≡ sheet.old }
+        { find_digest(sheet) },
     );
 }

@@ -50,7 +50,7 @@ store-requires-clause-can g c κs within =
     let o = c.index_mut.ensures.value ∙ at_place ds n (Some r.desk) r.at c.index_mut.result.now in
     let at : slice_get ds n ≡ Some (Some d) = cc (r.at, o, c.in-Some.is) in
     let w = work_at g.H.Shelf.kept (λ i. Filling) r.pairs 0 n n c.args.datasets.now r.names ds d (omega arith) r.works at in
-    record { pairs = r.pairs n; works = w.works.works; sum = omega (arith, r.sum, ap length c.as_slice.ensures) }
+    record { pairs = r.pairs n; works = w.works.works; sum = r.sum }
 
 pub returns-clause-met : goal.returns-clause-met
 returns-clause-met g c =
@@ -71,4 +71,4 @@ returns-clause-stores g c =
     let o = c.index_mut.ensures.value ∙ at_place ds p.dataset (Some r.desk) r.at c.index_mut.result.now in
     let at : slice_get ds p.dataset ≡ Some (Some d) = cc (r.at, o, c.in-Some.is) in
     λ names pairs all. stored_or g.H.Shelf.kept c.args.datasets.now c.store.result p names pairs ds d (record { archiver = c.store.new.archiver; pass = c.store.new.pass }) all at c.store.ensures.own c.store.ensures.stays.dataset
-    (λ ps works. subst (λ (b : List ℕ). Stored g.H.Shelf.kept c.store.result ps (record { key = file_key (seen_place p.place); bytes = b }) c.store.new.archiver (view c.store.new.pass)) c.as_slice.ensures (c.store.ensures.stores ps works))
+    c.store.ensures.stores

@@ -7,11 +7,11 @@ use Rattle.fd_bulk.proofs.working.put.Goals as goal
 pub returns-clause-puts : goal.returns-clause-puts
 returns-clause-puts g c =
     let p : Pair = record { key = file_key (seen_place c.args.place.now); bytes = c.args.bytes.now } in
-    let e = c.archive.ensures in
-    λ pairs v works. put_on g.H.Shelf.kept pairs p c.args.archiver.now c.archive.new.self v e.rest e.origin e.room c.requires.key c.archive.result works e.unlisted.0 e.ok e.err e.untouched e.full
+    let e = c.archive_field.ensures in
+    λ pairs v works. put_on g.H.Shelf.kept pairs p c.args.archiver.now c.archive_field.new.self v e.rest e.origin e.room c.requires.key c.archive_field.result works e.unlisted.0 e.ok e.err e.untouched e.full
 
 pub returns-clause-first : goal.returns-clause-first
 returns-clause-first g c =
     let p : Pair = record { key = file_key (seen_place c.args.place.now); bytes = c.args.bytes.now } in
-    let e = c.archive.ensures in
-    λ pairs v works. room_first g.H.Shelf.kept pairs p c.args.archiver.now c.archive.new.self v e.rest e.origin e.room c.requires.key c.archive.result works e.unlisted.0 e.full
+    let e = c.archive_field.ensures in
+    λ pairs v works. room_first g.H.Shelf.kept pairs p c.args.archiver.now c.archive_field.new.self v e.rest e.origin e.room c.requires.key c.archive_field.result works e.unlisted.0 e.full

@@ -9,5 +9,5 @@ returns-in-Ok-None-clause-next c = passes c.args.splitter.now _ (rw c.in-Ok-None
 pub returns-in-Ok-clause-next : goal.returns-in-Ok-clause-next
 returns-in-Ok-clause-next c = (
   sections_of c.in-Ok-Some.message,
-  is_sheet c.args.splitter.now _ (sections_of c.in-Ok-Some.message) _ (rw c.in-Ok-Some.field-0-is at c.in-Ok-Some.ensures.answer) c.next.follows.holds-at-none (search rules) (c.in-Ok.ensures ∙ c.bytes.ensures ∙ (rw c.in-Ok-Some.field-0-is at c.in-Ok-Some.ensures.whole)),
+  is_sheet c.args.splitter.now _ (sections_of c.in-Ok-Some.message) _ (rw c.in-Ok-Some.field-0-is at c.in-Ok-Some.ensures.answer) c.next.follows.holds-at-none (search rules) (c.new.ensures ∙ c.in-Ok.ensures ∙ c.bytes.ensures ∙ (rw c.in-Ok-Some.field-0-is at c.in-Ok-Some.ensures.whole)),
 )

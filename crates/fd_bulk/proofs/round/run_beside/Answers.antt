@@ -3,7 +3,7 @@ use mir.Syntax.{of_param}
 use denote.Exit.{unseen}
 use denote.Param.Send.{Quiet-if}
 use Rattle.fd_bulk.specs.Sharing.{CanShare, Shared}
-use Rattle.fd_bulk.proofs.round.run_both.Goals as goal
+use Rattle.fd_bulk.proofs.round.run_beside.Goals as goal
 
 pub for_each_beside-requires-clause-accepts : goal.for_each_beside-requires-clause-accepts
 for_each_beside-requires-clause-accepts g c κs within = λ i p lt is.

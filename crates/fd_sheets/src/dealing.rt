@@ -2,7 +2,7 @@
 ghost use Rattle.std.specs.Prelude.{◌≡◌, ◌≤◌, ◌<◌, ◌+◌, ◌%◌, ℕ, sum};
 ghost use Rattle.fd_schema.specs.Rules.{file_key};
 ghost use Rattle.fd_schema.specs.Reading.{seen_place};
-ghost use Rattle.fd_bulk.specs.Dealt.{dealt};
+ghost use Rattle.fd_sheets.specs.Dealt.{dealt};
 
 use fd_schema::Place;
 
@@ -33,7 +33,7 @@ fn weighed(workers: u32, before: u32, text: &[u8]) -> u32
 }
 
 /// The worker, from 0, of a message with this place.
-pub(crate) fn dealt(workers: u32, place: &Place) -> u32
+pub fn dealt(workers: u32, place: &Place) -> u32
     requires workers { (0 < workers) × (workers ≤ 8) }
     ensures below { result < workers }
     ensures worker { result ≡ dealt workers (seen_place place.now).dataset (file_key (seen_place place.now)) }

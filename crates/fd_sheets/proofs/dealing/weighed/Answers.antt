@@ -1,7 +1,7 @@
 use Rattle.std.proofs.Common.{rules, arith, ◌<◌, ◌+◌, ◌∙◌, refl, drop, length, sum}
 use Rattle.std.proofs.Math.Nat.{mod-lt}
-use Rattle.fd_bulk.proofs.Weighing.{all_weighed, weigh_turn}
-use Rattle.fd_bulk.proofs.dealt.weighed.Goals as goal
+use Rattle.fd_sheets.proofs.Weighing.{all_weighed, weigh_turn}
+use Rattle.fd_sheets.proofs.dealing.weighed.Goals as goal
 
 pub loop-octet-init : goal.loop-octet-init
 loop-octet-init c = record { below = omega (arith, c.requires.workers.1, c.requires.before); weighs = refl }

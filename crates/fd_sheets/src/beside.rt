@@ -2,7 +2,7 @@
 ghost use Rattle.std.specs.Prelude.{◌≡◌};
 ghost use Rattle.std.specs.Fork.{AcceptsEach};
 ghost use denote.Param.Send.{IsSend, IsSync};
-ghost use Rattle.fd_bulk.specs.Beside.{AreChanged};
+ghost use Rattle.fd_sheets.specs.Beside.{AreChanged};
 
 use std::thread;
 use std::thread::{Threads, join_mut};
@@ -20,13 +20,12 @@ fn change_each<R: Threads + Sync, J: Send, F: Fn(usize, &mut J) + Sync>(
 }
 
 /// Changes each job in a thread of its own, while this thread makes a call.
-pub(crate) fn for_each_beside<
-    R: Threads + Sync,
-    J: Send,
-    F: Fn(usize, &mut J) + Sync,
-    B,
-    G: FnMut() -> B,
->(rt: &R, each: &F, jobs: &mut [J], call: &mut G) -> B
+pub fn for_each_beside<R: Threads + Sync, J: Send, F: Fn(usize, &mut J) + Sync, B, G: FnMut() -> B>(
+    rt: &R,
+    each: &F,
+    jobs: &mut [J],
+    call: &mut G,
+) -> B
     requires accepts { AcceptsEach F.Fn each.now jobs.old }
     requires call { G.pre call.old }
     ensures changed { AreChanged F.Fn each.now jobs.old jobs.new }

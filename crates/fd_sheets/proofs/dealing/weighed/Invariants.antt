@@ -1,6 +1,6 @@
 use Rattle.std.proofs.Common.{◌≡◌, ◌<◌, ◌+◌, ◌%◌, drop}
 use Rattle.std.specs.Prelude.{sum}
-use Rattle.fd_bulk.proofs.dealt.weighed.Given as goal
+use Rattle.fd_sheets.proofs.dealing.weighed.Given as goal
 
 abbrev pub invariant-loop-octet : goal.invariant-loop-octet
 invariant-loop-octet l = record {

@@ -1,6 +1,6 @@
 use Rattle.std.proofs.Common.{◌∙◌, ◌+◌, ◌%◌, [], ◌∷◌, ap, sym, sum, string_bytes, ℕ, List}
-use Rattle.fd_bulk.proofs.Weighing.{sum_key, weighed_all}
-use Rattle.fd_bulk.proofs.dealt.dealt.Goals as goal
+use Rattle.fd_sheets.proofs.Weighing.{sum_key, weighed_all}
+use Rattle.fd_sheets.proofs.dealing.dealt.Goals as goal
 
 pub returns-clause-worker : goal.returns-clause-worker
 returns-clause-worker c =
