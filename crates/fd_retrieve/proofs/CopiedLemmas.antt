@@ -9,7 +9,7 @@ use Rattle.fd_segment.specs.Held.{Standing, behind}
 use Rattle.fd_retriever.specs.declared.fault.Got.TheVariants.{Found, Miss}
 use Rattle.fd_retriever.specs.Answers.{IsAnswer, TookFront}
 use Rattle.fd_finding.specs.Spots.{IsNewestAt, IsWithin}
-use Rattle.fd_retrieve.specs.declared.locating.Located.{Located}
+use Rattle.fd_ahead.specs.declared.located.Located.{Located}
 use Rattle.fd_retrieve.specs.Located.{IsIn, IsThere}
 use Rattle.fd_retrieve.specs.Open.{Open, table_in}
 use Rattle.fd_retrieve.proofs.Staying.{some_is}

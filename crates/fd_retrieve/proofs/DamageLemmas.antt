@@ -1,9 +1,8 @@
 -- A damage that is met in a dataset that is open.
-use Rattle.std.proofs.Common.{◌≡◌, ◌∙◌, ◌<◌, ◌≤◌, ◌-◌, ℕ, zero, suc, List, [], ◌∷◌, length, IfSome, Option, Some, inl, inr, refl, sym, ap, subst, arith}
-use Rattle.std.specs.Prelude.{◌⊎◌, slice_get, Contains}
+use Rattle.std.proofs.Common.{◌≡◌, ◌∙◌, ◌<◌, ◌-◌, ℕ, zero, suc, List, [], ◌∷◌, length, IfSome, Option, Some, inl, inr, refl, sym, ap, subst, arith}
+use Rattle.std.specs.Prelude.{slice_get, Contains}
 use Rattle.std.proofs.lemmas.List.Elements.{Contains-get_or}
 use Rattle.std.proofs.lemmas.Option.{get_or_from_slice_get, slice_get_within}
-use Rattle.fd_segment.specs.Causes.{IsBadFrame, IsBadIndex, IsFieldDamage}
 use Rattle.fd_segment.specs.Held.{Standing}
 use Rattle.fd_segment.specs.declared.fault.Damage.{Damage}
 use Rattle.fd_retriever.specs.declared.fault.FetchFault.{FetchFault}
@@ -13,7 +12,8 @@ use Rattle.fd_retriever.specs.Answers.{StandsIn}
 use Rattle.fd_finding.specs.Spots.{IsWithin, StandsForOne, StandsForSome}
 use Rattle.fd_retrieve.specs.declared.answering.Halt.{Halt}
 use Rattle.fd_retrieve.specs.declared.answering.Halt.TheVariants as halts
-use Rattle.fd_retrieve.specs.declared.locating.Located.{Located}
+use Rattle.fd_ahead.specs.declared.located.Located.{Located}
+use Rattle.fd_ahead.specs.Places.{InSegment, IsMetAt}
 use Rattle.fd_retrieve.specs.declared.locating.Lost.{Lost}
 use Rattle.fd_retrieve.specs.declared.locating.Lost.TheVariants as losses
 use Rattle.fd_retrieve.specs.Finding.{OnDamaged}
@@ -39,18 +39,19 @@ damaged_in os n o shown keys d lt at is met_at =
     let one = met shown met_at.1 keys d (at_number shown (met_at.0 - 1) met_at.1 met_at.2.1) met_at.3 in
     record { inside = lt; dataset = o; at = at; key = one.0; stands = subst (λ ss. IsDamaged ss one.0 d) is one.1 }
 
--- so does one that is met where bytes are copied
-abbrev pub IsMetThere : Located → Damage → Standing → Type 0
-IsMetThere l d s = (IsBadIndex s.files.entry s.files.index d × IsBadFrame s.files.entry s.files.index d) ⊎ IsFieldDamage s.files.entry s.files.fields l.spot.at l.spot.len d
+-- what holds of a segment of the dataset
+pub in_dataset : (os : List Open) (l : Located) (o : Open) (P : Standing → Type 0) → slice_get os l.number ≡ Some o → InSegment os l P → IfSome (slice_get o.shown (l.spot.number - 1)) P
+in_dataset os l o P at is = subst (λ (q : Option Open). IfSome q (λ (p : Open). IfSome (slice_get p.shown (l.spot.number - 1)) P)) at is
 
+-- a damage that is met where bytes are read stands in the dataset, too
 pub copied_damage : (os : List Open) (l : Located) (o : Open) (d : Damage) → slice_get os l.number ≡ Some o → IsWithin o.shown l.spot
-    → IfSome (slice_get o.shown (l.spot.number - 1)) (IsMetThere l d) → IsDamagedAt os l.number d
+    → IfSome (slice_get o.shown (l.spot.number - 1)) (IsMetAt l d) → IsDamagedAt os l.number d
 copied_damage os l o d at within bad =
     let s = get_within o.shown (l.spot.number - 1) (omega (arith, within.from, within.to)) in
-    let stands = subst (λ (x : Option Standing). IfSome x (IsMetThere l d)) s.1 bad in
+    let stands = subst (λ (x : Option Standing). IfSome x (IsMetAt l d)) s.1 bad in
     record { inside = slice_get_within os l.number o at; dataset = o; at = at; key = within.key; stands = (s.0, at_number o.shown (l.spot.number - 1) s.0 s.1, go s.0 s.1 stands) }
   where
-    go : (s : Standing) → slice_get o.shown (l.spot.number - 1) ≡ Some s → IsMetThere l d s → StandsIn s.files within.key d
+    go : (s : Standing) → slice_get o.shown (l.spot.number - 1) ≡ Some s → IsMetAt l d s → StandsIn s.files within.key d
     go s is (inl frame) = inl frame.0
     go s is (inr digest) = let said = within.said s is in inr (inr (l.spot.at, l.spot.len, said.0, said.1, within.ends s is, digest))
 

@@ -1,5 +1,5 @@
 -- Datasets that were opened: by their texts, and by their segments.
-use Rattle.std.proofs.Common.{◌≡◌, ◌∙◌, ◌<◌, ◌≤◌, ◌+◌, ◌||◌, ℕ, zero, suc, Bool, true, false, List, [], ◌∷◌, length, map, drop, get_or, All, IfSome, Option, Some, None, inl, inr, refl, sym, ap, subst, arith, drop-cons, if◌then◌else◌}
+use Rattle.std.proofs.Common.{◌≡◌, ◌∙◌, ◌<◌, ◌≤◌, ◌+◌, ◌||◌, ℕ, zero, suc, Bool, true, false, List, [], ◌∷◌, length, map, drop, get_or, All, Option, Some, None, inl, inr, refl, sym, ap, subst, arith, drop-cons, if◌then◌else◌}
 use Rattle.std.specs.Prelude.{◌⊎◌, slice_get, Contains}
 use Rattle.std.specs.Str.{bytes_eq}
 use Rattle.std.proofs.lemmas.Slice.Eq.{bytes_eq-Decides}
@@ -11,7 +11,6 @@ use Rattle.fd_entries.specs.declared.batch.Pair.{Pair}
 use Rattle.fd_dataset.specs.Listed.{listing}
 use Rattle.fd_recovery.specs.Recovered.{all_of}
 use Rattle.fd_retriever.specs.Answers.{Tells}
-use Rattle.fd_retriever.specs.Kept.{AreThose, Kept}
 use Rattle.fd_retrieve.proofs.Staying.{some_is}
 use Rattle.fd_outcome.specs.Asking.{is_among}
 use Rattle.fd_disk.specs.Folders.{Contents}
@@ -79,11 +78,6 @@ get_within (y ∷ ys) (suc i) x is = let later = get_within ys i x is in omega (
 
 pub same_get : {A : Type 0} (xs : List A) (i : ℕ) (x d : A) → slice_get xs i ≡ Some x → d ≡ get_or xs i d → x ≡ d
 same_get xs i x d at is = some_is x d (sym at ∙ at_get xs i d (get_within xs i x at) is)
-
-pub those_of : {A : Type 0} (current : Option A) (number : A → ℕ) (lenses : A → List Kept) (os : List Open) (n : ℕ) (o : Open) → IfSome current (λ c. IfSome (slice_get os (number c)) (λ p. AreThose (lenses c) p.shown)) → slice_get os n ≡ Some o
-    → IfSome current (λ c. number c ≡ n → AreThose (lenses c) o.shown)
-those_of None number lenses os n o those at = tt
-those_of (Some c) number lenses os n o those at = λ e. subst (λ q. IfSome q (λ p. AreThose (lenses c) p.shown)) (ap (slice_get os) e ∙ at) those
 
 all_told : (bs : List (Option (List Pair))) (t : List (List Pair)) → all_of bs ≡ Some t → bs ≡ map (λ b. Some b) t
 all_told [] t e = ap (map (λ b. Some b)) (some_is [] t e)

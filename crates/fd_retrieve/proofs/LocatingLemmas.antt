@@ -13,18 +13,20 @@ use Rattle.fd_entries.specs.declared.batch.Pair.{Pair}
 use Rattle.fd_entries.specs.Batches.{newest}
 use Rattle.fd_dataset.specs.Listed.{listing}
 use Rattle.fd_segment.specs.Held.{Standing}
+use Rattle.fd_key.specs.Pairs as keys
 use Rattle.fd_schema.specs.declared.place.Place.{Place}
 use Rattle.fd_schema.specs.Reading.{seen_place}
 use Rattle.fd_schema.specs.Rules.{Texts, file_key}
 use Rattle.fd_retriever.specs.Answers.{Tells}
 use Rattle.fd_finding.specs.declared.spot.Spot.{Spot}
 use Rattle.fd_finding.specs.Spots.{IsAnswer, IsWithin, place_key}
-use Rattle.fd_outcome.specs.Asking.{is_among}
-use Rattle.fd_retrieve.specs.declared.locating.Located.{Located}
+use Rattle.fd_outcome.specs.Asking.{Answer, answers, is_among}
+use Rattle.fd_ahead.specs.declared.located.Located.{Located}
+use Rattle.fd_retrieve.specs.Finding.{asked_of_all}
 use Rattle.fd_retrieve.specs.Located.{AreLocated, AreLocatedBy, AreNumbersOf, IsFilled, IsGroup, IsIn, IsLocated, IsLocatedBy, IsNumberOf, located_in}
 use Rattle.fd_retrieve.specs.Open.{IsFirstNamed, Open, names_of, table_in}
 use Rattle.fd_retrieve.proofs.AnsweringLemmas.{there_is}
-use Rattle.fd_retrieve.proofs.DatasetLemmas.{at_get, closed_table, get_within, tells_of}
+use Rattle.fd_retrieve.proofs.DatasetLemmas.{closed_table, get_within, tells_of}
 use Rattle.fd_retrieve.proofs.Staying.{some_is}
 
 -- ---- lists
@@ -261,12 +263,12 @@ within_at now os located i same within lt d = subst (λ (x : List Open). IfSome 
 pub located_as : (os same : List Open) (ps alike : List Place) (ls like : List (Option Located)) → os ≡ same → ps ≡ alike → like ≡ ls → AreLocated os ps ls → AreLocated same alike like
 located_as os same ps alike ls like e f h there = subst (λ x. AreLocated x alike like) e (subst (λ x. AreLocated os x like) f (subst (AreLocated os ps) (sym h) there))
 
+-- what is asked of datasets, of the same ones that were lent
+pub lent_answers : (os lent : List Open) (ks : List (List keys.Pair)) (ps : List Place) (xs : List Answer) → lent ≡ os → answers (table_in os) (asked_of_all ks (map seen_place ps)) ≡ Some xs → answers (table_in lent) (asked_of_all ks (map seen_place ps)) ≡ Some xs
+lent_answers os lent ks ps xs is e = subst (λ x. answers (table_in x) (asked_of_all ks (map seen_place ps)) ≡ Some xs) (sym is) e
+
 -- what a search found, of the dataset whose segments they are, for the places that were asked for
 pub found_answers : (o : Open) (ss : List Standing) (group asked : List Place) (found : List (Option Spot)) → ss ≡ o.shown → asked ≡ group → ((t : List (List Pair)) → Tells (map listing ss) t → AllZip (IsAnswer ss t) (map place_key asked) found)
     → (t : List (List Pair)) → Tells (map listing o.shown) t → AllZip (IsAnswer o.shown t) (map place_key group) found
 found_answers o ss group asked found shown same answer t told =
     subst (λ x. AllZip (IsAnswer x t) (map place_key group) found) shown (subst (λ ps. AllZip (IsAnswer ss t) (map place_key ps) found) same (answer t (subst (λ x. Tells (map listing x) t) (sym shown) told)))
-
--- the dataset with a number, where the same datasets were lent twice
-pub number_at : (os first again : List Open) (n : ℕ) (o : Open) → first ≡ os → again ≡ os → n < length first → o ≡ get_or again n o → slice_get os n ≡ Some o
-number_at os first again n o e f lt is = subst (λ x. slice_get x n ≡ Some o) f (at_get again n o (omega (arith, lt, ap length e, ap length f)) is)

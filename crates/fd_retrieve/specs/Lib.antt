@@ -7,3 +7,4 @@ pub mod Counting
 pub mod Located
 pub mod Telling
 pub mod Looking
+pub mod Rounds

@@ -7,18 +7,13 @@ use Rattle.fd_segment.specs.declared.fault.Damage.{Damage}
 use Rattle.fd_schema.specs.Rules.{Texts, file_key}
 use Rattle.fd_schema.specs.Reading.{seen_place}
 use Rattle.fd_finding.specs.declared.spot.Spot.{Spot}
-use Rattle.fd_finding.specs.Spots.{IsNewestAt, IsWithin}
+use Rattle.fd_finding.specs.Spots.{IsNewestAt}
 use Rattle.fd_outcome.specs.Asking.{is_among}
-use Rattle.fd_retrieve.specs.declared.locating.Located.{Located}
+use Rattle.fd_ahead.specs.declared.located.Located.{Located}
+pub use Rattle.fd_ahead.specs.Places.{IsIn}
 use Rattle.fd_retrieve.specs.declared.locating.Lost.{Lost}
 use Rattle.fd_retrieve.specs.declared.locating.Lost.TheVariants as losses
 use Rattle.fd_retrieve.specs.Open.{IsFirstNamed, Open, names_of, table_in}
-
--- The bytes stand within a segment of one of the datasets.
-pub record IsIn (os : List Open) (l : Located) : Type 0 where
-  pub dataset : Open
-  pub at : slice_get os l.number ≡ Some dataset
-  pub within : IsWithin dataset.shown l.spot
 
 -- These are the newest bytes of the place's key in its dataset.
 pub record IsThere (os : List Open) (place : Texts) (l : Located) : Type 0 where

@@ -10,16 +10,12 @@ use Rattle.fd_segment.specs.Held.{Standing}
 use Rattle.fd_segment.specs.declared.fault.Damage.{Damage}
 use Rattle.fd_retriever.specs.Answers.{StandsIn}
 use Rattle.fd_dataset.specs.Listed.{listing}
+pub use Rattle.fd_ahead.specs.Places.{Open}
 use Rattle.fd_recovery.specs.declared.fault.OpenFault.{OpenFault}
 use Rattle.fd_recovery.specs.declared.fault.OpenFault.TheVariants as faults
 use Rattle.fd_recovery.specs.Recovered.{all_of, files_of, held}
 use Rattle.fd_outcome.specs.Causes.{BadFile, BadTable}
 use Rattle.fd_outcome.specs.Store.{Stands}
-
--- the dataset's text, and the segments of the table's entries
-pub record Open : Type 0 where
-  pub name : List ℕ
-  pub shown : List Standing
 
 -- the batches that the segments stand for, where each stands for one
 abbrev pub table_of : Open → Option (List (List Pair))

@@ -1,23 +1,24 @@
 // The answer of a request, key by key.
-ghost use Rattle.std.specs.Prelude.{◌≡◌, ◌≤◌, ◌<◌, ◌+◌, ◌-◌, ◌^◌, ◌++◌, List, ℕ, codes, Option, Some, map, length, slice_get, slice_index_or, IfOk, IfErr, IfSome, OnOk};
+ghost use Rattle.std.specs.Prelude.{◌≡◌, ◌≤◌, ◌<◌, ◌+◌, ◌-◌, ◌^◌, ◌++◌, List, codes, Some, length, slice_get, IfOk, IfErr, IfSome, OnOk};
 ghost use Rattle.fd_bytes.specs.Causes.{Rose};
 ghost use Rattle.fd_io.specs.Streams.{Takes, TakesFront};
 ghost use Rattle.fd_key.specs.Pairs as keys;
 ghost use Rattle.fd_key.specs.Pairs.{key_text};
 ghost use Rattle.fd_listing.specs.Lines.{line};
-ghost use Rattle.fd_schema.specs.Reading.{seen_place};
 ghost use Rattle.fd_request.specs.Expansion.{expand};
-ghost use Rattle.fd_outcome.specs.Asking.{Answer, answers};
 ghost use Rattle.fd_entries.specs.declared.batch.Pair.{Pair};
 ghost use Rattle.fd_entries.specs.Batches.{newest};
 ghost use Rattle.fd_schema.specs.Rules.{Texts, file_key};
-ghost use Rattle.fd_schema.specs.declared.place.Place.{Place};
+ghost use Rattle.fd_outcome.specs.Objects.{object};
+ghost use Rattle.fd_ahead.specs.Places.{AreIn};
+ghost use Rattle.fd_ahead.specs.Reading.{IsStock};
 ghost use Rattle.fd_retrieve.specs.Open.{IsDamagedAt, table_in};
-ghost use Rattle.fd_retrieve.specs.Located.{AreLocated, IsIn, IsLocated};
-ghost use Rattle.fd_retrieve.specs.Finding.{IsAnswered, IsAnsweredInPart, IsOne, IsOneInPart, OnDamaged, OnUnwritten, TookSome, asked_of_all, one_if};
+ghost use Rattle.fd_retrieve.specs.Located.{IsIn, IsLocated};
+ghost use Rattle.fd_retrieve.specs.Finding.{IsOne, IsOneInPart, OnDamaged, OnUnwritten, TookSome, one_if};
+ghost use Rattle.fd_retrieve.specs.Rounds.{IsRound};
 
-use crate::datasets::Datasets;
-use crate::locating::Located;
+use crate::datasets::write_found;
+use fd_ahead::{Located, Opened, ReadStock};
 use fd_disk::Sealed;
 use fd_io::{Sink, write_all};
 use fd_request::Request;
@@ -84,31 +85,33 @@ fn damaged_at<F, X>(located: Option<Located>, damage: Damage) -> Halt<F, X>
 
 /// Writes what is found for a key of a request, where it is located, or tells on the report that it isn't there, and tells
 /// which.
-fn answer_one<F: Send, X, Z: Sealed<F>, K: Sink<X>, E: Sink<X>>(
+fn answer_one<F: Send + Drop, X, Z: Sealed<F>, K: Sink<X>, E: Sink<X>>(
     alloc: Global,
     request: &Request,
     number: u32,
+    opened: &[Opened<F, Z>],
     located: Option<Located>,
-    datasets: &mut Datasets<F, Z>,
+    stock: &mut ReadStock<F, Z>,
     output: &mut K,
     report: &mut E,
 ) -> Result<bool, Halt<F, X>>
 where
     requires number { number < length (expand request.now) }
-    requires within { IfSome located (IsIn datasets.old) }
-    ensures one { IfOk result (λ is_found. (place : Texts) (key : List keys.Pair) (t : List (List Pair)) → IsLocated datasets.old place located → slice_get (expand request.now) number ≡ Some key → table_in datasets.old place.dataset ≡ Some t
+    requires within { IfSome located (IsIn opened.now) }
+    requires stock { IsStock opened.now stock.old }
+    ensures stock { IsStock opened.now stock.new }
+    ensures one { IfOk result (λ is_found. (place : Texts) (key : List keys.Pair) (t : List (List Pair)) → IsLocated opened.now place located → slice_get (expand request.now) number ≡ Some key → table_in opened.now place.dataset ≡ Some t
         → IsOne (newest t (file_key place)) key is_found (K.taken output.old) (K.taken output.new) (E.taken report.old) (E.taken report.new)) }
-    ensures halted { IfErr result (λ e. (place : Texts) (key : List keys.Pair) (t : List (List Pair)) → IsLocated datasets.old place located → slice_get (expand request.now) number ≡ Some key → table_in datasets.old place.dataset ≡ Some t
+    ensures halted { IfErr result (λ e. (place : Texts) (key : List keys.Pair) (t : List (List Pair)) → IsLocated opened.now place located → slice_get (expand request.now) number ≡ Some key → table_in opened.now place.dataset ≡ Some t
         → IsOneInPart (newest t (file_key place)) key (K.taken output.old) (K.taken output.new) (E.taken report.old) (E.taken report.new)) }
-    ensures same { datasets.new ≡ datasets.old }
     ensures output { K.faults output.old ≤ K.faults output.new }
     ensures calm { OnOk result (K.faults output.new ≡ K.faults output.old) }
     ensures report { E.faults report.old ≤ E.faults report.new }
     ensures cause { IfErr result (λ e. OnUnwritten e (Rose (K.faults output.old) (K.faults output.new)) (Rose (E.faults report.old) (E.faults report.new))) }
-    ensures damaged { IfErr result (λ e. OnDamaged e (IsDamagedAt datasets.old)) }
+    ensures damaged { IfErr result (λ e. OnDamaged e (IsDamagedAt opened.now)) }
     ensures grew { TookSome (E.taken report.old) (E.taken report.new) }
 {
-    match datasets.copy(alloc, located, output) {
+    match write_found(alloc, opened, located, stock, output) {
         Ok(Got::Found(_)) => Ok(true),
         Ok(Got::Miss) => match tell_miss(alloc, request, number, report) {
             Ok(()) => Ok(false),
@@ -129,38 +132,35 @@ fn one_more_if(found: u32, is_found: bool) -> u32
     if is_found { found + 1 } else { found }
 }
 
-/// Writes what is found for each key of a request, in its order, where it is located, tells each miss on the report, and
-/// counts both.
-pub(crate) fn answer_all<F: Send, X, Z: Sealed<F>, K: Sink<X>, E: Sink<X>>(
+/// Writes what is found for each key of a request from one number up to another, in its order, where it is located, tells
+/// each miss on the report, and counts with those that were found before.
+pub(crate) fn answer_some<F: Send + Drop, X, Z: Sealed<F>, K: Sink<X>, E: Sink<X>>(
     alloc: Global,
     request: &Request,
+    opened: &[Opened<F, Z>],
     located: &[Option<Located>],
-    datasets: &mut Datasets<F, Z>,
+    from: u32,
+    to: u32,
+    found: u32,
+    stock: &mut ReadStock<F, Z>,
     output: &mut K,
     report: &mut E,
-) -> Result<(u32, u32), Halt<F, X>>
+) -> Result<u32, Halt<F, X>>
 where
     requires count { length located.now ≡ length (expand request.now) }
-    requires within { (k : ℕ) (d : Option Located) → k < length located.now → IfSome (slice_index_or located.now k d) (IsIn datasets.old) }
-    ensures answered { IfOk result (λ r. (places : List Place) (xs : List Answer) → AreLocated datasets.old places located.now → answers (table_in datasets.old) (asked_of_all (expand request.now) (map seen_place places)) ≡ Some xs
-        → IsAnswered xs (length xs) (K.taken output.old) (K.taken output.new) (E.taken report.old) (E.taken report.new) r.0 r.1) }
-    ensures halted { IfErr result (λ e. (places : List Place) (xs : List Answer) → AreLocated datasets.old places located.now → answers (table_in datasets.old) (asked_of_all (expand request.now) (map seen_place places)) ≡ Some xs
-        → IsAnsweredInPart xs (K.taken output.old) (K.taken output.new) (E.taken report.old) (E.taken report.new)) }
-    ensures same { datasets.new ≡ datasets.old }
-    ensures output { K.faults output.old ≤ K.faults output.new }
-    ensures calm { OnOk result (K.faults output.new ≡ K.faults output.old) }
-    ensures report { E.faults report.old ≤ E.faults report.new }
-    ensures cause { IfErr result (λ e. OnUnwritten e (Rose (K.faults output.old) (K.faults output.new)) (Rose (E.faults report.old) (E.faults report.new))) }
-    ensures damaged { IfErr result (λ e. OnDamaged e (IsDamagedAt datasets.old)) }
-    ensures grew { TookSome (E.taken report.old) (E.taken report.new) }
+    requires within { AreIn opened.now located.now }
+    requires stock { IsStock opened.now stock.old }
+    requires range { (from ≤ to) × (to ≤ length located.now) × (found ≤ from) }
+    ensures stock { IsStock opened.now stock.new }
+    ensures round { IsRound opened.now (expand request.now) located.now from to found (object (K.taken output.old) (K.taken output.new) (K.faults output.old) (K.faults output.new)) (object (E.taken report.old) (E.taken report.new) (E.faults report.old) (E.faults report.new)) result }
 {
-    let mut found = 0;
-    for i in 0..request.count() {
+    let mut found = found;
+    for i in from..to {
         let one = located[i as usize];
-        match answer_one(alloc, request, i, one, datasets, output, report) {
+        match answer_one(alloc, request, i, opened, one, stock, output, report) {
             Ok(is_found) => found = one_more_if(found, is_found),
             Err(halt) => return Err(halt),
         }
     }
-    Ok((found, request.count() - found))
+    Ok(found)
 }

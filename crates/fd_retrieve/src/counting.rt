@@ -9,6 +9,8 @@ ghost use Rattle.fd_schema.specs.declared.place.Place.{Place};
 ghost use Rattle.fd_outcome.specs.Asking.{count_distinct};
 ghost use Rattle.fd_outcome.specs.Store.{Stays, has_table, table_at};
 ghost use Rattle.fd_outcome.specs.Trying.{tally_of};
+ghost use Rattle.fd_ahead.specs.Places.{AreIn};
+ghost use Rattle.fd_ahead.specs.Reading.{IsStock};
 ghost use Rattle.fd_retrieve.specs.Open.{IsDamagedAt, table_in};
 ghost use Rattle.fd_retrieve.specs.Located.{AreLocated, IsIn, IsLocated, OnLost};
 ghost use Rattle.fd_retrieve.specs.Looking.{IsLookedThrough};
@@ -16,12 +18,12 @@ ghost use Rattle.fd_retrieve.specs.Counting.{IsBrokenAmong, IsLength, IsOfKeys, 
 ghost use Rattle.fd_retrieve.specs.Stops.{OnTooMany};
 ghost use Rattle.fd_retrieve.specs.Tables.{datasets_in};
 
-use crate::datasets::Datasets;
-use crate::locating::{Located, Lost, locate};
-use crate::opened::Opened;
+use crate::datasets::write_found;
+use crate::locating::{Lost, locate};
 use crate::preparing::open_all;
 use crate::stop::{Broken, Stop};
 use crate::tables::tables_of;
+use fd_ahead::{Located, Opened, ReadStock, Stock};
 use fd_bytes::NoMemory;
 use fd_disk::{Folder, Sealed, Store};
 use fd_io::{Gate, Sink};
@@ -87,31 +89,30 @@ where
         Ok(opened) => opened,
         Err(stop) => return Err(stop),
     };
-    count_in(rt, alloc, Datasets::new(opened), places, workers, gate)
+    count_in(rt, alloc, &opened, places, workers, gate)
 }
 
 /// The same, in datasets that are open.
 fn count_in<F: Send + Drop, Z: Sealed<F>, G: Gate, R: Threads + Wait + Sync>(
     rt: &R,
     alloc: Global,
-    datasets: Datasets<F, Z>,
+    opened: &[Opened<F, Z>],
     places: &[Place],
     workers: u32,
     gate: &G,
 ) -> Result<Counted, Stop<F>>
 where
     requires workers { (1 ≤ workers) × (workers ≤ 8) }
-    ensures counted { IfOk result (λ r. (xs : List (Option (List ℕ))) → finds (table_in datasets) (map seen_place places.now) ≡ Some xs → IsTally r (tally_of xs)) }
-    ensures broken { IfErr result (λ e. IsLostIn datasets e) }
+    ensures counted { IfOk result (λ r. (xs : List (Option (List ℕ))) → finds (table_in opened.now) (map seen_place places.now) ≡ Some xs → IsTally r (tally_of xs)) }
+    ensures broken { IfErr result (λ e. IsLostIn opened.now e) }
 {
-    let mut datasets = datasets;
-    let located = match locate(rt, alloc, datasets.opened(), places, workers, gate) {
+    let located = match locate(rt, alloc, opened, places, workers, gate) {
         Ok(located) => located,
-        Err(lost) => return Err(stop_of(alloc, lost, datasets.opened())),
+        Err(lost) => return Err(stop_of(alloc, lost, opened)),
     };
-    match count_all(alloc, &located, &mut datasets) {
+    match count_all(alloc, opened, &located) {
         Ok(found) => Ok(found),
-        Err(lost) => Err(stop_of(alloc, lost, datasets.opened())),
+        Err(lost) => Err(stop_of(alloc, lost, opened)),
     }
 }
 
@@ -146,18 +147,20 @@ fn lost_at<F>(located: Option<Located>, damage: Damage) -> Lost<F>
 }
 
 /// Reads the bytes of a key, where it is located, and tells how many they are.
-fn count_one<F: Send, Z: Sealed<F>>(
+fn count_one<F: Send + Drop, Z: Sealed<F>>(
     alloc: Global,
+    opened: &[Opened<F, Z>],
     located: Option<Located>,
-    datasets: &mut Datasets<F, Z>,
+    stock: &mut ReadStock<F, Z>,
 ) -> Result<Option<u64>, Lost<F>>
 where
-    requires within { IfSome located (IsIn datasets.old) }
-    ensures one { IfOk result (λ o. (place : Texts) (t : List (List Pair)) → IsLocated datasets.old place located → table_in datasets.old place.dataset ≡ Some t → IsLength (newest t (file_key place)) o) }
-    ensures same { datasets.new ≡ datasets.old }
-    ensures damaged { IfErr result (λ e. OnLost e (IsDamagedAt datasets.old)) }
+    requires within { IfSome located (IsIn opened.now) }
+    requires stock { IsStock opened.now stock.old }
+    ensures stock { IsStock opened.now stock.new }
+    ensures one { IfOk result (λ o. (place : Texts) (t : List (List Pair)) → IsLocated opened.now place located → table_in opened.now place.dataset ≡ Some t → IsLength (newest t (file_key place)) o) }
+    ensures damaged { IfErr result (λ e. OnLost e (IsDamagedAt opened.now)) }
 {
-    match datasets.copy(alloc, located, &mut Unkept) {
+    match write_found(alloc, opened, located, stock, &mut Unkept) {
         Ok(Got::Found(len)) => Ok(Some(len)),
         Ok(Got::Miss) => Ok(None),
         Err(FetchFault::Disk(fault)) => Err(Lost::Disk(fault)),
@@ -190,24 +193,24 @@ fn with_key(so_far: Counted, len: Option<u64>) -> Option<Counted>
 }
 
 /// Reads the bytes of each key, where it is located, and counts.
-fn count_all<F: Send, Z: Sealed<F>>(
+fn count_all<F: Send + Drop, Z: Sealed<F>>(
     alloc: Global,
+    opened: &[Opened<F, Z>],
     located: &[Option<Located>],
-    datasets: &mut Datasets<F, Z>,
 ) -> Result<Counted, Lost<F>>
 where
-    requires within { (k : ℕ) (d : Option Located) → k < length located.now → IfSome (slice_index_or located.now k d) (IsIn datasets.old) }
-    ensures counted { IfOk result (λ r. (places : List Place) (xs : List (Option (List ℕ))) → AreLocated datasets.old places located.now → finds (table_in datasets.old) (map seen_place places) ≡ Some xs → IsTally r (tally_of xs)) }
-    ensures same { datasets.new ≡ datasets.old }
-    ensures damaged { IfErr result (λ e. OnLost e (IsDamagedAt datasets.old)) }
+    requires within { AreIn opened.now located.now }
+    ensures counted { IfOk result (λ r. (places : List Place) (xs : List (Option (List ℕ))) → AreLocated opened.now places located.now → finds (table_in opened.now) (map seen_place places) ≡ Some xs → IsTally r (tally_of xs)) }
+    ensures damaged { IfErr result (λ e. OnLost e (IsDamagedAt opened.now)) }
 {
+    let mut stock = Stock::new(alloc);
     let mut so_far = Counted {
         found: 0,
         bytes: 0,
         missed: 0,
     };
     for i in 0..located.len() {
-        let len = match count_one(alloc, located[i], datasets) {
+        let len = match count_one(alloc, opened, located[i], &mut stock) {
             Ok(len) => len,
             Err(lost) => return Err(lost),
         };

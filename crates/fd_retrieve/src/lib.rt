@@ -9,12 +9,14 @@ mod locating;
 mod opened;
 mod preparing;
 mod retrieving;
+mod rounds;
 mod stop;
 mod tables;
 mod telling;
 
 pub use counting::{Counted, count_found};
-pub use opened::{Opened, open};
+pub use fd_ahead::Opened;
+pub use opened::open;
 pub use preparing::unopened;
 pub use retrieving::retrieve;
 pub use stop::{Broken, Stop};

@@ -5,7 +5,7 @@ ghost use Rattle.fd_retrieve.specs.Located.{AreLocated, AreLocatedBy, AreNumbers
 ghost use Rattle.fd_retrieve.specs.Open.{IsDamagedAt};
 
 use crate::datasets::number_of;
-use crate::opened::Opened;
+use fd_ahead::{Located, Opened};
 use fd_bytes::NoMemory;
 use fd_disk::Sealed;
 use fd_finding::{Spot, find_all};
@@ -15,14 +15,6 @@ use fd_segment::{Damage, LensFault};
 use std::alloc::Global;
 use std::sync::Wait;
 use std::thread::Threads;
-
-/// Where the newest bytes of a key stand: the number of its dataset among those that are open, and the spot in its
-/// segments.
-#[derive(Clone, Copy, Debug, PartialEq, Eq)]
-pub(crate) struct Located {
-    pub(crate) number: usize,
-    pub(crate) spot: Spot,
-}
 
 /// Why keys aren't located.
 #[derive(Drop)]
@@ -99,7 +91,7 @@ where
         return Err(Lost::NoMemory);
     };
     let dataset = &opened[number];
-    match find_all(rt, alloc, &dataset.snapshot, &group, workers, gate) {
+    match find_all(rt, alloc, dataset.snapshot(), &group, workers, gate) {
         Ok(found) => {
             fill(numbers, number, &positions, &found, located);
             Ok(())

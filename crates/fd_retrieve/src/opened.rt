@@ -1,6 +1,5 @@
 // A dataset of the store that was opened, and given back.
-ghost use Rattle.std.specs.Prelude.{◌≡◌, ◌≤◌, List, ℕ, Option, Some, None, Ok, Err, false, is_some, length, IfOk, IfErr, IfSome, string_bytes};
-ghost use Rattle.std.specs.Str.{bytes_eq};
+ghost use Rattle.std.specs.Prelude.{◌≡◌, ◌≤◌, List, ℕ, Option, Some, None, Ok, Err, false, is_some, length, IfOk, IfErr, IfSome};
 ghost use Rattle.fd_disk.specs.Folders.{WhereTold, folder_at};
 ghost use Rattle.fd_entries.specs.declared.table.Entry.{Entry};
 ghost use Rattle.fd_entries.specs.Table.{listed};
@@ -12,53 +11,14 @@ ghost use Rattle.fd_outcome.specs.Store.{StaysFolder, Stays, has_table};
 ghost use Rattle.fd_retrieve.specs.Looking.{IsLookedAt, IsLookedThrough};
 ghost use Rattle.fd_retrieve.specs.Open.{IsOpenOf, IsOpenIn, StandsAsSaid};
 
+use fd_ahead::Opened;
 use fd_bytes::{Bytes, NoMemory};
 use fd_dataset::Snapshot;
 use fd_disk::{Disk, Down, Folder, Sealed, Store};
 use fd_recovery::{OpenFault, Recovered, recover};
 use fd_segment::Segment;
 use std::alloc::Global;
-use std::marker::Model;
 use std::sync::Arc;
-
-/// A dataset as it was when it was opened: its text, what its table listed, and the files of that.
-#[derive(Drop)]
-pub struct Opened<F: Send, Z: Sealed<F>> {
-    pub(crate) name: String,
-    pub(crate) snapshot: Snapshot<F, Z>,
-}
-
-impl<F: Send, Z: Sealed<F>> Model for Opened<F, Z> {
-    ghost use Rattle.std.specs.Prelude.{string_bytes};
-    ghost use Rattle.fd_retrieve.specs.Open.{Open};
-
-    ghost Value = { Open };
-
-    ghost view = { λ o. record { name = string_bytes o.name; shown = o.snapshot } };
-}
-
-impl<F: Send, Z: Sealed<F>> Opened<F, Z> {
-    /// Whether the dataset has this text.
-    pub(crate) fn is(&self, name: &str) -> bool
-        ensures { result ≡ bytes_eq name.now self.now.name }
-    {
-        name == self.name.as_str()
-    }
-
-    /// The dataset's text.
-    pub fn name(&self) -> &str
-        ensures { result.now ≡ self.now.name }
-    {
-        self.name.as_str()
-    }
-
-    /// What the table listed.
-    pub fn snapshot(&self) -> &Snapshot<F, Z>
-        ensures { result.now ≡ self.now.shown }
-    {
-        &self.snapshot
-    }
-}
 
 /// Opens a dataset of the store, whose folder isn't out, and gives it back; `None` exactly where there is no table.
 pub fn open<F: Send, S: Store<F>>(
@@ -132,5 +92,5 @@ where
     let text = Bytes::from_slice(alloc, name.as_bytes())?;
     let snapshot = Snapshot::of(alloc, text, segments)?;
     let name = String::from_str(alloc, name)?;
-    Ok(Opened { name, snapshot })
+    Ok(Opened::new(name, snapshot))
 }

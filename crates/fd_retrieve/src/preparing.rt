@@ -12,10 +12,10 @@ ghost use Rattle.fd_retrieve.specs.Ready.{AreOpen, IsBrokenOf, IsReady, IsUnopen
 ghost use Rattle.fd_retrieve.specs.Stops.{IsOfRequest, OfDataset, OnInput, OnRefusal, Says};
 
 use crate::asking::{places_of, request_of};
-use crate::datasets::Datasets;
-use crate::opened::{Opened, open};
+use crate::opened::open;
 use crate::stop::{Broken, Stop};
 use crate::tables::tables_of;
+use fd_ahead::Opened;
 use fd_disk::{Folder, Sealed, Store};
 use fd_io::Source;
 use fd_outcome::{Unruled, stored_schema};
@@ -29,7 +29,7 @@ use std::alloc::Global;
 pub(crate) struct Ready<F: Send, Z: Sealed<F>> {
     pub(crate) request: Request,
     pub(crate) places: Vec<Place>,
-    pub(crate) datasets: Datasets<F, Z>,
+    pub(crate) opened: Vec<Opened<F, Z>>,
 }
 
 /// Reads the request, and opens the datasets of its keys. Each is given back.
@@ -41,7 +41,7 @@ pub(crate) fn prepared<F: Send + Drop, X: Drop, S: Store<F>, I: Source<X>>(
 ) -> Result<Ready<F, <S::Folder as Folder<F>>::Sealed>, Stop<F>>
 where
     requires home { (n : List ℕ) → S.out store.old n ≡ false }
-    ensures prepared { IfOk result (λ r. IfSome (S.has store.old) (λ h. IfSome (I.left input.old) (λ octets. IsReady h octets r.request r.places.items r.datasets))) }
+    ensures prepared { IfOk result (λ r. IfSome (S.has store.old) (λ h. IfSome (I.left input.old) (λ octets. IsReady h octets r.request r.places.items r.opened.items))) }
     ensures count { IfOk result (λ r. length r.places.items ≡ length (expand r.request)) }
     ensures read { OnOk result (IfSome (I.left input.old) (λ octets. I.left input.new ≡ Some [])) }
     ensures says { IfErr result (λ e. IfSome (S.has store.old) (λ h. IfSome (I.left input.old) (λ octets. Says e h (asked_of h octets)))) }
@@ -64,7 +64,7 @@ where
         Ok(opened) => Ok(Ready {
             request,
             places,
-            datasets: Datasets::new(opened),
+            opened,
         }),
         Err(stop) => Err(stop),
     }

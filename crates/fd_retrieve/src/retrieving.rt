@@ -10,12 +10,13 @@ ghost use Rattle.fd_outcome.specs.Told.{ToldOrNoMemory};
 ghost use Rattle.fd_retrieve.specs.Ready.{Begins};
 ghost use Rattle.fd_retrieve.specs.Telling.{counts_status, counts_text};
 
-use crate::answering::{Halt, answer_all};
+use crate::answering::Halt;
 use crate::locating::{Lost, locate};
-use crate::opened::Opened;
 use crate::preparing::{Ready, prepared};
+use crate::rounds::answer_all;
 use crate::stop::Broken;
 use crate::telling::{tell_broken, tell_stop};
+use fd_ahead::Opened;
 use fd_disk::{Folder, Sealed, Store};
 use fd_io::{Gate, Sink, Source};
 use fd_outcome::{Status, tell, tell_disk_failed, tell_no_memory, tell_output_failed};
@@ -26,9 +27,10 @@ use std::sync::Wait;
 use std::thread::Threads;
 
 /// Writes the newest field of each key of the request that the input is, in the order of the request, and tells each key
-/// that has none, and how many were found and missed. So many workers look for the keys of each dataset, side by side; what
-/// is answered doesn't depend on their number. No folder of the store is out, and none is out afterwards: each
-/// dataset is given back as soon as it is opened, and nothing is made in the store.
+/// that has none, and how many were found and missed. So many workers look for the keys of each dataset, side by side, and
+/// so many read and check the fields ahead of the one that is written; what is answered doesn't depend on their number. No
+/// folder of the store is out, and none is out afterwards: each dataset is given back as soon as it is opened, and nothing
+/// is made in the store.
 pub fn retrieve<
     F: Send + Drop,
     X: Drop,
@@ -84,7 +86,7 @@ fn answered<
 where
     requires workers { (1 ≤ workers) × (workers ≤ 8) }
     requires count { length ready.places.items ≡ length (expand ready.request) }
-    ensures ran { (root : List ℕ) (before : Option Holdings) (faults : ℕ) (input : Object (List ℕ)) → Begins before (S.has store.old) faults (S.faults store.old) input ready.request ready.places.items ready.datasets
+    ensures ran { (root : List ℕ) (before : Option Holdings) (faults : ℕ) (input : Object (List ℕ)) → Begins before (S.has store.old) faults (S.faults store.old) input ready.request ready.places.items ready.opened.items
         → Ran (Retrieve root workers) result (object before (S.has store.new) faults (S.faults store.new)) input (object (K.taken output.old) (K.taken output.new) (K.faults output.old) (K.faults output.new)) (object (E.taken report.old) (E.taken report.new) (E.faults report.old) (E.faults report.new)) }
     ensures has { S.has store.new ≡ S.has store.old }
     ensures out { S.out store.new ≡ S.out store.old }
@@ -92,20 +94,22 @@ where
     let Ready {
         request,
         places,
-        mut datasets,
+        opened,
     } = ready;
-    let located = match locate(rt, alloc, datasets.opened(), &places, workers, gate) {
+    let located = match locate(rt, alloc, &opened, &places, workers, gate) {
         Ok(located) => located,
         Err(Lost::Disk(fault)) => {
             store.note(fault);
             return tell_disk_failed(report);
         }
         Err(Lost::Damaged(number, damage)) => {
-            return tell_damaged(alloc, &datasets.opened()[number], damage, report);
+            return tell_damaged(alloc, &opened[number], damage, report);
         }
         Err(Lost::NoMemory) => return tell_no_memory(report),
     };
-    match answer_all(alloc, &request, &located, &mut datasets, output, report) {
+    match answer_all(
+        rt, alloc, &request, &opened, &located, workers, output, report,
+    ) {
         Ok((found, missed)) => tell_counts(alloc, report, found, missed),
         Err(Halt::Disk(fault)) => {
             store.note(fault);
@@ -114,7 +118,7 @@ where
         Err(Halt::Unwritten(_)) => tell_output_failed(report),
         Err(Halt::Untold(_)) => Status::OutputFault,
         Err(Halt::Damaged(number, damage)) => {
-            tell_damaged(alloc, &datasets.opened()[number], damage, report)
+            tell_damaged(alloc, &opened[number], damage, report)
         }
         Err(Halt::NoMemory) => tell_no_memory(report),
     }

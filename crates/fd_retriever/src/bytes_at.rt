@@ -1,9 +1,9 @@
-//! The bytes at a place of a segment, copied.
-ghost use Rattle.std.specs.Prelude.{◌≡◌, ◌≤◌, ◌+◌, ◌-◌, ◌⊎◌, length, slice_get, Contains, IfOk, IfErr, IfSome, OnOk};
+//! The bytes at a place of a segment, copied, or read as a whole.
+ghost use Rattle.std.specs.Prelude.{◌≡◌, ◌≤◌, ◌+◌, ◌-◌, ◌⊎◌, length, slice_get, Contains, IfOk, IfErr, IfSome, IsSome, OnOk};
 ghost use Rattle.fd_bytes.specs.Causes.{Rose};
 ghost use Rattle.fd_segment.specs.Causes as segments;
 ghost use Rattle.fd_segment.specs.Causes.{IsBadFrame, IsBadIndex, IsFieldDamage};
-ghost use Rattle.fd_segment.specs.Copying.{IsCopied, IsCopiedInPart};
+ghost use Rattle.fd_segment.specs.Copying.{IsCopied, IsCopiedInPart, IsDigestedAt, IsPiece};
 ghost use Rattle.fd_segment.specs.Held.{Files, behind};
 ghost use Rattle.fd_retriever.specs.Kept.{AreThose, Kept};
 ghost use Rattle.fd_retriever.specs.Answers.{OnDamaged, OnWrite, UnlessWrite, Unwritten};
@@ -11,6 +11,7 @@ ghost use Rattle.fd_retriever.specs.Answers.{OnDamaged, OnWrite, UnlessWrite, Un
 use crate::checked::copy_checked;
 use crate::fault::FetchFault;
 use crate::lenses::Lenses;
+use fd_bytes::Bytes;
 use fd_dataset::Snapshot;
 use fd_disk::Sealed;
 use fd_io::Sink;
@@ -40,6 +41,7 @@ where
     requires those { AreThose lenses.old snapshot.now }
     ensures those { AreThose lenses.new snapshot.now }
     ensures ok { OnOk result (IfSome (slice_get snapshot.now (number - 1)) (λ s. IsCopied s.files.fields at len (K.taken sink.old) (K.taken sink.new))) }
+    ensures checked { OnOk result (IfSome (slice_get snapshot.now (number - 1)) (λ s. IsSome s.files.entry.digest → IsDigestedAt s.files.fields at len)) }
     ensures err { IfErr result (λ _. IfSome (slice_get snapshot.now (number - 1)) (λ s. IsCopiedInPart s.files.fields at len (K.taken sink.old) (K.taken sink.new))) }
     ensures unwritten { IfErr result (λ e. Unwritten e (K.taken sink.new ≡ K.taken sink.old)) }
     ensures damaged { IfErr result (λ e. OnDamaged e (λ d. IfSome (slice_get snapshot.now (number - 1)) (λ s. (IsBadIndex s.files.entry s.files.index d × IsBadFrame s.files.entry s.files.index d) ⊎ IsFieldDamage s.files.entry s.files.fields at len d))) }
@@ -55,6 +57,41 @@ where
         Err(LensFault::NoMemory) => return Err(FetchFault::NoMemory),
     };
     let answer = copy_checked(alloc, &mut lens, at, len, sink);
+    lenses.keep(number, lens);
+    answer
+}
+
+/// Reads the bytes at a place of the field file of the segment with this number, from 1, which are at most 1 MiB, and gives
+/// them once they were checked against their digest, where there is one. The segment is opened where it isn't kept, and kept
+/// afterwards. What is kept reads the files of the snapshot's own segments.
+///
+/// `Fault` comes only with the fault of a file's call in this reading, and `Damaged` only where the segment is opened, and
+/// the first eight bytes or the footer of its index aren't in the format, or where behind the bytes stands another digest
+/// than theirs.
+pub fn read_at<F: Send, Z: Sealed<F>>(
+    alloc: Global,
+    snapshot: &Snapshot<F, Z>,
+    number: u32,
+    lenses: &mut Lenses<F, Z>,
+    at: u64,
+    len: u64,
+) -> Result<Bytes, LensFault<F>>
+where
+    requires number { (1 ≤ number) × (number ≤ length snapshot.now) }
+    requires within { IfSome (slice_get snapshot.now (number - 1)) (λ s. at + len + behind s.files.entry ≤ s.files.entry.fields_len) }
+    requires few { len ≤ 1048576 }
+    requires those { AreThose lenses.old snapshot.now }
+    ensures those { AreThose lenses.new snapshot.now }
+    ensures ok { IfOk result (λ b. IfSome (slice_get snapshot.now (number - 1)) (λ s. IsPiece s.files.fields at len b)) }
+    ensures checked { OnOk result (IfSome (slice_get snapshot.now (number - 1)) (λ s. IsSome s.files.entry.digest → IsDigestedAt s.files.fields at len)) }
+    ensures damaged { IfErr result (λ e. segments.OnDamaged e (λ d. IfSome (slice_get snapshot.now (number - 1)) (λ s. (IsBadIndex s.files.entry s.files.index d × IsBadFrame s.files.entry s.files.index d) ⊎ IsFieldDamage s.files.entry s.files.fields at len d))) }
+{
+    let segment = snapshot.segment(number);
+    let mut lens = match opened(alloc, segment, number, lenses) {
+        Ok(lens) => lens,
+        Err(fault) => return Err(fault),
+    };
+    let answer = lens.read_field(alloc, at, len);
     lenses.keep(number, lens);
     answer
 }

@@ -9,7 +9,7 @@ mod laws;
 mod lenses;
 mod looking;
 
-pub use bytes_at::copy_at;
+pub use bytes_at::{copy_at, read_at};
 pub use fault::{FetchFault, Got};
 pub use fetching::fetch;
 pub use laws::{every_later_snapshot, every_snapshot};

@@ -34,7 +34,7 @@ returns-clause-counted g c =
     let stays : WhereTold has mid Stays = search rules in
     let opens : IfSome mid (λ h. AreOpen h names opened) = search rules in
     IfOk-weaker c.count_in.result _ _
-    (λ r h. counted_told r has mid c.args.places.now names opened stays tables opens (subst (λ os. (xs : List (Option (List ℕ))) → finds (table_in os) (map seen_place c.args.places.now) ≡ Some xs → IsTally r (tally_of xs)) c.new.ensures h))
+    (λ r h. counted_told r has mid c.args.places.now names opened stays tables opens (subst (λ os. (xs : List (Option (List ℕ))) → finds (table_in os) (map seen_place c.args.places.now) ≡ Some xs → IsTally r (tally_of xs)) c.deref-2.ensures.value h))
     c.count_in.ensures.counted
 
 pub returns-clause-broken : goal.returns-clause-broken
@@ -47,7 +47,7 @@ returns-clause-broken g c =
     let stays : WhereTold has mid Stays = search rules in
     let opens : IfSome mid (λ h. AreOpen h names opened) = search rules in
     IfErr-weaker c.count_in.result _ _
-    (λ e h. lost_told e has mid c.args.places.now names opened stays tables opens (subst (λ os. IsLostIn os e) c.new.ensures h))
+    (λ e h. lost_told e has mid c.args.places.now names opened stays tables opens (subst (λ os. IsLostIn os e) c.deref-2.ensures.value h))
     c.count_in.ensures.broken
 
 pub returns-clause-of : goal.returns-clause-of

@@ -1,5 +1,5 @@
 use Rattle.std.proofs.Common.{◌≡◌, ◌<◌, ℕ, length, get_or, Option, None}
-use Rattle.fd_retrieve.specs.declared.locating.Located.{Located}
+use Rattle.fd_ahead.specs.declared.located.Located.{Located}
 use Rattle.fd_retrieve.proofs.locating.nowhere.Given as goal
 
 abbrev pub invariant-loop-i : goal.invariant-loop-i

@@ -1,4 +1,4 @@
-use Rattle.std.proofs.Common.{rules, ◌≡◌, ◌≤◌, ◌<◌, filter, subst, sym, IfSome, Ok, length, string_bytes, arith}
+use Rattle.std.proofs.Common.{rules, ◌≡◌, ◌≤◌, ◌<◌, filter, subst, IfSome, Ok, length, string_bytes, arith}
 use Rattle.std.proofs.lemmas.List.{length-map}
 use Rattle.fd_disk.specs.Folders.{WhereTold}
 use Rattle.fd_request.specs.Expansion.{expand}
@@ -6,7 +6,7 @@ use Rattle.fd_schema.specs.Seen.{texts}
 use Rattle.fd_outcome.specs.Asking.{count_distinct}
 use Rattle.fd_outcome.specs.Store.{Stays, has_table}
 use Rattle.fd_retrieve.specs.Stops.{OnTooMany}
-use Rattle.fd_retrieve.specs.Ready.{AreOpen, IsBrokenOf, IsReady, asked_at, placed_of}
+use Rattle.fd_retrieve.specs.Ready.{AreOpen, IsBrokenOf, asked_at, placed_of}
 use Rattle.fd_retrieve.specs.Tables.{AreTables, datasets_in}
 use Rattle.fd_retrieve.proofs.PrepareLemmas.{broken_all, broken_told_says, many_of, many_told_says, ready_told}
 use Rattle.fd_retrieve.proofs.preparing.prepared.Goals as goal
@@ -35,7 +35,7 @@ returns-in-Ok-open_all-clause-prepared g c =
     let few : length names ≤ 2048 = omega (arith, length-map c.in-Ok-tables_of.names.items string_bytes, c.in-Ok-tables_of.ensures.few) in
     let stays : WhereTold has mid Stays = search rules in
     let opens : IfSome mid (λ h. AreOpen h names c.in-Ok-open_all.opened.items) = search rules in
-    subst (λ os. IfSome has (λ h. IfSome left (λ octets. IsReady h octets request places os))) (sym c.new.ensures) (ready_told has mid left request places names c.in-Ok-open_all.opened.items long is tables few stays opens)
+    ready_told has mid left request places names c.in-Ok-open_all.opened.items long is tables few stays opens
 
 pub returns-in-Err-open_all-clause-says : goal.returns-in-Err-open_all-clause-says
 returns-in-Err-open_all-clause-says g c =
