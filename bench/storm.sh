@@ -6,7 +6,8 @@
 #   - a field of a killed archive is found only with all fields that came before it in the same dataset;
 #   - each field that is found is one that was sent for its key, whole.
 # A killed session has four lanes that write, each its own keys, and four that read while they do; the same is asked of each
-# lane. One command in four isn't killed: its answer is held against what it wrote, and its fields count as acknowledged.
+# lane. Purges and wipes are killed too: a purge changes no answer, and a wipe takes a dataset's fields all or none, all where it
+# ended well. One command in four isn't killed: its answer is held against what it wrote, and its fields count as acknowledged.
 # SECONDS_LONG says how long (60), KILLS how many kills are enough (no limit), SEED where the numbers begin. FDB names the
 # program, where it isn't to be built here. The store is made anew once its table has so many entries that openings are slow.
 # No part of the gate.
@@ -134,6 +135,14 @@ def session_of():
     return ["session", store], chains
 
 
+def judge_wiped(before, dataset, have, ended):
+    """Why what was found after a wipe isn't right, or None: the fields of the dataset are all gone, or none is."""
+    gone = [0 if dataset_of(key) == dataset else number for key, number in enumerate(before)]
+    if have == gone or (have == before and not ended):
+        return None
+    return "a wipe took some of the fields" if not ended else "a wipe that ended well left fields"
+
+
 def judge(before, chains, have, ended):
     """Why what was found isn't right, or None. Along each chain the fields that are found end at one place: a field before it
     is its key's last one up to there, one behind it isn't found."""
@@ -158,14 +167,22 @@ def made_anew():
     return [0] * KEYS
 
 
-has_sessions = "session" in subprocess.run([fdb], stdin=subprocess.DEVNULL, capture_output=True).stderr.decode()
-state, spans = made_anew(), {"archive": 0.05, "session": 0.05}
+usage = subprocess.run([fdb], stdin=subprocess.DEVNULL, capture_output=True).stderr.decode()
+has_sessions, has_purges = "session" in usage, "purge" in usage
+state, spans = made_anew(), {"archive": 0.05, "session": 0.05, "purge": 0.02, "wipe": 0.02}
 count = {"killed": 0, "ended": 0, "torn": 0, "stores": 1, "some": 0}
 wrong = []
 start = time.time()
 while time.time() - start < seconds and count["killed"] < kills:
     kind = "session" if has_sessions and chance.random() < 0.5 else "archive"
-    words, chains = session_of() if kind == "session" else archive_of(chance.choice([10, 300, 3_000]))
+    if has_purges and chance.random() < 0.3:
+        kind = "wipe" if chance.random() < 0.2 else "purge"
+    dataset = chance.randrange(2)
+    if kind in ("purge", "wipe"):
+        words, chains = [kind, store, DATASETS[dataset]], []
+        open(f"{work}/input", "wb").close()
+    else:
+        words, chains = session_of() if kind == "session" else archive_of(chance.choice([10, 300, 3_000]))
     spared = chance.random() < 0.25
     status, _, report, span = run(words, f"{work}/input", None if spared else chance.random() * 1.2 * spans[kind])
     if status is None:
@@ -173,10 +190,14 @@ while time.time() - start < seconds and count["killed"] < kills:
     else:
         count["ended"] += 1
         spans[kind] = 0.8 * spans[kind] + 0.2 * span
-        if status != 0:
+        absent = kind in ("purge", "wipe") and report == "refused NoDataset\n"
+        if status != 0 and not absent:
             wrong.append(f"{kind} ended with {status}: {report[-300:]}")
     have, why = found()
-    why = why or judge(state, chains, have, status == 0)
+    if kind == "wipe":
+        why = why or judge_wiped(state, dataset, have, status == 0)
+    else:
+        why = why or judge(state, chains, have, status == 0)
     if why:
         wrong.append(f"after {count['killed']} kills, {kind} {'ended' if status is not None else 'killed'}: {why}")
         shutil.copytree(store, f"/tmp/storm-{time.time_ns()}")

@@ -252,4 +252,6 @@ starved_outlasts result has sm sn left im io c d m n told (Some (commands.List r
 starved_outlasts result has sm sn left im io c d m n told (Some (commands.Axes root)) = tt
 starved_outlasts result has sm sn left im io c d m n told (Some (commands.Stats root)) = tt
 starved_outlasts result has sm sn left im io c d m n told (Some (commands.Session root)) = tt
+starved_outlasts result has sm sn left im io c d m n told (Some (commands.Purge root dataset)) = tt
+starved_outlasts result has sm sn left im io c d m n told (Some (commands.Wipe root dataset)) = tt
 starved_outlasts result has sm sn left im io c d m n told (Some (commands.Trial root count workers)) = idle_trial result workers count has (told_undone NoMemory no_memory result c d m n refl told)

@@ -97,4 +97,6 @@ OutlastsCrash (commands.List root) s store input report = Unit {0}
 OutlastsCrash (commands.Axes root) s store input report = Unit {0}
 OutlastsCrash (commands.Stats root) s store input report = Unit {0}
 OutlastsCrash (commands.Session root) s store input report = Unit {0}
+OutlastsCrash (commands.Purge root dataset) s store input report = Unit {0}
+OutlastsCrash (commands.Wipe root dataset) s store input report = Unit {0}
 OutlastsCrash (commands.Trial root count workers) s store input report = WhereTold store.before store.now (λ h i. OutlastsTrial s workers count (trial_rules h.schema) h i)

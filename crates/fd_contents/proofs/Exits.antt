@@ -53,6 +53,8 @@ uses (commands.List root) is = tt
 uses (commands.Axes root) is = tt
 uses (commands.Stats root) is = tt
 uses (commands.Session root) is = absurd is
+uses (commands.Purge root dataset) is = absurd is
+uses (commands.Wipe root dataset) is = absurd is
 uses (commands.Trial root count workers) is = absurd is
 
 opens : (command : Command) → IsListing command → (h : Holdings) (names : List (List ℕ)) (octets name : List ℕ) → Contains names name → Opens command h names octets name
@@ -68,6 +70,8 @@ opens (commands.List root) is h names octets name c = c
 opens (commands.Axes root) is h names octets name c = c
 opens (commands.Stats root) is h names octets name c = c
 opens (commands.Session root) is h names octets name c = absurd is
+opens (commands.Purge root dataset) is h names octets name c = absurd is
+opens (commands.Wipe root dataset) is h names octets name c = absurd is
 opens (commands.Trial root count workers) is h names octets name c = absurd is
 
 -- what is broken stands there before
@@ -84,6 +88,8 @@ broken_there (commands.List root) is h i name broken x = x
 broken_there (commands.Axes root) is h i name broken x = x
 broken_there (commands.Stats root) is h i name broken x = x
 broken_there (commands.Session root) is h i name broken x = absurd is
+broken_there (commands.Purge root dataset) is h i name broken x = absurd is
+broken_there (commands.Wipe root dataset) is h i name broken x = absurd is
 broken_there (commands.Trial root count workers) is h i name broken x = absurd is
 
 early_is : (command : Command) → IsListing command → (h : Holdings) (names : List (List ℕ)) (octets : List ℕ) → early command h names octets ≡ output_early (outcome command h names octets)
@@ -99,6 +105,8 @@ early_is (commands.List root) is h names octets = refl
 early_is (commands.Axes root) is h names octets = refl
 early_is (commands.Stats root) is h names octets = refl
 early_is (commands.Session root) is h names octets = absurd is
+early_is (commands.Purge root dataset) is h names octets = absurd is
+early_is (commands.Wipe root dataset) is h names octets = absurd is
 early_is (commands.Trial root count workers) is h names octets = absurd is
 
 leaves_by : (command : Command) → IsListing command → (s : Status) (calm full : Type 0) (input left : Option (List ℕ)) (before now : Option Holdings) → WhereTold before now Stays → WhereTold before now (Leaves command s calm full input left)
@@ -114,6 +122,8 @@ leaves_by (commands.List root) is s calm full input left before now stays = stay
 leaves_by (commands.Axes root) is s calm full input left before now stays = stays
 leaves_by (commands.Stats root) is s calm full input left before now stays = stays
 leaves_by (commands.Session root) is s calm full input left before now stays = absurd is
+leaves_by (commands.Purge root dataset) is s calm full input left before now stays = absurd is
+leaves_by (commands.Wipe root dataset) is s calm full input left before now stays = absurd is
 leaves_by (commands.Trial root count workers) is s calm full input left before now stays = absurd is
 
 -- what holds where the objects tell
@@ -130,6 +140,8 @@ seen_at (commands.List root) input store P w octets h d e = w octets h d e
 seen_at (commands.Axes root) input store P w octets h d e = w octets h d e
 seen_at (commands.Stats root) input store P w octets h d e = subst (λ o. P o h) (sym d) (w h e)
 seen_at (commands.Session root) input store P w octets h d e = w octets h d e
+seen_at (commands.Purge root dataset) input store P w octets h d e = subst (λ o. P o h) (sym d) (w h e)
+seen_at (commands.Wipe root dataset) input store P w octets h d e = subst (λ o. P o h) (sym d) (w h e)
 seen_at (commands.Trial root count workers) input store P w octets h d e = subst (λ o. P o h) (sym d) (w h e)
 
 -- ---- how a listing ends, by its outcome

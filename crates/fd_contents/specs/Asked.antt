@@ -69,6 +69,8 @@ IsListing (commands.List root) = Unit {0}
 IsListing (commands.Axes root) = Unit {0}
 IsListing (commands.Stats root) = Unit {0}
 IsListing (commands.Session root) = ⊥
+IsListing (commands.Purge root dataset) = ⊥
+IsListing (commands.Wipe root dataset) = ⊥
 IsListing (commands.Trial root count workers) = ⊥
 
 -- of what the input and the store tell, as far as the command asks them
@@ -86,6 +88,8 @@ WhereSeen (commands.Retrieve root workers) input store P = (octets : List ℕ) (
 WhereSeen (commands.List root) input store P = (octets : List ℕ) (h : Holdings) → input ≡ Some octets → store ≡ Some h → P octets h
 WhereSeen (commands.Axes root) input store P = (octets : List ℕ) (h : Holdings) → input ≡ Some octets → store ≡ Some h → P octets h
 WhereSeen (commands.Session root) input store P = (octets : List ℕ) (h : Holdings) → input ≡ Some octets → store ≡ Some h → P octets h
+WhereSeen (commands.Purge root dataset) input store P = (h : Holdings) → store ≡ Some h → P [] h
+WhereSeen (commands.Wipe root dataset) input store P = (h : Holdings) → store ≡ Some h → P [] h
 
 -- A listing is about to begin, which writes these lines: the input was read to its end without a fault, where the command
 -- reads it, and the store, whose count of faults was m and is n, is as it was.

@@ -1,10 +1,16 @@
 //! The words of the command line, read.
 use crate::rows::agreed;
-use fd_words::{Command, read_command};
+use fd_words::{Command, Dataset, read_command};
 use std::alloc::Global;
 
-/// A command's name, its root, how many decimals, messages or pairs it has (of `pick`: of levels), and how many workers.
+/// A command's name, its root, how many decimals, messages or pairs it has (of `pick`: of levels; of `purge` and `wipe`: whether
+/// its dataset is `class=od`), and how many workers.
 type Told<'a> = (&'static str, &'a str, u32, u32);
+
+/// Tells by 1 that the dataset is `class=od`.
+fn is_class(dataset: &Dataset) -> u32 {
+    u32::from(dataset.as_str() == "class=od")
+}
 
 /// What a command asks for.
 fn told(command: &Command) -> Told<'_> {
@@ -22,6 +28,8 @@ fn told(command: &Command) -> Told<'_> {
         Command::Axes(root) => ("axes", root.as_str(), 0, 0),
         Command::Stats(root) => ("stats", root.as_str(), 0, 0),
         Command::Session(root) => ("session", root.as_str(), 0, 0),
+        Command::Purge(root, dataset) => ("purge", root.as_str(), is_class(dataset), 0),
+        Command::Wipe(root, dataset) => ("wipe", root.as_str(), is_class(dataset), 0),
         Command::Split => ("split", "", 0, 0),
         Command::Trial(root, count, workers) => ("trial", root.as_str(), *count, *workers),
     }
@@ -88,7 +96,10 @@ stats,s|stats,s,0,0\n\
 session,s|session,s,0,0\n\
 trial,s,--workers,4,400|trial,s,400,4\n\
 trial,s,1|trial,s,1,1\n\
-split|split,,0,0\n";
+split|split,,0,0\n\
+purge,s,class=od|purge,s,1,0\n\
+wipe,s,class=od|wipe,s,1,0\n\
+wipe,s,step=0|wipe,s,0,0\n";
 
 /// Words that have no form.
 const REFUSED: &str = "\
@@ -125,16 +136,26 @@ trial,s,1,--workers=0|\n\
 retrieve,s,--workers,0|\n\
 retrieve,s,--workers=9|\n\
 retrieve,s,--workers|\n\
+purge,s|\n\
+purge,s,|\n\
+purge,s,class|\n\
+purge,s,step=00|\n\
+purge,class=od,s|\n\
+purge,s,class=od,t|\n\
+purge,-s,class=od|\n\
+wipe|\n\
+wipe,s,levelist=850.0|\n\
+wipe,s,--dataset=class=od|\n\
 stats,--help|\n\
 stats,s,--|\n";
 
 #[test]
 fn reads_words(rt: HostRuntime) {
-    assert_eq!(rt; agreed(rt.alloc(), READ, is_row), 19);
+    assert_eq!(rt; agreed(rt.alloc(), READ, is_row), 22);
 }
 
 #[test]
 fn refuses_words(rt: HostRuntime) {
-    assert_eq!(rt; agreed(rt.alloc(), REFUSED, is_row), 35);
+    assert_eq!(rt; agreed(rt.alloc(), REFUSED, is_row), 45);
     assert!(rt; asks_for(rt.alloc(), &[], ""));
 }

@@ -31,6 +31,8 @@ Seen (commands.List root) input octets = input ≡ Some octets
 Seen (commands.Axes root) input octets = input ≡ Some octets
 Seen (commands.Stats root) input octets = octets ≡ []
 Seen (commands.Session root) input octets = input ≡ Some octets
+Seen (commands.Purge root dataset) input octets = octets ≡ []
+Seen (commands.Wipe root dataset) input octets = octets ≡ []
 Seen (commands.Trial root count workers) input octets = octets ≡ []
 
 module _ (P : List ℕ → Holdings → Holdings → Type 0) (input : Option (List ℕ)) (store after : Option Holdings) where
@@ -57,6 +59,8 @@ module _ (P : List ℕ → Holdings → Holdings → Type 0) (input : Option (Li
   where_seen (commands.Axes root) uses all = of_input input refl all
   where_seen (commands.Stats root) uses all = of_store [] store after refl refl (λ h i. all [] h i refl)
   where_seen (commands.Session root) uses all = tt
+  where_seen (commands.Purge root dataset) uses all = of_store [] store after refl refl (λ h i. all [] h i refl)
+  where_seen (commands.Wipe root dataset) uses all = of_store [] store after refl refl (λ h i. all [] h i refl)
   where_seen (commands.Trial root count workers) uses all = of_store [] store after refl refl (λ h i. all [] h i refl)
 
 module _ (command : Command) (uses : UsesStore command) (store : Object Holdings) (input output report : Object (List ℕ)) (result : Status) where

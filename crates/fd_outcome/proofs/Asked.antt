@@ -33,6 +33,8 @@ module _ (P Q : List ℕ → Holdings → Holdings → Type 0) (to : (octets : L
   where_asked (commands.Axes root) input store after p = of_both input store after p
   where_asked (commands.Stats root) input store after p = of_store [] store after p
   where_asked (commands.Session root) input store after p = tt
+  where_asked (commands.Purge root dataset) input store after p = of_store [] store after p
+  where_asked (commands.Wipe root dataset) input store after p = of_store [] store after p
   where_asked (commands.Trial root count workers) input store after p = of_store [] store after p
 
 -- a fact of all octets and all stores
@@ -63,4 +65,6 @@ module _ (P : List ℕ → Holdings → Holdings → Type 0) (all : (octets : Li
   asked_all (commands.Axes root) input store after = all_both input store after
   asked_all (commands.Stats root) input store after = all_store [] store after
   asked_all (commands.Session root) input store after = tt
+  asked_all (commands.Purge root dataset) input store after = all_store [] store after
+  asked_all (commands.Wipe root dataset) input store after = all_store [] store after
   asked_all (commands.Trial root count workers) input store after = all_store [] store after

@@ -34,6 +34,8 @@ broken_held (commands.List root) h i name broken x = damaged_held name (folder_a
 broken_held (commands.Axes root) h i name broken x = damaged_held name (folder_at h name) broken x
 broken_held (commands.Stats root) h i name broken x = damaged_held name (folder_at h name) broken x
 broken_held (commands.Session root) h i name broken x = damaged_held name (folder_at h name) broken x
+broken_held (commands.Purge root dataset) h i name broken x = damaged_held name (folder_at h name) broken x
+broken_held (commands.Wipe root dataset) h i name broken x = damaged_held name (folder_at h name) broken x
 broken_held (commands.Trial root count workers) h i name broken (inl x) = damaged_held name (folder_at h name) broken x
 broken_held (commands.Trial root count workers) h i name broken (inr x) = x.0
 

@@ -111,6 +111,8 @@ by_cause P p b q (causes.InRequest fault) = go (is_request_limit fault.kind)
     go false = p
 by_cause P p b q (causes.NoRule key) = p
 by_cause P p b q causes.TooManyDatasets = q
+by_cause P p b q causes.NoDataset = p
+by_cause P p b q (causes.WriterTooGreat entry writer) = q
 
 pub refusal_told : (refusal : Refusal) → CanTell (refusal_status refusal)
 refusal_told refusal = by_refusal CanTell tt tt refusal

@@ -13,6 +13,8 @@ use Rattle.fd_outcome.specs.Causes.{Cause}
 use Rattle.fd_outcome.specs.Store.{Adds, Grows, Sorted, StaysFolder, Stays, table_at}
 use Rattle.fd_outcome.specs.Asking.{rules_of}
 use Rattle.fd_outcome.specs.Trying.{trial_rules}
+use Rattle.fd_outcome.specs.Reclaiming.{InDataset, LeavesPurged, LeavesWiped}
+use Rattle.fd_purge.specs.Purging.{IsWhole, read_of}
 use Rattle.fd_outcome.specs.Ends.{EndsUnplanted, Leaves, LeavesBy, LeavesTried}
 
 pub stays_folder : (name : List ℕ) (v : Contents) → StaysFolder name v v
@@ -44,6 +46,20 @@ tried_idle : (s : Status) → IsIdle s → (calm full : Type 0) (workers : ℕ) 
 tried_idle s idle calm full workers (Ok rules) count h = inl (unplanted s idle, stays h)
 tried_idle s idle calm full workers (Err cause) count h = stays h
 
+whole_read : (v : Contents) → IsWhole v (read_of v)
+whole_read v = record { table = refl; files = λ n. refl }
+
+in_dataset : (dataset : List ℕ) (h : Holdings) (P : Contents → Contents → Type 0) → P (folder_at h dataset) (folder_at h dataset) → InDataset dataset P h h
+in_dataset dataset h P there = record { others = record { schema = refl; others = λ other apart. refl }; there = there }
+
+purged_idle : (s : Status) → IsIdle s → (dataset : List ℕ) (v : Contents) → LeavesPurged s dataset v v
+purged_idle s (inl is) dataset v = rw is (record { reads = inl (whole_read v); images = inl refl })
+purged_idle s (inr is) dataset v = rw is (record { reads = inl (whole_read v); images = inl refl })
+
+wiped_idle : (s : Status) → IsIdle s → (dataset : List ℕ) (v : Contents) → LeavesWiped s dataset v v
+wiped_idle s (inl is) dataset v = rw is (record { reads = inl (whole_read v); images = inl refl })
+wiped_idle s (inr is) dataset v = rw is (record { reads = inl (whole_read v); images = inl refl })
+
 leaves_idle : (command : Command) (s : Status) → IsIdle s → (calm full : Type 0) (input left : Option (List ℕ)) (h : Holdings) → Leaves command s calm full input left h h
 leaves_idle (commands.Pick wanted) s idle calm full input left h = refl
 leaves_idle commands.Describe s idle calm full input left h = refl
@@ -60,6 +76,8 @@ leaves_idle (commands.List root) s idle calm full input left h = stays h
 leaves_idle (commands.Axes root) s idle calm full input left h = stays h
 leaves_idle (commands.Stats root) s idle calm full input left h = stays h
 leaves_idle (commands.Session root) s idle calm full input left h = tt
+leaves_idle (commands.Purge root dataset) s idle calm full input left h = in_dataset dataset h (LeavesPurged s dataset) (purged_idle s idle dataset (folder_at h dataset))
+leaves_idle (commands.Wipe root dataset) s idle calm full input left h = in_dataset dataset h (LeavesWiped s dataset) (wiped_idle s idle dataset (folder_at h dataset))
 leaves_idle (commands.Trial root count workers) s idle calm full input left h = tried_idle s idle calm full workers (trial_rules h.schema) count h
 
 pub idle_store : (command : Command) (s : Status) → IsIdle s → (calm full : Type 0) (input left : Option (List ℕ)) (has : Option Holdings) → WhereTold has has (Leaves command s calm full input left)

@@ -90,6 +90,8 @@ module _ (h : Holdings) (names : List (List ℕ)) (input : List ℕ) where
   within (commands.Axes root) = whole_early (outcome (commands.Axes root) h names input)
   within (commands.Stats root) = whole_early (outcome (commands.Stats root) h names input)
   within (commands.Session root) = tt
+  within (commands.Purge root dataset) = nothing_within (outcome (commands.Purge root dataset) h names input)
+  within (commands.Wipe root dataset) = nothing_within (outcome (commands.Wipe root dataset) h names input)
   within (commands.Trial root count workers) = nothing_within (tried h count (trial_rules h.schema))
 
 -- nothing was read or written, and then the report took the line, or a front of it

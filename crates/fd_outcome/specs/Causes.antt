@@ -36,6 +36,10 @@ pub data Cause : Type 0 where
   NoRule : (key : List Pair) → Cause
   -- a 2,049th dataset
   TooManyDatasets : Cause
+  -- the dataset that is to be purged or wiped has no table
+  NoDataset : Cause
+  -- the first entry that is to be kept and whose writer is greater than a new table allows at its place, by its number
+  WriterTooGreat : (entry writer : ℕ) → Cause
 
 -- ---- limits
 
@@ -99,6 +103,8 @@ telling (InRequest fault) =
     else refused_so (codes "request " ++ decimal fault.at ++ blank (request_wrong_text fault.kind))
 telling (NoRule key) = refused_so (codes "NoRule " ++ key_text key)
 telling TooManyDatasets = limited_so (codes "TooMany 2049")
+telling NoDataset = refused_so (codes "NoDataset")
+telling (WriterTooGreat entry writer) = limited_so (codes "Writers " ++ decimal entry ++ blank (decimal writer))
 
 -- ---- damage
 

@@ -14,11 +14,12 @@ use Rattle.fd_outcome.specs.Store.{AreNames, IsFull, Grows, GrowsBy, Plants, Sta
 use Rattle.fd_outcome.specs.Asking.{Asked, asked_of, datasets_of, rules_of}
 use Rattle.fd_outcome.specs.Archiving.{Taken, taken, taken_of, pairs_for, datasets_in}
 use Rattle.fd_outcome.specs.Objects.{Object, Failed, Failures, IsCalm, failures}
+use Rattle.fd_outcome.specs.Reclaiming.{InDataset, LeavesPurged, LeavesWiped}
 use Rattle.fd_outcome.specs.Trying.{trial_given, trial_rules, trial_schema}
 use Rattle.fd_outcome.specs.Outcome.{Outcome, Early, outcome, early, generated_messages, nothing_early}
 
 abbrev pub usage : List ℕ
-usage = line (codes "usage: fdb pick describe values generate create archive retrieve list axes stats session trial split")
+usage = line (codes "usage: fdb pick describe values generate create archive retrieve list axes stats session trial purge wipe split")
 
 abbrev pub input_failed : List ℕ
 input_failed = line (codes "input failed")
@@ -122,7 +123,8 @@ abbrev pub AmongTaken : List keys.Pair → Result (List Rule) Cause → List ℕ
 AmongTaken given (Ok rules) input name = Contains (datasets_in (taken rules given input).stored) name
 AmongTaken given (Err cause) input name = ⊥
 
--- the command opens the dataset: `retrieve` those of the keys, `archive` and `trial` those of the messages, the listings all.
+-- the command opens the dataset: `retrieve` those of the keys, `archive` and `trial` those of the messages, the listings all,
+-- `purge` and `wipe` the one that they name.
 -- Of a session that is said with what it does.
 abbrev pub Opens : Command → Holdings → List (List ℕ) → List ℕ → List ℕ → Type 0
 Opens (commands.Pick wanted) h names input name = ⊥
@@ -137,6 +139,8 @@ Opens (commands.List root) h names input name = Contains names name
 Opens (commands.Axes root) h names input name = Contains names name
 Opens (commands.Stats root) h names input name = Contains names name
 Opens (commands.Session root) h names input name = ⊥
+Opens (commands.Purge root dataset) h names input name = name ≡ dataset
+Opens (commands.Wipe root dataset) h names input name = name ≡ dataset
 Opens (commands.Trial root count workers) h names input name = AmongTaken trial_given (trial_rules h.schema) (generated_messages count) name
 
 -- the command calls the store
@@ -153,6 +157,8 @@ UsesStore (commands.List root) = Unit {0}
 UsesStore (commands.Axes root) = Unit {0}
 UsesStore (commands.Stats root) = Unit {0}
 UsesStore (commands.Session root) = Unit {0}
+UsesStore (commands.Purge root dataset) = Unit {0}
+UsesStore (commands.Wipe root dataset) = Unit {0}
 UsesStore (commands.Trial root count workers) = Unit {0}
 
 -- the command stores fields
@@ -169,6 +175,8 @@ StoresFields (commands.List root) = ⊥
 StoresFields (commands.Axes root) = ⊥
 StoresFields (commands.Stats root) = ⊥
 StoresFields (commands.Session root) = Unit {0}
+StoresFields (commands.Purge root dataset) = ⊥
+StoresFields (commands.Wipe root dataset) = ⊥
 StoresFields (commands.Trial root count workers) = Unit {0}
 
 -- This is broken in the dataset before the command. `trial` looks for fields behind what it stored, and may meet then what is
@@ -186,6 +194,8 @@ IsBroken (commands.List root) h i name broken = Stands name (folder_at h name) b
 IsBroken (commands.Axes root) h i name broken = Stands name (folder_at h name) broken
 IsBroken (commands.Stats root) h i name broken = Stands name (folder_at h name) broken
 IsBroken (commands.Session root) h i name broken = Stands name (folder_at h name) broken
+IsBroken (commands.Purge root dataset) h i name broken = Stands name (folder_at h name) broken
+IsBroken (commands.Wipe root dataset) h i name broken = Stands name (folder_at h name) broken
 IsBroken (commands.Trial root count workers) h i name broken = Stands name (folder_at h name) broken ⊎ ((table_at h name ≡ None) × Stands name (folder_at i name) broken)
 
 -- the line names what is broken in a dataset that the command opens
@@ -227,6 +237,8 @@ WhereAsked (commands.List root) input store after P = IfSome input (λ octets. I
 WhereAsked (commands.Axes root) input store after P = IfSome input (λ octets. IfSome store (λ h. IfSome after (P octets h)))
 WhereAsked (commands.Stats root) input store after P = IfSome store (λ h. IfSome after (P [] h))
 WhereAsked (commands.Session root) input store after P = Unit {0}
+WhereAsked (commands.Purge root dataset) input store after P = IfSome store (λ h. IfSome after (P [] h))
+WhereAsked (commands.Wipe root dataset) input store after P = IfSome store (λ h. IfSome after (P [] h))
 WhereAsked (commands.Trial root count workers) input store after P = IfSome store (λ h. IfSome after (P [] h))
 
 -- What a status says of a command, of its input and of its store.
@@ -266,11 +278,13 @@ Calm command NoMemory input output report = Unit {0}
 Calm command Damaged input output report = Unit {0}
 Calm command Limit input output report = AreCalm input output ⊎ (StoresFields command × Takes report.before report.now table_full)
 
--- At 0 and 1 the input was read to its end. `generate`, `stats` and `trial` read none of it.
+-- At 0 and 1 the input was read to its end. `generate`, `stats`, `trial`, `purge` and `wipe` read none of it.
 abbrev pub ReadsOut : Command → Option (List ℕ) → Option (List ℕ) → Type 0
 ReadsOut (commands.Generate count) before after = after ≡ before
 ReadsOut (commands.Stats root) before after = after ≡ before
 ReadsOut (commands.Trial root count workers) before after = after ≡ before
+ReadsOut (commands.Purge root dataset) before after = after ≡ before
+ReadsOut (commands.Wipe root dataset) before after = after ≡ before
 ReadsOut (commands.Session root) before after = IfSome before (λ octets. after ≡ Some [])
 ReadsOut (commands.Pick wanted) before after = IfSome before (λ octets. after ≡ Some [])
 ReadsOut commands.Describe before after = IfSome before (λ octets. after ≡ Some [])
@@ -364,7 +378,7 @@ LeavesTried s calm full workers (Ok rules) count h i =
 LeavesTried s calm full workers (Err cause) count h i = Stays h i
 
 -- What a command leaves of the store: a command over a stream doesn't call it, and a command that only reads leaves the
--- schema, each table and each file as they were.
+-- schema, each table and each file as they were. `purge` and `wipe` change one dataset.
 abbrev pub Leaves : Command → Status → Type 0 → Type 0 → Option (List ℕ) → Option (List ℕ) → Holdings → Holdings → Type 0
 Leaves (commands.Pick wanted) s calm full input left h i = i ≡ h
 Leaves commands.Describe s calm full input left h i = i ≡ h
@@ -378,4 +392,6 @@ Leaves (commands.List root) s calm full input left h i = Stays h i
 Leaves (commands.Axes root) s calm full input left h i = Stays h i
 Leaves (commands.Stats root) s calm full input left h i = Stays h i
 Leaves (commands.Session root) s calm full input left h i = Unit {0}
+Leaves (commands.Purge root dataset) s calm full input left h i = InDataset dataset (LeavesPurged s dataset) h i
+Leaves (commands.Wipe root dataset) s calm full input left h i = InDataset dataset (LeavesWiped s dataset) h i
 Leaves (commands.Trial root count workers) s calm full input left h i = LeavesTried s calm full workers (trial_rules h.schema) count h i

@@ -13,6 +13,7 @@ pub mod Asking
 pub mod Archiving
 pub mod Trying
 pub mod Rows
+pub mod Reclaiming
 pub mod Outcome
 pub mod Again
 pub mod Objects

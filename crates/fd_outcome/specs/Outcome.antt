@@ -28,6 +28,7 @@ use Rattle.fd_outcome.specs.Asking.{Answer, Asked, rules_of, partial_in, asked_o
 use Rattle.fd_outcome.specs.Archiving.{Taken, taken, archived_line, datasets_in}
 use Rattle.fd_outcome.specs.Trying.{tally_of, trial_answers, trial_given, trial_line, trial_rules}
 use Rattle.fd_outcome.specs.Rows.{list_text, axes_text, stats_text}
+use Rattle.fd_outcome.specs.Reclaiming.{purge_told, wipe_told}
 
 -- what goes to the output, what goes to the report, and the status
 pub record Outcome : Type 0 where
@@ -153,6 +154,16 @@ abbrev pub stats_printed : Holdings → List (List ℕ) → Result (List Rule) C
 stats_printed h names (Ok rules) = option_map printed (stats_lines h names)
 stats_printed h names (Err cause) = Some (refused cause)
 
+-- a line on the report, or why there is none
+abbrev pub reported : Result (List ℕ) Cause → Outcome
+reported (Ok text) = record { output = []; report = text; status = Done }
+reported (Err cause) = refused cause
+
+-- `purge` and `wipe` tell what they make of the entries of one dataset
+abbrev pub reclaimed : Result (List Rule) Cause → Option (Result (List ℕ) Cause) → Option Outcome
+reclaimed (Ok rules) text = option_map reported text
+reclaimed (Err cause) text = Some (refused cause)
+
 -- What the command makes of its input and of what the store holds, whose datasets have these names. Nothing is said where
 -- a dataset that it reads is damaged.
 abbrev pub outcome : Command → Holdings → List (List ℕ) → List ℕ → Option Outcome
@@ -168,10 +179,12 @@ outcome (commands.List root) h names input = printed_of list_text h names (rules
 outcome (commands.Axes root) h names input = printed_of axes_text h names (rules_of h.schema then λ rules. partial_in input)
 outcome (commands.Stats root) h names input = stats_printed h names (rules_of h.schema)
 outcome (commands.Session root) h names input = None
+outcome (commands.Purge root dataset) h names input = reclaimed (rules_of h.schema) (purge_told dataset (folder_at h dataset))
+outcome (commands.Wipe root dataset) h names input = reclaimed (rules_of h.schema) (wipe_told dataset (folder_at h dataset))
 outcome (commands.Trial root count workers) h names input = tried h count (trial_rules h.schema)
 
 -- What the command may have written, or fronts of it, where it stops before its end: `retrieve` of what it finds and of
--- the lines of its misses; a listing of its lines; `split` of its fields; `generate` of its messages; `pick`, `create`, `archive` and `trial` nothing.
+-- the lines of its misses; a listing of its lines; `split` of its fields; `generate` of its messages; `pick`, `create`, `archive`, `trial`, `purge` and `wipe` nothing.
 pub record Early : Type 0 where
   pub output : List ℕ
   pub report : List ℕ
@@ -207,4 +220,6 @@ early (commands.List root) h names input = output_early (outcome (commands.List 
 early (commands.Axes root) h names input = output_early (outcome (commands.Axes root) h names input)
 early (commands.Stats root) h names input = output_early (outcome (commands.Stats root) h names input)
 early (commands.Session root) h names input = nothing_early
+early (commands.Purge root dataset) h names input = nothing_early
+early (commands.Wipe root dataset) h names input = nothing_early
 early (commands.Trial root count workers) h names input = nothing_early

@@ -11,7 +11,7 @@ mod tests;
 mod top;
 
 use fd_bytes::NoMemory;
-use fd_disk::Store;
+use fd_disk::{Renew, Store};
 use fd_disk_real::RealStore;
 use fd_io::{Gate, StdSink, StdSource};
 use fd_outcome::{Status, tell_no_memory};
@@ -59,6 +59,7 @@ fn serve<F: Send + Drop, S: Store<F>, R: Threads + Wait + Sync>(
     store: &mut S,
 ) -> Status
 where
+    S::Folder: Renew<F>,
     requires home { (name : List ℕ) → S.out store.old name ≡ false }
     ensures home { (name : List ℕ) → S.out store.new name ≡ false }
 {

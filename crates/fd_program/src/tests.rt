@@ -2,7 +2,10 @@
 mod cases;
 mod crashes;
 mod damage;
+mod large;
 mod octets;
+mod reclaiming;
+mod refusals;
 mod sessions;
 mod split;
 mod stores;

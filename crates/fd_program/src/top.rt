@@ -14,9 +14,10 @@ ghost use Rattle.fd_session.specs.Sessions.{OfSession, SessionRan};
 
 use fd_archive::archive;
 use fd_contents::{axes, list, stats};
-use fd_disk::{Folder, Sealed, Shelf, Store};
+use fd_disk::{Folder, Renew, Sealed, Shelf, Store};
 use fd_io::{Gate, Sink, Source};
 use fd_outcome::{Listing, Status, tell, tell_no_memory};
+use fd_reclaim::{purge, wipe};
 use fd_retrieve::retrieve;
 use fd_session::session;
 use fd_streams::{create, generate, pick, split, write_list};
@@ -27,7 +28,7 @@ use std::sync::Wait;
 use std::thread::Threads;
 
 const USAGE: &str =
-    "usage: fdb pick describe values generate create archive retrieve list axes stats session trial split\n";
+    "usage: fdb pick describe values generate create archive retrieve list axes stats session trial purge wipe split\n";
 
 /// Runs the command that the words after the program's name ask for, over a store, an input, an output and a report, each
 /// of which may be real or an object in memory. The gate is passed by what runs in threads of its own. The status tells how
@@ -53,6 +54,7 @@ pub fn fdb<
     gate: &G,
 ) -> Status
 where
+    S::Folder: Renew<F>,
     requires home { (name : List ℕ) → S.out store.old name ≡ false }
 
     // What each status tells of the words, of the input, of the store, and of what was written: for a command, by what it
@@ -125,6 +127,7 @@ fn run<
     gate: &G,
 ) -> Status
 where
+    S::Folder: Renew<F>,
     requires home { (name : List ℕ) → S.out store.old name ≡ false }
     requires within { IsWithinLimits command.now }
     ensures ran { Ran command.now result (object (S.has store.old) (S.has store.new) (S.faults store.old) (S.faults store.new)) (object (I.left input.old) (I.left input.new) (I.faults input.old) (I.faults input.new)) (object (K.taken output.old) (K.taken output.new) (K.faults output.old) (K.faults output.new)) (object (E.taken report.old) (E.taken report.new) (E.faults report.old) (E.faults report.new)) }
@@ -156,5 +159,7 @@ where
         Command::Trial(root, count, workers) => {
             trial(rt, alloc, root, *count, *workers, store, report, gate)
         }
+        Command::Purge(root, dataset) => purge(alloc, root, dataset, store, report),
+        Command::Wipe(root, dataset) => wipe(alloc, root, dataset, store, report),
     }
 }

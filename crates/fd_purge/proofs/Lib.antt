@@ -5,3 +5,4 @@ mod HeldLemmas
 mod KeptLemmas
 mod KeyLemmas
 mod PurgeLemmas
+mod StoreLemmas

@@ -4,3 +4,4 @@ pub mod Dividing
 pub mod Kept
 pub mod Purging
 pub mod Reads
+pub mod Stored

@@ -6,6 +6,7 @@ ghost use Rattle.fd_entries.specs.Table.{listed};
 ghost use Rattle.fd_recovery.specs.Damages.{IsFirst, damages};
 ghost use Rattle.fd_recovery.specs.Recovered.{WithTable, with_firm_table};
 ghost use Rattle.fd_purge.specs.Causes.{NoWriters, OnDamaged, OnNotATable, OnWriters};
+ghost use Rattle.fd_purge.specs.Stored.{IsLeftFirmly};
 ghost use Rattle.fd_purge.specs.Purging.{HasWiped, IsDamagedIn, IsLeftByPurge, IsLeftByWipe, IsOver, IsPurged, read_of};
 
 use crate::{PurgeFault, Purged, purge, wipe};
@@ -26,6 +27,7 @@ where
     ensures unwritten { IfOk result (λ o. IfSome o (λ p. p.dropped ≡ 0 → IfSome (S.has store.old) (λ h. IfSome (S.has store.new) (λ i. folder_at i dataset.now ≡ with_firm_table (folder_at h dataset.now))))) }
     ensures untouched { IfOk result (λ o. o ≡ None → IfSome (S.has store.old) (λ h. IfSome (S.has store.new) (λ i. folder_at i dataset.now ≡ folder_at h dataset.now))) }
     ensures refused { OnErr result (IfSome (S.has store.old) (λ h. MatchOption (S.has store.new) ⊥ (λ i. IsLeftByPurge dataset.now (folder_at h dataset.now) (read_of (folder_at i dataset.now))))) }
+    ensures images { IfSome (S.has store.old) (λ h. MatchOption (S.has store.new) ⊥ (λ i. IsLeftFirmly (IsLeftByPurge dataset.now (folder_at h dataset.now)) (folder_at h dataset.now) (folder_at i dataset.now))) }
     ensures not_a_table { IfErr result (λ e. OnNotATable e (λ fault. IfSome (S.has store.old) (λ h. WithTable (folder_at h dataset.now).table (λ f. listed dataset.now f.reads ≡ Err fault)))) }
     ensures damaged { IfErr result (λ e. OnDamaged e (λ d. IfSome (S.has store.old) (λ h. IsDamagedIn dataset.now d (folder_at h dataset.now)))) }
     ensures writers { IfErr result (λ e. OnWriters e (λ entry writer. IfSome (S.has store.old) (λ h. IsOver dataset.now entry writer (folder_at h dataset.now)))) }
@@ -56,6 +58,7 @@ where
     ensures wiped { IfOk result (λ o. IfSome o (λ n. IfSome (S.has store.old) (λ h. IfSome (S.has store.new) (λ i. HasWiped dataset.now (folder_at h dataset.now) (folder_at i dataset.now) n)))) }
     ensures untouched { IfOk result (λ o. o ≡ None → IfSome (S.has store.old) (λ h. IfSome (S.has store.new) (λ i. folder_at i dataset.now ≡ folder_at h dataset.now))) }
     ensures refused { OnErr result (IfSome (S.has store.old) (λ h. MatchOption (S.has store.new) ⊥ (λ i. IsLeftByWipe dataset.now (folder_at h dataset.now) (read_of (folder_at i dataset.now))))) }
+    ensures images { IfSome (S.has store.old) (λ h. MatchOption (S.has store.new) ⊥ (λ i. IsLeftFirmly (IsLeftByWipe dataset.now (folder_at h dataset.now)) (folder_at h dataset.now) (folder_at i dataset.now))) }
     ensures not_a_table { IfErr result (λ e. OnNotATable e (λ fault. IfSome (S.has store.old) (λ h. WithTable (folder_at h dataset.now).table (λ f. listed dataset.now f.reads ≡ Err fault)))) }
     ensures damaged { IfErr result (λ e. OnDamaged e (λ d. IfSome (S.has store.old) (λ h. WithTable (folder_at h dataset.now).table (λ f. (es : List Entry) × (listed dataset.now f.reads ≡ Ok es) × IsFirst d (damages (folder_at h dataset.now).files es))))) }
     ensures never { IfErr result NoWriters }

@@ -9,4 +9,5 @@ mod script;
 mod words;
 
 pub use fault::{ScriptFault, ScriptKind};
+pub use pairs::is_dataset;
 pub use script::{Lane, Script, Step};

@@ -64,7 +64,7 @@ fn are_spelled(alloc: Global, text: &str) -> Result<bool, NoMemory>
 
 /// Tells that a text is that of a dataset: at most 255 bytes of pairs in their one spelling, joined by commas.
 #[tactic(auto, unfolding(crate::specs::Grammar::is_dataset))]
-pub(crate) fn is_dataset(alloc: Global, text: &str) -> Result<bool, NoMemory>
+pub fn is_dataset(alloc: Global, text: &str) -> Result<bool, NoMemory>
     ensures { IfOk result (λ b. b ≡ is_dataset text.now) }
 {
     if text.len() > 255 {

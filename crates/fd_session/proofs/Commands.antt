@@ -60,6 +60,8 @@ of_session (commands.List root) P p = tt
 of_session (commands.Axes root) P p = tt
 of_session (commands.Stats root) P p = tt
 of_session (commands.Session root) P p = p
+of_session (commands.Purge root dataset) P p = tt
+of_session (commands.Wipe root dataset) P p = tt
 of_session (commands.Trial root count workers) P p = tt
 
 -- a run that ends for want of memory before it has done anything

@@ -133,4 +133,6 @@ OfSession (commands.List root) P = Unit {0}
 OfSession (commands.Axes root) P = Unit {0}
 OfSession (commands.Stats root) P = Unit {0}
 OfSession (commands.Session root) P = P
+OfSession (commands.Purge root dataset) P = Unit {0}
+OfSession (commands.Wipe root dataset) P = Unit {0}
 OfSession (commands.Trial root count workers) P = Unit {0}

@@ -1,10 +1,11 @@
 -- What the words of the command line ask for.
-use Rattle.std.specs.Prelude.{ℕ, ◌≤◌, ◌<◌, IfSome, Bool, false, not, ◌==◌, ◌^◌, nat_lt, length, List, [], ◌∷◌, codes, Option, Some, None, unwrap_or, option_and_then, option_map, is_some, ◌||◌, if◌then◌else◌, Result, Ok, Err}
+use Rattle.std.specs.Prelude.{ℕ, ◌≤◌, ◌<◌, IfSome, Bool, false, not, ◌==◌, ◌^◌, nat_lt, ◌&&◌, length, List, [], ◌∷◌, codes, Option, Some, None, unwrap_or, option_and_then, option_map, is_some, ◌||◌, if◌then◌else◌, Result, Ok, Err}
 use Rattle.std.specs.Str.{bytes_eq}
 use Rattle.std.specs.Map.{lookup}
 use Rattle.fd_key.specs.Pairs.{Pair, text_of}
 use Rattle.fd_spelling.specs.Canonical.{pair_of}
 use Rattle.fd_key.specs.Given.{Refusal, given_of}
+use Rattle.fd_script.specs.Grammar.{is_dataset}
 use Rattle.fd_words.specs.declared.command.Command.{Command}
 use Rattle.fd_words.specs.declared.command.Command.TheVariants as commands
 use Rattle.fd_words.specs.Numbers.{count_number, decimals_number, worker_number}
@@ -116,6 +117,20 @@ trial_of (word ∷ []) workers = None
 trial_of (word ∷ (number ∷ [])) workers = option_and_then (trial_with (count_number number) workers) (root_of (word ∷ []))
 trial_of (word ∷ (number ∷ (other ∷ words))) workers = None
 
+-- the root and the text of a dataset, where two words stand alone and can be these, in this order
+abbrev pub root_and_dataset : List Text → Option (Text × Text)
+root_and_dataset [] = None
+root_and_dataset (word ∷ []) = None
+root_and_dataset (word ∷ (text ∷ [])) = if is_root word && is_dataset text then Some (word, text) else None
+root_and_dataset (word ∷ (text ∷ (other ∷ words))) = None
+
+-- `purge` and `wipe` have a root and a dataset
+abbrev pub purge_of : List Text → Option Command
+purge_of words = option_map (λ p. commands.Purge p.0 p.1) (root_and_dataset words)
+
+abbrev pub wipe_of : List Text → Option Command
+wipe_of words = option_map (λ p. commands.Wipe p.0 p.1) (root_and_dataset words)
+
 -- The commands that have a root. A command has its line here, and its words their form, once it is written.
 abbrev pub rooted : Text → Option (List Pair) → Option ℕ → Text → Option Command
 rooted name given workers root =
@@ -133,6 +148,8 @@ command_said name s =
     else if bytes_eq name (codes "generate") then generate_of s.alone
     else if bytes_eq name (codes "trial") then trial_of s.alone (workers_in (lookup (bytes_eq (codes "workers")) s.options))
     else if bytes_eq name (codes "split") then split_of s.alone
+    else if bytes_eq name (codes "purge") then purge_of s.alone
+    else if bytes_eq name (codes "wipe") then wipe_of s.alone
     else option_and_then (rooted name (given_in (lookup (bytes_eq (codes "with")) s.options)) (workers_in (lookup (bytes_eq (codes "workers")) s.options))) (root_of s.alone)
 
 -- The command that the words ask for, or none where they have no form: a command's name, then its options, each at most
@@ -154,4 +171,6 @@ IsWithinLimits (commands.List root) = Unit {0}
 IsWithinLimits (commands.Axes root) = Unit {0}
 IsWithinLimits (commands.Stats root) = Unit {0}
 IsWithinLimits (commands.Session root) = Unit {0}
+IsWithinLimits (commands.Purge root dataset) = Unit {0}
+IsWithinLimits (commands.Wipe root dataset) = Unit {0}
 IsWithinLimits (commands.Trial root count workers) = ((0 < count) × (count ≤ 100000)) × ((1 ≤ workers) × (workers ≤ 8))

@@ -7,8 +7,9 @@ ghost use Rattle.fd_words.specs.Texts.{texts};
 ghost use Rattle.fd_words.specs.Reading.{Said, Tells};
 ghost use Rattle.fd_words.specs.Grammar.{options_of};
 ghost use Rattle.fd_words.specs.declared.command.Command.TheVariants.{Retrieve};
-ghost use Rattle.fd_words.specs.Words.{archive_of, command_of, command_said, listing_of, rooted, wanted_pairs, pick_of, describe_of, values_of, is_root, root_of, given_in, given_read, workers_in, IsWithinLimits, generate_of, trial_of, split_of};
+ghost use Rattle.fd_words.specs.Words.{archive_of, command_of, command_said, listing_of, rooted, wanted_pairs, pick_of, describe_of, values_of, is_root, root_of, given_in, given_read, workers_in, IsWithinLimits, generate_of, trial_of, split_of, root_and_dataset, purge_of, wipe_of};
 
+use crate::dataset::Dataset;
 use crate::numbers::{count_number, decimals_number, worker_number};
 use crate::parse::{alone, option_text, parse};
 use crate::root::Root;
@@ -16,6 +17,7 @@ use crate::wanted::Wanted;
 use clap::ArgMatches;
 use fd_bytes::NoMemory;
 use fd_key::{Given, GivenFault, ValueFault, read_pair};
+use fd_script::is_dataset;
 use std::alloc::Global;
 
 /// What the words ask for.
@@ -47,6 +49,10 @@ pub enum Command {
     Trial(Root, u32, u32),
     /// All fields of a stream, each as a message of its own.
     Split,
+    /// To drop the entries of a dataset that later ones mask, with their files.
+    Purge(Root, Dataset),
+    /// To drop all entries of a dataset, with their files.
+    Wipe(Root, Dataset),
 }
 
 /// The command that the words ask for, or none where they have no form.
@@ -105,6 +111,12 @@ fn command_with(
     }
     if name == "split" {
         return Ok(split_command(words));
+    }
+    if name == "purge" {
+        return purge_command(alloc, words);
+    }
+    if name == "wipe" {
+        return wipe_command(alloc, words);
     }
     match root_in(alloc, words)? {
         Some(root) => rooted(alloc, name, root, own),
@@ -302,6 +314,41 @@ fn split_command(words: &[&str]) -> Option<Command>
         [] => Some(Command::Split),
         _ => None,
     }
+}
+
+/// `purge` of a dataset.
+fn purge_command(alloc: Global, words: &[&str]) -> Result<Option<Command>, NoMemory>
+    ensures command { IfOk result (λ o. o ≡ purge_of (texts words.now)) }
+    ensures within { IfOk result (λ o. IfSome o IsWithinLimits) }
+{
+    match root_and_dataset(alloc, words)? {
+        Some((root, dataset)) => Ok(Some(Command::Purge(root, dataset))),
+        None => Ok(None),
+    }
+}
+
+/// `wipe` of a dataset.
+fn wipe_command(alloc: Global, words: &[&str]) -> Result<Option<Command>, NoMemory>
+    ensures command { IfOk result (λ o. o ≡ wipe_of (texts words.now)) }
+    ensures within { IfOk result (λ o. IfSome o IsWithinLimits) }
+{
+    match root_and_dataset(alloc, words)? {
+        Some((root, dataset)) => Ok(Some(Command::Wipe(root, dataset))),
+        None => Ok(None),
+    }
+}
+
+/// The root and the dataset that the words are, where they are two that can be these.
+fn root_and_dataset(alloc: Global, words: &[&str]) -> Result<Option<(Root, Dataset)>, NoMemory>
+    ensures { IfOk result (λ o. o ≡ root_and_dataset (texts words.now)) }
+{
+    let [word, text] = words else {
+        return Ok(None);
+    };
+    if !is_root(word) || !is_dataset(alloc, text)? {
+        return Ok(None);
+    }
+    Ok(Some((Root::new(alloc, word)?, Dataset::new(alloc, text)?)))
 }
 
 /// `values`, with or without a number of decimals.

@@ -3,11 +3,13 @@
 
 mod app;
 mod command;
+mod dataset;
 mod numbers;
 mod parse;
 mod root;
 mod wanted;
 
 pub use command::{Command, read_command};
+pub use dataset::Dataset;
 pub use root::Root;
 pub use wanted::Wanted;

@@ -3,7 +3,7 @@ ghost use Rattle.std.specs.Prelude.{◌≡◌, List, ℕ, false};
 
 use super::octets::{Part, are, push_parts};
 use crate::top::fdb;
-use fd_disk::Store;
+use fd_disk::{Renew, Store};
 use fd_disk_mem::{MemStore, Op};
 use fd_io::{Gate, MemSink, MemSource, Sink, Source};
 use std::alloc::Global;
@@ -70,9 +70,14 @@ pub(super) enum Event {
 pub(super) struct Case {
     /// How many octets a read of the input gives at most.
     pub(super) piece: u32,
+    /// How many octets a file of the store may have, and how many writes and syncs it may see.
+    pub(super) size: u64,
+    pub(super) calls: u32,
     /// The call of a file that fails.
     pub(super) fails: Option<(&'static str, Op, u32)>,
     pub(super) rows: &'static [Row],
+    /// How many calls of the store pass behind these rows before all fail, and the row that is run then.
+    pub(super) halted: Option<(u64, Row)>,
     pub(super) event: Event,
     pub(super) after: &'static [Row],
 }
@@ -80,8 +85,11 @@ pub(super) struct Case {
 /// No rows, and no failing call.
 pub(super) const CASE: Case = Case {
     piece: 100,
+    size: 131_072,
+    calls: 2048,
     fails: None,
     rows: &[],
+    halted: None,
     event: Event::Nothing,
     after: &[],
 };
@@ -175,7 +183,7 @@ fn source_of(alloc: Global, row: &Row, piece: u32) -> Option<MemSource> {
 /// What a row reads, and empty sinks.
 fn streams_of(alloc: Global, row: &Row, piece: u32) -> Option<Streams> {
     let input = source_of(alloc, row, piece)?;
-    let output = MemSink::new(alloc, 80_000, row.writes).ok()?;
+    let output = MemSink::new(alloc, 131_072, row.writes).ok()?;
     let report = MemSink::new(alloc, 1000, row.tellings).ok()?;
     Some(Streams {
         input,
@@ -203,6 +211,7 @@ fn status_of<
     gate: &Turns,
 ) -> u8
 where
+    S::Folder: Renew<F>,
     requires home { (name : List ℕ) → S.out store.old name ≡ false }
     ensures home { (name : List ℕ) → S.out store.new name ≡ false }
 {
@@ -226,6 +235,7 @@ fn ends_so<F: Send + Drop, S: Store<F>, R: Threads + Wait + Sync>(
     piece: u32,
 ) -> bool
 where
+    S::Folder: Renew<F>,
     requires home { (name : List ℕ) → S.out store.old name ≡ false }
     ensures home { (name : List ℕ) → S.out store.new name ≡ false }
 {
@@ -255,6 +265,7 @@ pub(super) fn all_end_so<F: Send + Drop, S: Store<F>, R: Threads + Wait + Sync>(
     piece: u32,
 ) -> bool
 where
+    S::Folder: Renew<F>,
     requires home { (name : List ℕ) → S.out store.old name ≡ false }
     ensures home { (name : List ℕ) → S.out store.new name ≡ false }
 {
@@ -277,6 +288,22 @@ fn all_end_in_memory<R: Threads + Wait + Sync>(
     all_end_so(rt, alloc, store, rows, piece)
 }
 
+/// Runs a row where so many calls of the store pass before all fail, and tells whether it ends as it says.
+fn is_halted<R: Threads + Wait + Sync>(
+    rt: &R,
+    alloc: Global,
+    store: &mut MemStore,
+    halted: Option<(u64, Row)>,
+) -> bool {
+    match halted {
+        Some((calls, row)) => {
+            store.fuse(calls);
+            all_end_in_memory(rt, alloc, store, &[row], 100)
+        }
+        None => true,
+    }
+}
+
 /// Plans the call that is to fail, and tells whether there was memory for it.
 fn plan(alloc: Global, store: &mut MemStore, fails: Option<(&str, Op, u32)>) -> bool {
     match fails {
@@ -287,7 +314,7 @@ fn plan(alloc: Global, store: &mut MemStore, fails: Option<(&str, Op, u32)>) -> 
 
 /// An empty store, of which a call may be planned to fail.
 fn store_of(alloc: Global, case: &Case) -> Option<MemStore> {
-    match MemStore::new(alloc, 131_072, 2048) {
+    match MemStore::new(alloc, case.size, case.calls) {
         Ok(mut store) => {
             if plan(alloc, &mut store, case.fails) {
                 Some(store)
@@ -364,7 +391,8 @@ fn holds<R: Threads + Wait + Sync>(rt: &R, alloc: Global, case: &Case) -> bool {
     let Some(mut store) = store_of(alloc, case) else {
         return false;
     };
-    let before = all_end_in_memory(rt, alloc, &mut store, case.rows, case.piece);
+    let before = all_end_in_memory(rt, alloc, &mut store, case.rows, case.piece)
+        && is_halted(rt, alloc, &mut store, case.halted);
     match after(alloc, store, &case.event) {
         Some(mut store) => {
             all_end_in_memory(rt, alloc, &mut store, case.after, case.piece) && before

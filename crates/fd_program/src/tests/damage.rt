@@ -8,7 +8,7 @@ use fd_disk_mem::Op;
 /// The table of the one dataset, and the two files of its one batch.
 const TABLE: &str = "class=od,expver=0001,date=20240101,time=0000/toc";
 
-const FIELDS: &str = "class=od,expver=0001,date=20240101,time=0000/1-1.fields";
+pub(super) const FIELDS: &str = "class=od,expver=0001,date=20240101,time=0000/1-1.fields";
 
 const INDEX: &str = "class=od,expver=0001,date=20240101,time=0000/1-1.index";
 

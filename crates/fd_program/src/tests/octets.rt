@@ -50,7 +50,7 @@ fn push_field(octets: &mut Vec<u8>, changes: &[(usize, u8)]) -> bool {
 
 /// Puts a generated message behind the octets.
 fn push_message(alloc: Global, octets: &mut Vec<u8>, number: u64) -> bool {
-    match generated(alloc, number.min(1000)) {
+    match generated(alloc, number.min(9999)) {
         Ok(message) => octets.extend_from_slice(&message).is_ok(),
         Err(_) => false,
     }

@@ -28,6 +28,9 @@ returns-in-Ok-None-clause-calm g c = unasked_calm (command_of (texts c.args.word
 pub returns-in-Err-clause-calm : goal.returns-in-Err-clause-calm
 returns-in-Err-clause-calm g c = starved_calm _ (g.S.Store.has c.args.store.now) 0 0 _ _ _ _ _ _ _ _ _ _ c.tell_no_memory.ensures (command_of (texts c.args.words.now))
 
+pub returns-in-Ok-Some-clause-store : goal.returns-in-Ok-Some-clause-store
+returns-in-Ok-Some-clause-store g c = rw (sym c.in-Ok-Some.ensures.command ∙ c.in-Ok-Some.field-0-is) c.run.ensures.ran.store_is
+
 pub returns-in-Ok-Some-clause-session : goal.returns-in-Ok-Some-clause-session
 returns-in-Ok-Some-clause-session g c = rw (sym c.in-Ok-Some.ensures.command ∙ c.in-Ok-Some.field-0-is) c.run.ensures.session
 

@@ -37,6 +37,12 @@ returns-in-Axes-clause-ran g c = subst (λ command. Ran command c.axes.result (o
 pub returns-in-Stats-clause-ran : goal.returns-in-Stats-clause-ran
 returns-in-Stats-clause-ran g c = subst (λ command. Ran command c.stats.result (object (g.S.Store.has c.args.store.now) (g.S.Store.has c.stats.new.store) (g.S.Store.faults c.args.store.now) (g.S.Store.faults c.stats.new.store)) (object (g.I.Source.left c.args.input.now) (g.I.Source.left c.args.input.now) (g.I.Source.faults c.args.input.now) (g.I.Source.faults c.args.input.now)) (object (g.K.Sink.taken c.args.output.now) (g.K.Sink.taken c.stats.new.output) (g.K.Sink.faults c.args.output.now) (g.K.Sink.faults c.stats.new.output)) (object (g.E.Sink.taken c.args.report.now) (g.E.Sink.taken c.stats.new.report) (g.E.Sink.faults c.args.report.now) (g.E.Sink.faults c.stats.new.report))) (sym c.in-Stats.is) (c.stats.ensures.ran _ _)
 
+pub returns-in-Purge-clause-ran : goal.returns-in-Purge-clause-ran
+returns-in-Purge-clause-ran g c = subst (λ command. Ran command c.purge.result (object (g.S.Store.has c.args.store.now) (g.S.Store.has c.purge.new.store) (g.S.Store.faults c.args.store.now) (g.S.Store.faults c.purge.new.store)) (object (g.I.Source.left c.args.input.now) (g.I.Source.left c.args.input.now) (g.I.Source.faults c.args.input.now) (g.I.Source.faults c.args.input.now)) (object (g.K.Sink.taken c.args.output.now) (g.K.Sink.taken c.args.output.now) (g.K.Sink.faults c.args.output.now) (g.K.Sink.faults c.args.output.now)) (object (g.E.Sink.taken c.args.report.now) (g.E.Sink.taken c.purge.new.report) (g.E.Sink.faults c.args.report.now) (g.E.Sink.faults c.purge.new.report))) (sym c.in-Purge.is) (c.purge.ensures.ran _ _ _ _)
+
+pub returns-in-Wipe-clause-ran : goal.returns-in-Wipe-clause-ran
+returns-in-Wipe-clause-ran g c = subst (λ command. Ran command c.wipe.result (object (g.S.Store.has c.args.store.now) (g.S.Store.has c.wipe.new.store) (g.S.Store.faults c.args.store.now) (g.S.Store.faults c.wipe.new.store)) (object (g.I.Source.left c.args.input.now) (g.I.Source.left c.args.input.now) (g.I.Source.faults c.args.input.now) (g.I.Source.faults c.args.input.now)) (object (g.K.Sink.taken c.args.output.now) (g.K.Sink.taken c.args.output.now) (g.K.Sink.faults c.args.output.now) (g.K.Sink.faults c.args.output.now)) (object (g.E.Sink.taken c.args.report.now) (g.E.Sink.taken c.wipe.new.report) (g.E.Sink.faults c.args.report.now) (g.E.Sink.faults c.wipe.new.report))) (sym c.in-Wipe.is) (c.wipe.ensures.ran _ _ _ _)
+
 pub returns-in-Trial-clause-ran : goal.returns-in-Trial-clause-ran
 returns-in-Trial-clause-ran g c = subst (λ command. Ran command c.trial.result (object (g.S.Store.has c.args.store.now) (g.S.Store.has c.trial.new.store) (g.S.Store.faults c.args.store.now) (g.S.Store.faults c.trial.new.store)) (object (g.I.Source.left c.args.input.now) (g.I.Source.left c.args.input.now) (g.I.Source.faults c.args.input.now) (g.I.Source.faults c.args.input.now)) (object (g.K.Sink.taken c.args.output.now) (g.K.Sink.taken c.args.output.now) (g.K.Sink.faults c.args.output.now) (g.K.Sink.faults c.args.output.now)) (object (g.E.Sink.taken c.args.report.now) (g.E.Sink.taken c.trial.new.report) (g.E.Sink.faults c.args.report.now) (g.E.Sink.faults c.trial.new.report))) (sym c.in-Trial.is) (c.trial.ensures.ran _ _ _ _)
 
@@ -120,3 +126,15 @@ returns-in-Session-clause-outlasts g c = rw c.in-Session.is tt
 
 pub returns-in-Trial-clause-outlasts : goal.returns-in-Trial-clause-outlasts
 returns-in-Trial-clause-outlasts g c = rw c.in-Trial.is (c.trial.ensures.outlasts (g.I.Source.left c.args.input.now) (g.I.Source.faults c.args.input.now))
+
+pub returns-in-Purge-clause-session : goal.returns-in-Purge-clause-session
+returns-in-Purge-clause-session g c = rw c.in-Purge.is tt
+
+pub returns-in-Purge-clause-outlasts : goal.returns-in-Purge-clause-outlasts
+returns-in-Purge-clause-outlasts g c = rw c.in-Purge.is tt
+
+pub returns-in-Wipe-clause-session : goal.returns-in-Wipe-clause-session
+returns-in-Wipe-clause-session g c = rw c.in-Wipe.is tt
+
+pub returns-in-Wipe-clause-outlasts : goal.returns-in-Wipe-clause-outlasts
+returns-in-Wipe-clause-outlasts g c = rw c.in-Wipe.is tt

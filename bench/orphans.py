@@ -1,0 +1,45 @@
+#!/usr/bin/env python3
+"""The files of a dataset that its table doesn't list: what a killed process or a stopped purge left, and the empty ones of writers' next
+batches. Nothing may run on the dataset meanwhile.
+
+orphans.py STORE/DATASET           prints their names, one a line
+orphans.py --remove STORE/DATASET  removes them too
+"""
+import os
+import re
+import sys
+
+NAME = re.compile(r"([1-9][0-9]*)-([1-9][0-9]*)\.(fields|index)")
+
+
+def listed(table):
+    """The writers and numbers of the batches that a table lists: its slots of 64 octets from octet 320 on, up to the first whose
+    gate isn't open. A table that isn't in its format is an error, so that no file is taken for an orphan by mistake."""
+    if table[:8] != b"FDTOC001" or len(table) < 321:
+        raise SystemExit("toc is no table")
+    batches = set()
+    for at in range(320, len(table), 64):
+        if table[at] != 0x4F:
+            return batches
+        if len(table) < at + 65 or table[at + 1] not in (1, 2):
+            raise SystemExit("toc is no table")
+        batches.add((int.from_bytes(table[at + 2:at + 6], "big"), int.from_bytes(table[at + 6:at + 10], "big")))
+    raise SystemExit("toc is no table")
+
+
+def main(words):
+    remove = words[:1] == ["--remove"]
+    if len(words) != 1 + remove:
+        raise SystemExit(__doc__)
+    folder = words[-1]
+    path = os.path.join(folder, "toc")
+    batches = listed(open(path, "rb").read()) if os.path.exists(path) else set()
+    for name in sorted(os.listdir(folder)):
+        match = NAME.fullmatch(name)
+        if match and (int(match[1]), int(match[2])) not in batches:
+            print(name)
+            if remove:
+                os.remove(os.path.join(folder, name))
+
+
+main(sys.argv[1:])

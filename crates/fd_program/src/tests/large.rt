@@ -1,0 +1,153 @@
+//! Archives of so many messages that batches are filled, that reading goes on while others are stored, and with a message
+//! that is longer than what is read at once.
+use super::cases::{CASE, Case, Hold, ROW, Row, first_wrong};
+use super::octets::Part;
+use super::stores::CREATED;
+
+/// A schema by which the generated messages of all days are of one dataset.
+const BY_CENTRE: Row = Row {
+    input: &[Part::Text(
+        "[class, expver, centre [type, levtype [date, time, param, step, levelist?]]]",
+    )],
+    ..CREATED
+};
+
+/// A message of 100,000 octets, of another centre.
+const LONG: Part = Part::Field(&[
+    (13, 1),
+    (14, 0x86),
+    (15, 0xA0),
+    (22, 99),
+    (171, 1),
+    (172, 0x85),
+    (173, 0xF2),
+]);
+
+/// It, and 3,000 generated messages behind it.
+const MANY: &[Part] = &[
+    LONG,
+    Part::Length(179),
+    Part::Length(99_996),
+    Part::Text("7777"),
+    Part::Generated(0, 3000),
+];
+
+/// The eighth round of the first and of the second worker waits until both have come so far.
+const MEETING: &[Hold] = &[
+    Hold {
+        lane: 1,
+        step: 8,
+        until: 8,
+    },
+    Hold {
+        lane: 2,
+        step: 8,
+        until: 8,
+    },
+];
+
+const STORED: Row = Row {
+    words: &["archive", "s", "--with=class=od,expver=0001"],
+    input: MANY,
+    report: "archived 3001 datasets 2 junk 0\n",
+    ..ROW
+};
+
+/// A request of the long message, and one of the last ones of the others.
+const FOUND: Row = Row {
+    words: &["retrieve", "s", "--workers=4"],
+    input: &[Part::Text(
+        "retrieve,class=od,expver=0001,centre=99,date=20240101,time=00,type=1,levtype=100,param=0.0.0,step=0,levelist=100000",
+    )],
+    output: &[
+        LONG,
+        Part::Length(179),
+        Part::Length(99_996),
+        Part::Text("7777"),
+    ],
+    report: "found 1 missed 0\n",
+    ..ROW
+};
+
+/// The batches of both datasets, of which one worker fills one.
+const BY_ONE: Row = Row {
+    words: &["stats", "s"],
+    output: &[Part::Text(
+        "class=od,expver=0001,centre=98 entries 2 fields 3000 keys 3000 bytes 645000
+class=od,expver=0001,centre=99 entries 1 fields 1 keys 1 bytes 100032
+",
+    )],
+    ..ROW
+};
+
+/// The batches where four workers have a share each.
+const BY_FOUR: Row = Row {
+    output: &[Part::Text(
+        "class=od,expver=0001,centre=98 entries 4 fields 3000 keys 3000 bytes 645000
+class=od,expver=0001,centre=99 entries 1 fields 1 keys 1 bytes 100032
+",
+    )],
+    ..BY_ONE
+};
+
+/// The same messages, and behind them one that has no key.
+const REFUSED: Row = Row {
+    input: &[
+        LONG,
+        Part::Length(179),
+        Part::Length(99_996),
+        Part::Text("7777"),
+        Part::Generated(0, 3000),
+        Part::Field(&[(117, 2)]),
+    ],
+    report: "refused key 3002 Product 2\n",
+    status: 3,
+    ..STORED
+};
+
+const LARGE: Case = Case {
+    piece: 65_536,
+    size: 1_048_576,
+    calls: 16_384,
+    ..CASE
+};
+
+const WORKERS: &[&str] = &["archive", "s", "--with=class=od,expver=0001", "--workers=4"];
+
+const ARCHIVING: &[Case] = &[
+    Case {
+        rows: &[BY_CENTRE, STORED, BY_ONE, FOUND],
+        ..LARGE
+    },
+    Case {
+        rows: &[
+            BY_CENTRE,
+            Row {
+                words: WORKERS,
+                holds: MEETING,
+                ..STORED
+            },
+            BY_FOUR,
+            FOUND,
+        ],
+        ..LARGE
+    },
+    Case {
+        rows: &[
+            BY_CENTRE,
+            Row {
+                words: WORKERS,
+                ..REFUSED
+            },
+            BY_FOUR,
+            FOUND,
+        ],
+        ..LARGE
+    },
+];
+
+/// One worker and four store 3,001 messages of two datasets, of which one is long, also in front of one that is refused.
+#[test]
+fn stores_many(rt: HostRuntime) {
+    assert_eq!(rt; first_wrong(&rt, rt.alloc(), ARCHIVING), None);
+}

@@ -1,0 +1,194 @@
+//! What a purge and a wipe make of a store in memory, what they tell, and what a crash leaves of one that failed.
+use super::cases::{CASE, Case, Event, ROW, Row, first_wrong};
+use super::octets::NEWER;
+use super::stores::{ARCHIVED, CREATED, EMPTY, RETRIEVED};
+
+const DATASET: &str = "class=od,expver=0001,date=20240101,time=0000";
+
+/// The fields' file of its first batch.
+const FIELDS: &str = "class=od,expver=0001,date=20240101,time=0000/1-1.fields";
+
+/// A purge that drops one batch and keeps another.
+const PURGED: Row = Row {
+    words: &["purge", "s", DATASET],
+    report: "purged 1 kept 1\n",
+    ..ROW
+};
+
+/// A purge that has nothing to drop.
+const PURGED_AGAIN: Row = Row {
+    report: "purged 0 kept 1\n",
+    ..PURGED
+};
+
+/// A wipe of one batch.
+const WIPED: Row = Row {
+    words: &["wipe", "s", DATASET],
+    report: "wiped 1\n",
+    ..ROW
+};
+
+/// The archiving of a newer field of the same key.
+const RENEWED: Row = Row {
+    input: NEWER,
+    ..ARCHIVED
+};
+
+/// The retrieve that finds it.
+const FOUND: Row = Row {
+    output: NEWER,
+    ..RETRIEVED
+};
+
+/// The retrieve that finds nothing.
+const MISSED: Row = Row {
+    output: &[],
+    report: "miss class=od,expver=0001,date=20240101,time=0000,centre=98,type=1,levtype=100,param=0.0.0,step=0,levelist=100000
+found 0 missed 1
+",
+    status: 1,
+    ..RETRIEVED
+};
+
+/// The refusal where there is no such dataset.
+const ABSENT: &str = "refused NoDataset\n";
+
+const RECLAIMING: &[Case] = &[
+    Case {
+        rows: &[
+            CREATED,
+            ARCHIVED,
+            PURGED_AGAIN,
+            RENEWED,
+            PURGED,
+            FOUND,
+            PURGED_AGAIN,
+            FOUND,
+        ],
+        ..CASE
+    },
+    Case {
+        rows: &[
+            CREATED,
+            ARCHIVED,
+            WIPED,
+            MISSED,
+            Row {
+                report: ABSENT,
+                status: 3,
+                ..WIPED
+            },
+            EMPTY,
+            RENEWED,
+            FOUND,
+        ],
+        ..CASE
+    },
+];
+
+/// A purge keeps the newest field of each key, and a wipe none; a second one has nothing to do.
+#[test]
+fn drops_what_is_masked_or_all(rt: HostRuntime) {
+    assert_eq!(rt; first_wrong(&rt, rt.alloc(), RECLAIMING), None);
+}
+
+/// Without a schema, and without a dataset.
+const UNREADY: &[Row] = &[
+    Row {
+        report: "refused SchemaMissing\n",
+        status: 3,
+        ..PURGED
+    },
+    Row {
+        report: "refused SchemaMissing\n",
+        status: 3,
+        ..WIPED
+    },
+    CREATED,
+    Row {
+        report: ABSENT,
+        status: 3,
+        ..PURGED
+    },
+    ARCHIVED,
+    Row {
+        words: &["purge", "s", "class=od"],
+        report: ABSENT,
+        status: 3,
+        ..PURGED
+    },
+];
+
+/// A listed file is away.
+const DAMAGED: &str = "damaged class=od,expver=0001,date=20240101,time=0000 Absent 1-1.fields\n";
+
+const REFUSING: &[Case] = &[
+    Case {
+        rows: UNREADY,
+        ..CASE
+    },
+    Case {
+        rows: &[CREATED, ARCHIVED],
+        event: Event::Removed(FIELDS),
+        after: &[
+            Row {
+                report: DAMAGED,
+                status: 8,
+                ..PURGED
+            },
+            Row {
+                report: DAMAGED,
+                status: 8,
+                ..WIPED
+            },
+        ],
+        ..CASE
+    },
+];
+
+#[test]
+fn refuses_what_is_not_there(rt: HostRuntime) {
+    assert_eq!(rt; first_wrong(&rt, rt.alloc(), REFUSING), None);
+}
+
+/// A store in which the second batch masks the first.
+const MASKED: Case = Case {
+    rows: &[CREATED, ARCHIVED, RENEWED],
+    after: &[FOUND],
+    ..CASE
+};
+
+/// A purge that fails.
+const HALTED: Row = Row {
+    report: "disk failed\n",
+    status: 6,
+    ..PURGED
+};
+
+/// How many calls of the store a purge of two batches makes that the fuse counts.
+const CALLS: u64 = 15;
+
+/// Where a purge is stopped at any of its calls, the newest field is found behind each crash.
+#[test]
+fn a_halted_purge_keeps_the_newest(rt: HostRuntime) {
+    for calls in 0..CALLS {
+        for choice in 0..4 {
+            let case = Case {
+                halted: Some((calls, HALTED)),
+                event: Event::Crash(choice),
+                ..MASKED
+            };
+            assert_eq!(rt;
+                first_wrong(&rt, rt.alloc(), &[case]),
+                None,
+                "{calls} {choice}"
+            );
+        }
+    }
+    let whole = Case {
+        halted: Some((CALLS, PURGED)),
+        event: Event::Crash(0),
+        ..MASKED
+    };
+    assert_eq!(rt; first_wrong(&rt, rt.alloc(), &[whole]), None);
+}
