@@ -1,5 +1,5 @@
 -- Lists in which nothing comes twice.
-use Rattle.std.proofs.Common.{⊎_elim, ◌≡◌, ◌≢◌, ◌<◌, ◌≤◌, ◌+◌, ◌∙◌, ℕ, zero, suc, cond, eqb, List, [], ◌∷◌, ◌++◌, length, get_or, set, refl, sym, ap, length-append, arith}
+use Rattle.std.proofs.Common.{⊎_elim, ◌≡◌, ◌≢◌, ◌<◌, ◌≤◌, ◌+◌, ◌∙◌, ℕ, zero, suc, cond, eqb, List, [], ◌∷◌, ◌++◌, length, get_or, set, refl, sym, ap, subst, length-append, arith}
 use Rattle.std.specs.List.Sorted.{IsPermutation}
 use Rattle.std.specs.List.{swap, AllPairs}
 use Rattle.std.proofs.lemmas.List.{length-set, get_or-set_same, get_or-set_other}
@@ -69,6 +69,56 @@ swap_step {X} l a b p q h = record { at = go }
 
 pub apart-permutation : {X : Type 0} (xs ys : List X) → IsPermutation xs ys → AreApart xs → AreApart ys
 apart-permutation xs ys s h = IsPermutation-keeps xs AreApart h (λ l i j p q r. swap_step l i j p q r) ys s
+
+-- ---- each two
+
+-- R holds of each two
+abbrev EachTwo : {X : Type 0} → (X → X → Type 0) → List X → Type 0
+EachTwo {X} R xs = (i j : ℕ) (d : X) → i < length xs → j < length xs → i ≢ j → R (get_or xs i d) (get_or xs j d)
+
+two_swapped : {X : Type 0} (R : X → X → Type 0) (l : List X) (a b : ℕ) → a < length l → b < length l → EachTwo R l → EachTwo R (swap l a b)
+two_swapped {X} R l a b p q h i j d r s n =
+    let i_in : i < length l = omega (arith, long, r) in
+    let j_in : j < length l = omega (arith, long, s) in
+    let two = h (turned a b i) (turned a b j) d (turned_within (length l) a b i p q i_in) (turned_within (length l) a b j p q j_in) (λ e. n (turned_apart a b i j e)) in
+    subst (λ (x : X). R x (get_or (swap l a b) j d)) (sym (read i i_in)) (subst (λ (y : X). R (get_or l (turned a b i) d) y) (sym (read j j_in)) two)
+  where
+    long : length (swap l a b) ≡ length l
+    long = ap (λ (w : List X). length w) (sym (swap_is l a b d p q)) ∙ omega (arith, length-set l a (get_or l b d), length-set (set l a (get_or l b d)) b (get_or l a d))
+
+    read : (k : ℕ) → k < length l → get_or (swap l a b) k d ≡ get_or l (turned a b k) d
+    read k t = ap (λ (w : List X). get_or w k d) (sym (swap_is l a b d p q)) ∙ at_swap l a b k d p q t
+
+pub pairs-permutation : {X : Type 0} (R : X → X → Type 0) → ((x y : X) → R x y → R y x) → (xs ys : List X) → IsPermutation xs ys → AllPairs R xs → AllPairs R ys
+pairs-permutation {X} R turn xs ys s h i j d lt within = (IsPermutation-keeps xs (EachTwo R) start (λ l a b p q r. two_swapped R l a b p q r) ys s) i j d (omega arith) within (λ e. omega (arith, e, lt))
+  where
+    start : EachTwo R xs
+    start a b e p q n = ⊎_elim (λ (below : a < b). h a b e below q) (λ (above : b ≤ a). ⊎_elim (λ (below : b < a). turn _ _ (h b a e below p)) (λ (le : a ≤ b). absurd (n (omega arith))) (cases_lt b a)) (cases_lt a b)
+
+-- another element in the place of one, of which all holds that held of that one
+pub pairs-set : {X : Type 0} (R : X → X → Type 0) (xs : List X) (k : ℕ) (n : X) → k < length xs → ((d x : X) → R (get_or xs k d) x → R n x) → ((d x : X) → R x (get_or xs k d) → R x n) → AllPairs R xs → AllPairs R (set xs k n)
+pairs-set {X} R xs k n lk left right h i j d lt within = ⊎_elim first (λ other. ⊎_elim (second other) (neither other) (cases_eq j k)) (cases_eq i k)
+  where
+    inside : j < length xs
+    inside = omega (arith, length-set xs k n, within)
+
+    here : (m : ℕ) → m ≡ k → get_or (set xs k n) m d ≡ n
+    here m e = ap (λ t. get_or (set xs k n) t d) e ∙ get_or-set_same xs k n d lk
+
+    first : i ≡ k → R (get_or (set xs k n) i d) (get_or (set xs k n) j d)
+    first e =
+        let was : R (get_or xs k d) (get_or xs j d) = subst (λ m. R (get_or xs m d) (get_or xs j d)) e (h i j d lt inside) in
+        let there : get_or (set xs k n) j d ≡ get_or xs j d = get_or-set_other xs k j n d (λ s. omega (arith, s, e, lt)) in
+        subst (λ (x : X). R x (get_or (set xs k n) j d)) (sym (here i e)) (subst (λ (y : X). R n y) (sym there) (left d (get_or xs j d) was))
+
+    second : i ≢ k → j ≡ k → R (get_or (set xs k n) i d) (get_or (set xs k n) j d)
+    second other e =
+        let was : R (get_or xs i d) (get_or xs k d) = subst (λ m. R (get_or xs i d) (get_or xs m d)) e (h i j d lt inside) in
+        subst (λ (x : X). R x (get_or (set xs k n) j d)) (sym (get_or-set_other xs k i n d other)) (subst (λ (y : X). R (get_or xs i d) y) (sym (here j e)) (right d (get_or xs i d) was))
+
+    neither : i ≢ k → j ≢ k → R (get_or (set xs k n) i d) (get_or (set xs k n) j d)
+    neither one two =
+        subst (λ (x : X). R x (get_or (set xs k n) j d)) (sym (get_or-set_other xs k i n d one)) (subst (λ (y : X). R (get_or xs i d) y) (sym (get_or-set_other xs k j n d two)) (h i j d lt inside))
 
 -- ---- parts
 

@@ -10,7 +10,7 @@ use Rattle.fd_request.specs.Expansion.{Keyword, expand}
 use Rattle.fd_cubes.specs.declared.grid.Grid as code_grid
 use Rattle.fd_cubes.specs.Cubes.{AreKeys, IsAskable, keys_of}
 use Rattle.fd_cubes.specs.Grids.{seen_grid, seen_grids, IsGrid, Regroups}
-use Rattle.fd_cubes.proofs.Permuted.{same_order}
+use Rattle.fd_cubes.proofs.Permuted.{same_order, gathered-permutation}
 use Rattle.fd_cubes.proofs.Distinct.{from_pairs}
 use Rattle.fd_cubes.proofs.Grids.{keys_joined, keys_one}
 use Rattle.fd_cubes.proofs.Finished.{keys_moved}
@@ -34,5 +34,5 @@ are_keys keys askable distinct few = record {
 pub joined_are_keys : (keys : List (List Pair)) (gs hs : List code_grid.Grid) → AreKeys keys → keys_of (seen_grids gs) ≡ keys → Regroups gs hs → AreKeys (keys_of (seen_grids hs))
 joined_are_keys keys gs hs are e r = keys_moved keys (keys_of (seen_grids hs)) (IsPermutation-trans _ _ _ (same_order _ _ (sym e)) r.keys) are
 
-pub all_keys : (keys : List (List Pair)) (gs hs : List code_grid.Grid) (cs : List (List Keyword)) → keys_of (seen_grids gs) ≡ keys → Regroups gs hs → IsPermutation (keys_of (seen_grids hs)) (keys_of cs) → IsPermutation keys (keys_of cs)
-all_keys keys gs hs cs e r p = IsPermutation-trans _ _ _ (same_order _ _ (sym e)) (IsPermutation-trans _ _ _ r.keys p)
+pub all_keys : (keys : List (List Pair)) (gs hs : List code_grid.Grid) (cs : List (List Keyword)) → keys_of (seen_grids gs) ≡ keys → Regroups gs hs → IsPermutation (seen_grids hs) cs → IsPermutation keys (keys_of cs)
+all_keys keys gs hs cs e r p = IsPermutation-trans _ _ _ (same_order _ _ (sym e)) (IsPermutation-trans _ _ _ r.keys (gathered-permutation expand (seen_grids hs) cs p))

@@ -1,23 +1,27 @@
 -- What holds of cubes while they are joined.
 use Rattle.std.proofs.Common.{◌≡◌, ◌<◌, ◌≤◌, ◌+◌, ◌∙◌, ℕ, zero, suc, List, [], ◌∷◌, ◌++◌, length, get_or, set, refl, sym, ap, subst, append_assoc, length-append, arith}
-use Rattle.std.specs.Prelude.{Some}
 use Rattle.std.specs.List.{All}
 use Rattle.std.specs.List.Sorted.{IsPermutation}
 use Rattle.std.proofs.lemmas.List.{append-nil, length-map, length-set, get_or-map}
 use Rattle.std.proofs.lemmas.List.Sorted.{IsPermutation-refl, IsPermutation-sym, IsPermutation-trans, IsPermutation-map, IsPermutation-append_left, IsPermutation-append_right, IsPermutation-append_comm, All-permutation, length_permutation}
-use Rattle.std.proofs.lemmas.List.Elements.{recursion_from_All, All-from_recursion, All-map, All-weaker, All-cons, All-nil, All-append, All-set, All-pop}
+use Rattle.std.proofs.lemmas.List.Elements.{recursion_from_All, All-from_recursion, All-map, All-weaker, All-cons, All-nil, All-append, All-set}
 use Rattle.fd_key.specs.Pairs.{Pair, key_text}
 use Rattle.fd_request.specs.Expansion.{Keyword, each_before, expand}
 use Rattle.fd_request.specs.Keywords.{differ_after}
+use Rattle.fd_cubes.specs.declared.axis.Axis as code_axis
 use Rattle.fd_cubes.specs.declared.grid.Grid as code_grid
+use Rattle.fd_schema.specs.Seen.{texts}
 use Rattle.fd_cubes.specs.Cubes.{IsPlain, IsAskable, alone, cube_text, keys_of}
-use Rattle.fd_cubes.specs.Axes.{IsFilled, with_values, values_at, SameBut, width, seen_axis}
-use Rattle.fd_cubes.specs.Grids.{seen_grid, seen_grids, IsGrid, Takes, Regroups, IsPassing}
+use Rattle.fd_cubes.specs.Axes.{AreSorted, IsFilled, with_values, values_at, SameBut, width, seen_axis, seen_axes}
+use Rattle.fd_cubes.specs.Grids.{seen_grid, seen_grids, IsGrid, Joins, Takes, Regroups}
 use Rattle.fd_cubes.proofs.Permuted.{same_order, gathered-append, gathered-permutation, gathered-set}
 use Rattle.fd_cubes.proofs.Joined.{expand_joined}
-use Rattle.fd_cubes.proofs.Sizes.{names_stay, filled_joined, some_at, size_joined, size_alone}
+use Rattle.fd_cubes.proofs.Ordered.{Reordered, reordered_with, filled_all, text_same, expand_all}
+use Rattle.fd_cubes.proofs.Seen.{at_place, set_place}
+use Rattle.fd_cubes.proofs.Sizes.{Filled, names_stay, filled_joined, some_at, size_joined, size_alone}
+use Rattle.fd_cubes.proofs.Sorted.{sorted_with, sorted_at}
 
-length_with : (p : ℕ) (vs : List (List ℕ)) (ks : List Keyword) → length (with_values p vs ks) ≡ length ks
+pub length_with : (p : ℕ) (vs : List (List ℕ)) (ks : List Keyword) → length (with_values p vs ks) ≡ length ks
 length_with p vs [] = refl
 length_with zero vs (k ∷ ks) = refl
 length_with (suc p) vs (k ∷ ks) = ap suc (length_with p vs ks)
@@ -32,25 +36,58 @@ other_within p g h t = omega (arith, as_long p (seen_grid g) (seen_grid h) t.sam
 pub own_within : (p : ℕ) (g h : code_grid.Grid) → Takes p g h → p < length g.axes.items
 own_within p g h t = omega (arith, t.within, length-map g.axes.items seen_axis)
 
-pub joined_grid : (p : ℕ) (g h n : code_grid.Grid) → IsGrid g → IsGrid h → Takes p g h → seen_grid n ≡ with_values p (values_at p (seen_grid g) ++ values_at p (seen_grid h)) (seen_grid g)
-    → n.size ≡ g.size + width (values_at p (seen_grid h)) → IsGrid n
-joined_grid p g h n hg hh t e size =
-    let us = values_at p (seen_grid g) in
-    let vs = values_at p (seen_grid h) in
-    let filled = recursion_from_All IsFilled (seen_grid g) hg.filled in
-    let some : 0 < length us = some_at p (seen_grid g) t.within filled in
-    let long : length (cube_text (with_values p (us ++ vs) (seen_grid g))) ≡ length (cube_text (seen_grid g)) + width vs = size_joined p vs (seen_grid g) t.within some in
+pub joined_grid : (p : ℕ) (g h n : code_grid.Grid) → IsGrid g → IsGrid h → Takes p g h → Joins p g h n → IsGrid n
+joined_grid p g h n hg hh t j =
+    let ks = seen_grid g in
+    let ls = seen_grid h in
+    let us = values_at p ks in
+    let vs = values_at p ls in
+    let ws = values_at p (seen_grid n) in
+    let filled = recursion_from_All IsFilled ks hg.filled in
+    let sorted = recursion_from_All (λ (k : Keyword). AreSorted k.values) ks hg.sorted in
+    let others = recursion_from_All (λ (k : Keyword). AreSorted k.values) ls hh.sorted in
+    let long : length (cube_text (with_values p (us ++ vs) ks)) ≡ length (cube_text ks) + width vs = size_joined p vs ks t.within (some_at p ks t.within filled) in
+    let r : Reordered (with_values p (us ++ vs) ks) (with_values p ws ks) = reordered_with p (us ++ vs) ws ks j.values in
+    let both : Filled (with_values p (us ++ vs) ks) = filled_joined p ks ls t.same filled (recursion_from_All IsFilled ls hh.filled) in
+    let all : Filled (with_values p ws ks) = filled_all _ _ r both in
+    let up : AreSorted ws = j.sorted (sorted_at p ks t.within sorted) (sorted_at p ls (omega (arith, as_long p ks ls t.same, t.within)) others) in
+    let seen : length (cube_text (seen_grid n)) ≡ length (cube_text (with_values p ws ks)) = ap (λ (l : List Keyword). length (cube_text l)) j.rest in
     record {
-      once = ap (differ_after []) e ∙ names_stay [] p (us ++ vs) (seen_grid g) ∙ hg.once;
-      filled =
-          subst (λ (ks : List Keyword). All IsFilled ks) (sym e)
-          (All-from_recursion IsFilled (with_values p (us ++ vs) (seen_grid g)) (filled_joined p (seen_grid g) (seen_grid h) t.same filled (recursion_from_All IsFilled (seen_grid h) hh.filled)));
-      sized = size ∙ ap (λ s. s + width vs) hg.sized ∙ sym long ∙ ap (λ (ks : List Keyword). length (cube_text ks)) (sym e);
-      short = omega (arith, size, t.room);
+      once = ap (differ_after []) j.rest ∙ names_stay [] p ws ks ∙ hg.once;
+      filled = subst (λ (l : List Keyword). All IsFilled l) (sym j.rest) (All-from_recursion IsFilled (with_values p ws ks) all);
+      sorted = subst (λ (l : List Keyword). All (λ k. AreSorted k.values) l) (sym j.rest) (All-from_recursion (λ (k : Keyword). AreSorted k.values) (with_values p ws ks) (sorted_with p ws ks up sorted));
+      sized = omega (arith, j.size, hg.sized, long, text_same _ _ r both all, seen);
+      short = omega (arith, j.size, t.room);
     }
 
-pub joined_keys : (p : ℕ) (g h : code_grid.Grid) (ks : List Keyword) → Takes p g h → ks ≡ with_values p (values_at p (seen_grid g) ++ values_at p (seen_grid h)) (seen_grid g) → IsPermutation (expand ks) (expand (seen_grid g) ++ expand (seen_grid h))
-joined_keys p g h ks t e = subst (λ (l : List Keyword). IsPermutation (expand l) (expand (seen_grid g) ++ expand (seen_grid h))) (sym e) (expand_joined p (seen_grid g) (seen_grid h) t.same t.within)
+pub joined_keys : (p : ℕ) (g h n : code_grid.Grid) → Takes p g h → Joins p g h n → IsPermutation (expand (seen_grid n)) (expand (seen_grid g) ++ expand (seen_grid h))
+joined_keys p g h n t j =
+    let ks = seen_grid g in
+    let us = values_at p ks ++ values_at p (seen_grid h) in
+    let ws = values_at p (seen_grid n) in
+    IsPermutation-trans _ _ _ (same_order _ _ (ap expand j.rest))
+    (IsPermutation-trans _ _ _ (IsPermutation-sym _ _ (expand_all (with_values p us ks) (with_values p ws ks) (reordered_with p us ws ks j.values))) (expand_joined p ks (seen_grid h) t.same t.within))
+
+at_with : (p : ℕ) (vs : List (List ℕ)) (ks : List Keyword) → p < length ks → values_at p (with_values p vs ks) ≡ vs
+at_with p vs [] lt = absurd (omega arith)
+at_with zero vs (k ∷ ks) lt = refl
+at_with (suc p) vs (k ∷ ks) lt = at_with p vs ks (omega arith)
+
+-- b and d are the names at the place, and a stands in the place of b
+pub joins_is : (p : ℕ) (g h n : code_grid.Grid) (a b d : code_axis.Axis) → p < length g.axes.items → p < length h.axes.items → b ≡ get_or g.axes.items p b → d ≡ get_or h.axes.items p d → a.name ≡ b.name
+    → IsPermutation (texts b.values.items ++ texts d.values.items) (texts a.values.items) → (AreSorted (texts b.values.items) → AreSorted (texts d.values.items) → AreSorted (texts a.values.items))
+    → n.axes.items ≡ set g.axes.items p a → n.size ≡ g.size + width (values_at p (seen_grid h)) → Joins p g h n
+joins_is p g h n a b d lt less ib id name values sorted axes size =
+    let own : texts b.values.items ≡ values_at p (seen_grid g) = at_place p g.axes.items b lt ib in
+    let other : texts d.values.items ≡ values_at p (seen_grid h) = at_place p h.axes.items d less id in
+    let whole : seen_grid n ≡ with_values p (texts a.values.items) (seen_grid g) = ap seen_axes axes ∙ set_place p g.axes.items a b (texts a.values.items) lt ib name refl in
+    let here : texts a.values.items ≡ values_at p (seen_grid n) = sym (ap (values_at p) whole ∙ at_with p (texts a.values.items) (seen_grid g) (omega (arith, lt, length-map g.axes.items seen_axis))) in
+    record {
+      values = subst (λ (w : List (List ℕ)). IsPermutation (values_at p (seen_grid g) ++ values_at p (seen_grid h)) w) here (subst (λ (v : List (List ℕ)). IsPermutation (v ++ values_at p (seen_grid h)) (texts a.values.items)) own (subst (λ (v : List (List ℕ)). IsPermutation (texts b.values.items ++ v) (texts a.values.items)) other values));
+      rest = whole ∙ ap (λ (w : List (List ℕ)). with_values p w (seen_grid g)) here;
+      sorted = λ s t. subst AreSorted here (sorted (subst AreSorted (sym own) s) (subst AreSorted (sym other) t));
+      size = size;
+    }
 
 -- ---- a key alone
 
@@ -68,6 +105,12 @@ filled_alone key plain =
     All-map IsFilled (λ (p : Pair). record { name = p.0; values = p.1 ∷ [] }) key
     (All-weaker (λ (p : Pair). IsPlain p.0 p.1) (λ (p : Pair). IsFilled (record { name = p.0; values = p.1 ∷ [] })) (λ p is. record { some = omega arith; plain = All-cons (IsPlain p.0) p.1 [] is (All-nil (IsPlain p.0)) }) key plain)
 
+sorted_one : (v : List ℕ) → AreSorted (v ∷ [])
+sorted_one v k d from within = absurd (omega (arith, within))
+
+sorted_alone : (key : List Pair) → All (λ k. AreSorted k.values) (alone key)
+sorted_alone key = All-map (λ (k : Keyword). AreSorted k.values) (λ (p : Pair). record { name = p.0; values = p.1 ∷ [] }) key (λ k d lt. sorted_one (get_or key k d).1)
+
 small_alone : (key : List Pair) → length (key_text key) ≤ 255 → length (cube_text (alone key)) ≤ 65536
 small_alone [] short = omega arith
 small_alone (p ∷ ps) short = omega (arith, size_alone p ps, short)
@@ -76,6 +119,7 @@ pub made : (key : List Pair) (g : code_grid.Grid) → IsAskable key → seen_gri
 made key g is e size = record {
   once = ap (differ_after []) e ∙ is.once;
   filled = subst (λ (ks : List Keyword). All IsFilled ks) (sym e) (filled_alone key is.plain);
+  sorted = subst (λ (ks : List Keyword). All (λ k. AreSorted k.values) ks) (sym e) (sorted_alone key);
   sized = size ∙ ap (λ (ks : List Keyword). length (cube_text ks)) (sym e);
   short = omega (arith, size, small_alone key is.short);
 }
@@ -152,34 +196,3 @@ popped gs done new left rest g e h r =
     IsPermutation-trans _ _ _ h
     (IsPermutation-trans _ _ _ (same_order _ _ (ap (λ (m : List (List Pair)). d ++ m) parts))
     (IsPermutation-trans _ _ _ moved (IsPermutation-trans _ _ _ (same_order _ _ (ap (λ (m : List (List Pair)). m ++ l) pushed)) (IsPermutation-append_left l _ _ r.keys))))
-
--- ---- a pass
-
-pub passing_start : (gs done left : List code_grid.Grid) → done ≡ [] → IsPermutation gs left → All IsGrid gs → IsPassing gs done left
-passing_start gs done left none h each = record {
-  keys =
-      subst (λ (l : List code_grid.Grid). IsPermutation (keys_of (seen_grids gs)) (keys_of (seen_grids l) ++ keys_of (seen_grids left))) (sym none)
-      (gathered-permutation expand (seen_grids gs) (seen_grids left) (IsPermutation-map seen_grid gs left h));
-  good = subst (λ (l : List code_grid.Grid). All IsGrid l) (sym none) (All-nil IsGrid);
-  others = All-permutation IsGrid gs left h each;
-  fewer = omega (arith, length_permutation gs left h, ap (λ (l : List code_grid.Grid). length l) none);
-}
-
-pub last_is : (left rest : List code_grid.Grid) (g : code_grid.Grid) → left ≡ rest ++ g ∷ [] → All IsGrid left → IsGrid g
-last_is left rest g e each = (All-pop IsGrid left rest (Some g) e each).1
-
-pub passing_more : (gs done new left rest : List code_grid.Grid) (g : code_grid.Grid) → left ≡ rest ++ g ∷ [] → IsPassing gs done left → Regroups (done ++ g ∷ []) new → IsPassing gs new rest
-passing_more gs done new left rest g e h r = record {
-  keys = popped gs done new left rest g e h.keys r;
-  good = r.each;
-  others = (All-pop IsGrid left rest (Some g) e h.others).0;
-  fewer = omega (arith, h.fewer, r.fewer, length-append done (g ∷ []), length-append rest (g ∷ []), ap (λ (l : List code_grid.Grid). length l) e);
-}
-
-pub passing_end : (gs done left : List code_grid.Grid) → length left ≡ 0 → IsPassing gs done left → Regroups gs done
-passing_end gs done [] none h = record {
-  keys = IsPermutation-trans _ _ _ h.keys (same_order _ _ (append-nil (keys_of (seen_grids done))));
-  each = h.good;
-  fewer = omega (arith, h.fewer);
-}
-passing_end gs done (x ∷ left) none h = absurd (omega (arith, none))

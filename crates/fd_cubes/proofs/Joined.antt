@@ -65,10 +65,12 @@ values_again p us vs [] = refl
 values_again zero us vs (k ∷ ks) = refl
 values_again (suc p) us vs (k ∷ ks) = ap (λ (l : List Keyword). k ∷ l) (values_again p us vs ks)
 
+-- the one with the values of the other is the other
+pub other_values : (p : ℕ) (ks ls : List Keyword) → with_values p [] ks ≡ with_values p [] ls → with_values p (values_at p ls) ks ≡ ls
+other_values p ks ls e = sym (values_again p (values_at p ls) [] ks) ∙ ap (with_values p (values_at p ls)) e ∙ values_again p (values_at p ls) [] ls ∙ values_stay p ls
+
 -- two cubes that differ at most at one place: the one with the values of both has the keys of both
 pub expand_joined : (p : ℕ) (ks ls : List Keyword) → with_values p [] ks ≡ with_values p [] ls → p < length ks → IsPermutation (expand (with_values p (values_at p ks ++ values_at p ls) ks)) (expand ks ++ expand ls)
 expand_joined p ks ls e lt =
-    let other : with_values p (values_at p ls) ks ≡ ls =
-    sym (values_again p (values_at p ls) [] ks) ∙ ap (with_values p (values_at p ls)) e ∙ values_again p (values_at p ls) [] ls ∙ values_stay p ls in
     IsPermutation-trans _ _ _ (expand_parted p (values_at p ks) (values_at p ls) ks lt)
-    (IsPermutation-append _ _ _ _ (same_order _ _ (ap expand (values_stay p ks))) (same_order _ _ (ap expand other)))
+    (IsPermutation-append _ _ _ _ (same_order _ _ (ap expand (values_stay p ks))) (same_order _ _ (ap expand (other_values p ks ls e))))

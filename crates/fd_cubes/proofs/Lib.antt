@@ -3,10 +3,13 @@ pub mod Permuted
 pub mod Distinct
 pub mod Joined
 pub mod Rising
-pub mod Coded
 pub mod Sizes
 pub mod Ordered
+pub mod Sorted
 pub mod Seen
 pub mod Grids
+pub mod Taking
+pub mod Rounds
+pub mod Settled
 pub mod Finished
 pub mod Gathered

@@ -1,17 +1,26 @@
 -- Cubes whose values are put in order.
-use Rattle.std.proofs.Common.{◌≡◌, ◌<◌, ◌∙◌, ℕ, zero, suc, List, [], ◌∷◌, ◌++◌, length, get_or, map, refl, sym, ap, subst, arith}
-use Rattle.std.specs.List.{AllByRecursion, Contains}
+use Rattle.std.proofs.Common.{◌≡◌, ◌<◌, ◌+◌, ◌∙◌, ℕ, zero, suc, List, [], ◌∷◌, ◌++◌, length, get_or, map, refl, sym, ap, subst, arith}
+use Rattle.std.specs.List.{All, AllByRecursion, AllPairs, Contains, sum_by}
 use Rattle.std.specs.List.Sorted.{IsPermutation}
 use Rattle.std.proofs.lemmas.List.{get_or-map, length-map}
 use Rattle.std.proofs.lemmas.List.Elements.{Contains-append_left, Contains-append_right}
-use Rattle.std.proofs.lemmas.List.Sorted.{IsPermutation-refl, IsPermutation-trans}
+use Rattle.std.proofs.lemmas.List.Sums.{sum_by-cons}
+use Rattle.std.proofs.lemmas.List.Sorted.{IsPermutation-refl, IsPermutation-trans, All-permutation, length_permutation, sum_by-IsPermutation}
 use Rattle.fd_key.specs.Pairs.{Pair}
 use Rattle.fd_request.specs.Expansion.{Keyword, each_before, expand}
-use Rattle.fd_cubes.specs.Axes.{IsReordered}
-use Rattle.fd_cubes.specs.Cubes.{AreApart}
+use Rattle.fd_cubes.specs.Axes.{AreSorted, IsReordered, width, with_values}
+use Rattle.fd_cubes.specs.Cubes.{AreApart, IsBelow, IsPlain, keywords_text}
 use Rattle.fd_cubes.proofs.Distinct.{apart_front, apart_behind, apart_across}
 use Rattle.fd_cubes.proofs.Joined.{before, block, each_reordered, each_values}
-use Rattle.fd_cubes.proofs.Sizes.{Filled}
+use Rattle.fd_cubes.proofs.Sizes.{Filled, keyword_length}
+
+-- the values of each name are in byte order
+abbrev pub Sorted : List Keyword → Type 0
+Sorted ks = AllByRecursion (λ k. AreSorted k.values) ks
+
+-- and none of them comes twice
+abbrev pub Rising : List Keyword → Type 0
+Rising ks = AllByRecursion (λ k. AllPairs IsBelow k.values) ks
 
 -- ---- keys that are apart have values that are apart
 
@@ -88,3 +97,36 @@ expand_all (k ∷ ks) (l ∷ ls) h =
     IsPermutation-trans _ _ _ (each_values k.name k.values l.values (expand ks) h.0.values)
     (IsPermutation-trans _ _ _ (each_reordered k.name l.values (expand ks) (expand ls) (expand_all ks ls h.1))
     (subst (λ (n : List ℕ). IsPermutation (each_before k.name l.values (expand ls)) (each_before n l.values (expand ls))) h.0.name (IsPermutation-refl (each_before k.name l.values (expand ls)))))
+
+reordered_itself : (ks : List Keyword) → Reordered ks ks
+reordered_itself [] = tt
+reordered_itself (k ∷ ks) = (record { name = refl; values = IsPermutation-refl k.values }, reordered_itself ks)
+
+pub reordered_with : (p : ℕ) (us vs : List (List ℕ)) (ks : List Keyword) → IsPermutation us vs → Reordered (with_values p us ks) (with_values p vs ks)
+reordered_with p us vs [] h = tt
+reordered_with zero us vs (k ∷ ks) h = (record { name = refl; values = h }, reordered_itself ks)
+reordered_with (suc p) us vs (k ∷ ks) h = (record { name = refl; values = IsPermutation-refl k.values }, reordered_with p us vs ks h)
+
+-- ---- what stays
+
+pub filled_all : (ks ls : List Keyword) → Reordered ks ls → Filled ks → Filled ls
+filled_all [] [] h f = tt
+filled_all [] (l ∷ ls) h f = absurd h
+filled_all (k ∷ ks) [] h f = absurd h
+filled_all (k ∷ ks) (l ∷ ls) h f =
+    let plain : All (IsPlain l.name) l.values = subst (λ (n : List ℕ). All (IsPlain n) l.values) h.0.name (All-permutation (IsPlain k.name) k.values l.values h.0.values f.0.plain) in
+    (record { some = omega (arith, length_permutation k.values l.values h.0.values, f.0.some); plain = plain }, filled_all ks ls h.1 f.1)
+
+width_sum : (vs : List (List ℕ)) → width vs ≡ sum_by (λ v. length v + 1) vs
+width_sum [] = refl
+width_sum (v ∷ vs) = ap (λ n. length v + 1 + n) (width_sum vs) ∙ sym (sum_by-cons (λ w. length w + 1) v vs)
+
+pub width_same : (vs ws : List (List ℕ)) → IsPermutation vs ws → width vs ≡ width ws
+width_same vs ws h = width_sum vs ∙ sym (sum_by-IsPermutation (λ v. length v + 1) vs ws h) ∙ sym (width_sum ws)
+
+pub text_same : (ks ls : List Keyword) → Reordered ks ls → Filled ks → Filled ls → length (keywords_text ks) ≡ length (keywords_text ls)
+text_same [] [] h f g = refl
+text_same [] (l ∷ ls) h f g = absurd h
+text_same (k ∷ ks) [] h f g = absurd h
+text_same (k ∷ ks) (l ∷ ls) h f g =
+    omega (arith, keyword_length k ks f.0.some, keyword_length l ls g.0.some, width_same k.values l.values h.0.values, ap (λ (n : List ℕ). length n) h.0.name, text_same ks ls h.1 f.1 g.1)

@@ -1,17 +1,16 @@
 -- Values in byte order.
-use Rattle.std.proofs.Common.{◌⊎◌, inl, inr, ◌≡◌, ◌≢◌, ◌<◌, ◌∙◌, ℕ, zero, suc, false, List, [], ◌∷◌, length, get_or, map, refl, sym, ap, subst, arith}
+use Rattle.std.proofs.Common.{◌⊎◌, inl, inr, ◌≡◌, ◌≢◌, ◌∙◌, ℕ, zero, suc, false, List, [], ◌∷◌, get_or, refl, sym, ap, subst, arith}
 use Rattle.std.specs.Prelude.{◌↔◌}
 use Rattle.std.specs.List.{AllPairs, All, Contains}
-use Rattle.std.specs.List.Sorted.{IsSortedBy}
 use Rattle.std.specs.declared.cmp.Ordering.{Ordering}
 use Rattle.std.specs.declared.cmp.Ordering.TheVariants.{Less, Equal, Greater}
 use Rattle.std.specs.Ordering.{is_lt, ordering_reverse}
 use Rattle.std.specs.Cmp.{IsTotalOrder}
 use Rattle.std.proofs.lemmas.Cmp.{nat_list_cmp_total, tied_itself}
-use Rattle.std.proofs.lemmas.List.{get_or-map, length-map}
 use Rattle.std.proofs.lemmas.Map.Lookups.{exact_bytes}
 use Rattle.std.proofs.lemmas.List.Elements.{All-contains}
 use Rattle.std.proofs.lemmas.List.Sorted.{sorted_far, ranks_by}
+use Rattle.fd_cubes.specs.Axes.{AreSorted}
 use Rattle.fd_cubes.specs.Cubes.{AreApart, order, IsBelow}
 
 apart_rises : (v w : List ℕ) (o p : Ordering) → order v w ≡ o → order w v ≡ p → o ≡ ordering_reverse p → v ≢ w → is_lt p ≡ false → o ≡ Less
@@ -21,23 +20,14 @@ apart_rises v w Greater Less e f back apart up = absurd (cc)
 apart_rises v w Greater Equal e f back apart up = absurd (cc)
 apart_rises v w Greater Greater e f back apart up = absurd (cc)
 
--- texts that a sort gives, none of them twice
-pub rising : {X : Type 0} (key : X → List ℕ) (xs : List X) → IsSortedBy (λ x y. is_lt (order (key x) (key y))) xs → AreApart (map key xs) → AllPairs IsBelow (map key xs)
-rising {X} key xs sorted apart i j d lt within = go xs sorted apart (omega (arith, length-map xs key, within))
-  where
-    some : (l : List X) → j < length l → X
-    some [] h = absurd (omega arith)
-    some (x ∷ l) h = x
-
-    go : (l : List X) → IsSortedBy (λ x y. is_lt (order (key x) (key y))) l → AreApart (map key l) → j < length l → IsBelow (get_or (map key l) i d) (get_or (map key l) j d)
-    go l s a h =
-        let x : X = some l h in
-        let low : get_or (map key l) i d ≡ key (get_or l i x) = get_or-map key l i x d (omega arith) in
-        let high : get_or (map key l) j d ≡ key (get_or l j x) = get_or-map key l j x d (omega arith) in
-        let up = sorted_far (λ a b. is_lt (order (key a) (key b))) (ranks_by nat_list_cmp_total key) l s i j x (omega arith) h in
-        let other : get_or (map key l) i d ≢ get_or (map key l) j d = λ e. let same = a.at i j d (omega (arith, length-map l key)) (omega (arith, length-map l key)) e in omega (arith, same, lt) in
-        let below = apart_rises (key (get_or l i x)) (key (get_or l j x)) _ _ refl refl (IsTotalOrder.antisymm nat_list_cmp_total (key (get_or l i x)) (key (get_or l j x))) (λ e. other (low ∙ e ∙ sym high)) up in
-        ap (λ v. order v (get_or (map key l) j d)) low ∙ ap (λ w. order (key (get_or l i x)) w) high ∙ below
+-- texts in order, none of them twice
+pub rising : (xs : List (List ℕ)) → AreSorted xs → AreApart xs → AllPairs IsBelow xs
+rising xs sorted apart i j d lt within =
+    let v = get_or xs i d in
+    let w = get_or xs j d in
+    let up = sorted_far (λ a b. is_lt (order a b)) (ranks_by nat_list_cmp_total (λ (x : List ℕ). x)) xs sorted i j d (omega arith) within in
+    let other : v ≢ w = λ e. let same = apart.at i j d (omega arith) within e in omega (arith, same, lt) in
+    apart_rises v w _ _ refl refl (IsTotalOrder.antisymm nat_list_cmp_total v w) other up
 
 -- ---- the same values
 

@@ -1,8 +1,8 @@
 -- The code's names with values, one at a time.
-use Rattle.std.proofs.Common.{◌≡◌, ◌<◌, ◌≤◌, ◌+◌, ◌-◌, ◌∙◌, ℕ, zero, suc, Bool, true, false, cond, eqb, List, [], ◌∷◌, ◌++◌, length, get_or, set, take, drop, refl, sym, ap, append_assoc, arith}
+use Rattle.std.proofs.Common.{◌≡◌, ◌≢◌, ◌<◌, ◌≤◌, ◌+◌, ◌-◌, ◌∙◌, ℕ, zero, suc, Bool, true, false, cond, eqb, List, [], ◌∷◌, ◌++◌, length, get_or, set, take, drop, refl, sym, ap, append_assoc, arith}
 use Rattle.std.specs.Prelude.{string_bytes, String, min, ◌^◌, slice_get, Some}
 use Rattle.std.specs.declared.alloc.Global.{Global}
-use Rattle.std.proofs.lemmas.List.{map_more, length-map, length-take, at_drop_more, at_drop_all}
+use Rattle.std.proofs.lemmas.List.{map_more, length-map, length-take, at_drop_more, at_drop_all, get_or-map}
 use Rattle.std.proofs.lemmas.Bool.{eq-eqb, ne_eqb, cond-true}
 use Rattle.std.proofs.lemmas.Bool.Decides.{nat_tests}
 use Rattle.fd_schema.specs.Seen.{texts}
@@ -47,6 +47,52 @@ blank_here p i k l e n =
 pub blank_there : (p i : ℕ) (k l : Keyword) → k.name ≡ l.name → k.values ≡ l.values → blank_at p i k ≡ blank_at p i l
 blank_there p i k l n v = ap (λ (m : List ℕ). cond (eqb p i) (record { name = m; values = [] }) (record { name = m; values = k.values })) n ∙ ap (λ (vs : List (List ℕ)). cond (eqb p i) (record { name = l.name; values = [] }) (record { name = l.name; values = vs })) v
 
+-- ---- where two are the same but at a place
+
+name_stays : (p i : ℕ) (ks : List Keyword) (d : Keyword) → (get_or (with_values p [] ks) i d).name ≡ (get_or ks i d).name
+name_stays p i [] d = refl
+name_stays zero zero (k ∷ ks) d = refl
+name_stays zero (suc i) (k ∷ ks) d = refl
+name_stays (suc p) zero (k ∷ ks) d = refl
+name_stays (suc p) (suc i) (k ∷ ks) d = name_stays p i ks d
+
+other_stays : (p i : ℕ) (ks : List Keyword) (d : Keyword) → i ≢ p → get_or (with_values p [] ks) i d ≡ get_or ks i d
+other_stays p i [] d n = refl
+other_stays zero zero (k ∷ ks) d n = absurd (n refl)
+other_stays zero (suc i) (k ∷ ks) d n = refl
+other_stays (suc p) zero (k ∷ ks) d n = refl
+other_stays (suc p) (suc i) (k ∷ ks) d n = other_stays p i ks d (λ e. n (ap suc e))
+
+seen_at : (xs : List code_axis.Axis) (i : ℕ) (a : code_axis.Axis) (d : Keyword) → i < length xs → a ≡ get_or xs i a → get_or (seen_axes xs) i d ≡ seen_axis a
+seen_at xs i a d lt is = get_or-map seen_axis xs i a d lt ∙ ap seen_axis (sym is)
+
+pub same_name : (p i : ℕ) (xs ys : List code_axis.Axis) (a b : code_axis.Axis) → SameBut p (seen_axes xs) (seen_axes ys) → i < length xs → i < length ys → a ≡ get_or xs i a → b ≡ get_or ys i b → string_bytes a.name ≡ string_bytes b.name
+same_name p i xs ys a b same lt less ia ib =
+    let d = seen_axis a in
+    sym (ap (λ (k : Keyword). k.name) (seen_at xs i a d lt ia)) ∙ sym (name_stays p i (seen_axes xs) d) ∙ ap (λ (l : List Keyword). (get_or l i d).name) same
+    ∙ name_stays p i (seen_axes ys) d ∙ ap (λ (k : Keyword). k.name) (seen_at ys i b d less ib)
+
+pub same_there : (p i : ℕ) (xs ys : List code_axis.Axis) (a b : code_axis.Axis) → SameBut p (seen_axes xs) (seen_axes ys) → i ≢ p → i < length xs → i < length ys → a ≡ get_or xs i a → b ≡ get_or ys i b → texts a.values.items ≡ texts b.values.items
+same_there p i xs ys a b same other lt less ia ib =
+    let d = seen_axis a in
+    sym (ap (λ (k : Keyword). k.values) (seen_at xs i a d lt ia)) ∙ sym (ap (λ (k : Keyword). k.values) (other_stays p i (seen_axes xs) d other)) ∙ ap (λ (l : List Keyword). (get_or l i d).values) same
+    ∙ ap (λ (k : Keyword). k.values) (other_stays p i (seen_axes ys) d other) ∙ ap (λ (k : Keyword). k.values) (seen_at ys i b d less ib)
+
+long_with : (p : ℕ) (ks : List Keyword) → length (with_values p [] ks) ≡ length ks
+long_with p [] = refl
+long_with zero (k ∷ ks) = refl
+long_with (suc p) (k ∷ ks) = ap suc (long_with p ks)
+
+pub same_length : (p : ℕ) (xs ys : List code_axis.Axis) → SameBut p (seen_axes xs) (seen_axes ys) → length xs ≡ length ys
+same_length p xs ys same =
+    let e : length (seen_axes xs) ≡ length (seen_axes ys) = sym (long_with p (seen_axes xs)) ∙ ap (λ (l : List Keyword). length l) same ∙ long_with p (seen_axes ys) in
+    omega (arith, e, length-map xs seen_axis, length-map ys seen_axis)
+
+pub texts_at : (i : ℕ) (vs ws : List (String Global)) (v w : String Global) → texts vs ≡ texts ws → i < length vs → i < length ws → v ≡ get_or vs i v → w ≡ get_or ws i w → string_bytes v ≡ string_bytes w
+texts_at i vs ws v w e lt less iv iw =
+    let d = string_bytes v in
+    ap string_bytes iv ∙ sym (get_or-map string_bytes vs i v d lt) ∙ ap (λ (l : List (List ℕ)). get_or l i d) e ∙ get_or-map string_bytes ws i w d less ∙ ap string_bytes (sym iw)
+
 -- the code's values at a place
 pub at_place : (p : ℕ) (xs : List code_axis.Axis) (a : code_axis.Axis) → p < length xs → a ≡ get_or xs p a → texts a.values.items ≡ values_at p (seen_axes xs)
 at_place p [] a lt is = absurd (omega arith)
@@ -70,20 +116,6 @@ set_place zero (x ∷ xs) a b vs lt is name e =
     let named : string_bytes a.name ≡ string_bytes x.name = ap string_bytes name ∙ ap (λ (y : code_axis.Axis). string_bytes y.name) is in
     ap (λ (n : List ℕ). record { name = n; values = texts a.values.items } ∷ seen_axes xs) named ∙ ap (λ (ws : List (List ℕ)). record { name = string_bytes x.name; values = ws } ∷ seen_axes xs) e
 set_place (suc p) (x ∷ xs) a b vs lt is name e = ap (λ (ks : List Keyword). seen_axis x ∷ ks) (set_place p xs a b vs (omega arith) is name e)
-
-texts_joined : (vs ws : List (String Global)) → texts (vs ++ ws) ≡ texts vs ++ texts ws
-texts_joined [] ws = refl
-texts_joined (v ∷ vs) ws = ap (λ (l : List (List ℕ)). string_bytes v ∷ l) (texts_joined vs ws)
-
--- the values of another list in the same place behind them
-pub joined_is : (p : ℕ) (xs ys : List code_axis.Axis) (a b d : code_axis.Axis) → p < length xs → p < length ys → b ≡ get_or xs p b → d ≡ get_or ys p d → a.name ≡ b.name → a.values.items ≡ b.values.items ++ d.values.items
-    → seen_axes (set xs p a) ≡ with_values p (values_at p (seen_axes xs) ++ values_at p (seen_axes ys)) (seen_axes xs)
-joined_is p xs ys a b d lt less ib id name e =
-    let own : texts b.values.items ≡ values_at p (seen_axes xs) = at_place p xs b lt ib in
-    let other : texts d.values.items ≡ values_at p (seen_axes ys) = at_place p ys d less id in
-    let both : texts a.values.items ≡ values_at p (seen_axes xs) ++ values_at p (seen_axes ys) =
-    ap texts e ∙ texts_joined b.values.items d.values.items ∙ ap (λ (l : List (List ℕ)). l ++ texts d.values.items) own ∙ ap (λ (l : List (List ℕ)). values_at p (seen_axes xs) ++ l) other in
-    set_place p xs a b (values_at p (seen_axes xs) ++ values_at p (seen_axes ys)) lt ib name both
 
 pub size_is : (s m : ℕ) (vs ws : List (List ℕ)) → m ≡ min (width vs) (2 ^ 64 - 1) → vs ≡ ws → s + width ws ≤ 65536 → s + m ≡ s + width ws
 size_is s m vs ws e same room = let w : width vs ≡ width ws = ap width same in omega (arith, e, w, room)
@@ -140,7 +172,7 @@ code_joined (k ∷ ks) ls =
     shape : (a b c d : List ℕ) → (a ++ 61 ∷ (b ++ 44 ∷ c)) ++ d ≡ a ++ 61 ∷ (b ++ 44 ∷ (c ++ d))
     shape a b c d = append_assoc a (61 ∷ (b ++ 44 ∷ c)) d ∙ ap (λ (t : List ℕ). a ++ 61 ∷ t) (append_assoc b (44 ∷ c) d)
 
-any_default : {X : Type 0} (xs : List X) (i : ℕ) (a b : X) → i < length xs → get_or xs i a ≡ get_or xs i b
+pub any_default : {X : Type 0} (xs : List X) (i : ℕ) (a b : X) → i < length xs → get_or xs i a ≡ get_or xs i b
 any_default [] i a b lt = absurd (omega arith)
 any_default (x ∷ xs) zero a b lt = refl
 any_default (x ∷ xs) (suc i) a b lt = any_default xs i a b (omega arith)

@@ -77,7 +77,7 @@ some_at (suc p) (k ∷ ks) lt hk = some_at p ks (omega arith) hk.1
 
 -- ---- sizes
 
-width_joined : (us vs : List (List ℕ)) → width (us ++ vs) ≡ width us + width vs
+pub width_joined : (us vs : List (List ℕ)) → width (us ++ vs) ≡ width us + width vs
 width_joined [] vs = omega arith
 width_joined (u ∷ us) vs = omega (arith, width_joined us vs)
 
@@ -93,7 +93,7 @@ pub keyword_length : (k : Keyword) (ks : List Keyword) → 0 < length k.values �
 keyword_length k ks some =
     omega (arith, length-append k.name (61 ∷ (values_text k.values ++ keywords_text ks)), length-append (values_text k.values) (keywords_text ks), values_length k.values some)
 
-text_changed : (p : ℕ) (vs : List (List ℕ)) (ks : List Keyword) → p < length ks → 0 < length (values_at p ks) → 0 < length vs
+pub text_changed : (p : ℕ) (vs : List (List ℕ)) (ks : List Keyword) → p < length ks → 0 < length (values_at p ks) → 0 < length vs
     → length (keywords_text (with_values p vs ks)) + width (values_at p ks) ≡ length (keywords_text ks) + width vs
 text_changed p vs [] lt some more = absurd (omega arith)
 text_changed zero vs (k ∷ ks) lt some more = omega (arith, keyword_length k ks some, keyword_length (record { name = k.name; values = vs }) ks more)

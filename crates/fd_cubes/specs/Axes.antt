@@ -1,5 +1,5 @@
 -- The values of one name among keywords, and the texts by which keywords are found that can be joined.
-use Rattle.std.specs.Prelude.{◌≡◌, ◌<◌, ◌≤◌, ◌+◌, slice_index_or, ℕ, zero, suc, List, [], ◌∷◌, ◌++◌, length, map, string_bytes}
+use Rattle.std.specs.Prelude.{◌≡◌, ◌<◌, ◌+◌, ℕ, zero, suc, List, [], ◌∷◌, ◌++◌, length, map, string_bytes}
 use Rattle.std.specs.List.{All}
 use Rattle.std.specs.List.Sorted.{IsPermutation, IsSortedBy}
 use Rattle.std.specs.Ordering.{is_lt}
@@ -63,17 +63,5 @@ seen_axes xs = map seen_axis xs
 
 -- ---- values in byte order
 
--- the same name with the same values, which are in byte order
-pub record Sorts (a b : code_axis.Axis) : Type 0 where
-  pub name : a.name ≡ b.name
-  pub values : IsPermutation a.values.items b.values.items
-  pub sorted : IsSortedBy (λ x y. is_lt (order (string_bytes x) (string_bytes y))) b.values.items
-
--- of names with their values the first so many are in byte order, and the others are as they were
-pub record IsSorting (old now : List code_axis.Axis) (i : ℕ) : Type 0 where
-  pub long : length now ≡ length old
-  pub done : (k : ℕ) (d : code_axis.Axis) → k < i → k < length old → Sorts (slice_index_or old k d) (slice_index_or now k d)
-  pub rest : (k : ℕ) (d : code_axis.Axis) → i ≤ k → slice_index_or now k d ≡ slice_index_or old k d
-
-abbrev pub AllSorted : List code_axis.Axis → List code_axis.Axis → Type 0
-AllSorted old new = IsSorting old new (length old)
+abbrev pub AreSorted : List (List ℕ) → Type 0
+AreSorted vs = IsSortedBy (λ v w. is_lt (order v w)) vs

@@ -1,6 +1,6 @@
 -- Which cubes can be joined.
 use Rattle.std.specs.Prelude.{◌≡◌, ◌≤◌, ◌↔◌, ℕ, List, ◌∷◌, ◌++◌, length}
-use Rattle.std.specs.List.{AllZip, Contains}
+use Rattle.std.specs.List.{AllPairs, AllZip, Contains}
 use Rattle.fd_request.specs.Expansion.{Keyword}
 use Rattle.fd_cubes.specs.Cubes.{cube_text}
 
@@ -32,3 +32,12 @@ pub record CanJoin (a b : List Keyword) : Type 0 where
   pub same_before : SameAxes before other_before
   pub same_behind : SameAxes behind other_behind
   pub size : length (cube_text (before ++ record { name = name; values = values ++ other_values } ∷ behind)) ≤ 65536
+
+-- neither can be joined to the other
+pub record CannotJoin (a b : List Keyword) : Type 0 where
+  pub one : CanJoin a b → ⊥
+  pub other : CanJoin b a → ⊥
+
+-- no two of the cubes can be joined
+abbrev pub NoneCanJoin : List (List Keyword) → Type 0
+NoneCanJoin cubes = AllPairs CannotJoin cubes

@@ -1,7 +1,8 @@
 // Names with their values.
-ghost use Rattle.std.specs.Prelude.{◌≡◌, ◌-◌, ◌^◌, ◌++◌, ◌∷◌, [], ◌≤◌, ◌<◌, IsTrue, IfOk, OnOk, min, string_bytes};
+ghost use Rattle.std.specs.Prelude.{◌≡◌, ◌-◌, ◌^◌, ◌++◌, ◌∷◌, ◌↔◌, [], IsTrue, IfOk, OnOk, min};
+ghost use Rattle.std.specs.List.Sorted.{IsPermutation};
 ghost use Rattle.fd_schema.specs.Seen.{texts};
-ghost use Rattle.fd_cubes.specs.Axes.{SameBut, seen_axis, seen_axes, values_at, width};
+ghost use Rattle.fd_cubes.specs.Axes.{AreSorted, SameBut, seen_axis, seen_axes, values_at, width};
 
 use fd_bytes::NoMemory;
 use std::alloc::Global;
@@ -47,9 +48,35 @@ pub(crate) fn values_at(axes: &[Axis], place: usize) -> &[String]
     }
 }
 
+/// Tells that none of the values in front is above those behind them, where both are in byte order.
+fn go_before(front: &[String], behind: &[String]) -> bool
+    ensures { IsTrue result → AreSorted (texts front.now) → AreSorted (texts behind.now) → AreSorted (texts front.now ++ texts behind.now) }
+{
+    if front.is_empty() || behind.is_empty() {
+        return true;
+    }
+    let last = front[front.len() - 1].as_str();
+    behind[0].as_str().cmp(last).is_ge()
+}
+
+/// Puts values among others that are in byte order, as they are.
+pub(crate) fn add_values(values: &mut Vec<String>, more: Vec<String>) -> Result<(), NoMemory>
+    ensures same { OnOk result (IsPermutation (texts values.old.items ++ texts more.items) (texts values.new.items)) }
+    ensures sorted { OnOk result (AreSorted (texts values.old.items) → AreSorted (texts more.items) → AreSorted (texts values.new.items)) }
+{
+    let mut more = more;
+    if go_before(values, &more) {
+        values.append(&mut more)?;
+        return Ok(());
+    }
+    values.append(&mut more)?;
+    values.sort()?;
+    Ok(())
+}
+
 /// Tells that values are the same in the same order.
 fn same_values(one: &[String], other: &[String]) -> bool
-    ensures { IsTrue result → texts one.now ≡ texts other.now }
+    ensures { IsTrue result ↔ (texts one.now ≡ texts other.now) }
 {
     if one.len() != other.len() {
         return false;
@@ -64,7 +91,7 @@ fn same_values(one: &[String], other: &[String]) -> bool
 
 /// Tells that the two differ at most in the values of the name at a place.
 pub(crate) fn same_but(one: &[Axis], other: &[Axis], place: usize) -> bool
-    ensures { IsTrue result → SameBut place (seen_axes one.now) (seen_axes other.now) }
+    ensures { IsTrue result ↔ SameBut place (seen_axes one.now) (seen_axes other.now) }
 {
     if one.len() != other.len() {
         return false;

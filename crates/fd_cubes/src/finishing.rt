@@ -1,54 +1,32 @@
-// Cubes with their values in order, and their texts.
-ghost use Rattle.std.specs.Prelude.{◌≡◌, ◌≤◌, ◌<◌, IfOk, OnOk, length};
+// Cubes as they are handed out.
+ghost use Rattle.std.specs.Prelude.{◌≡◌, IfOk, IfErr};
 ghost use Rattle.std.specs.List.{All};
 ghost use Rattle.std.specs.List.Sorted.{IsPermutation};
 ghost use Rattle.fd_request.specs.Expansion.{expand};
 ghost use Rattle.fd_cubes.specs.Cubes.{AreKeys, keys_of};
-ghost use Rattle.fd_cubes.specs.Axes.{AllSorted, Sorts};
 ghost use Rattle.fd_cubes.specs.Grids.{IsGrid, seen_grid, seen_grids};
 
-use crate::axis::Axis;
 use crate::cube::{Cube, count_of, text_of};
 use crate::grid::Grid;
 use fd_bytes::NoMemory;
 use std::alloc::Global;
 
-/// Puts the values of a name in byte order.
-fn sort_axis(axis: &mut Axis) -> Result<(), NoMemory>
-    ensures { OnOk result (Sorts axis.old axis.new) }
-{
-    axis.values.sort()?;
-    Ok(())
-}
-
-/// Puts the values of every name in byte order.
-fn sort_axes(axes: &mut Vec<Axis>) -> Result<(), NoMemory>
-    ensures { OnOk result (AllSorted axes.old.items axes.new.items) }
-{
-    for i in 0..axes.len() {
-        sort_axis(&mut axes[i])?;
-    }
-    Ok(())
-}
-
-/// A cube with its values in byte order, and its text.
+/// A cube with its text and its number of keys.
 fn cube_of(alloc: Global, grid: Grid) -> Result<Cube, NoMemory>
     requires grid { IsGrid grid }
     requires keys { AreKeys (expand (seen_grid grid)) }
-    ensures { IfOk result (λ c. IsPermutation (expand (seen_grid grid)) (expand c)) }
+    ensures { IfOk result (λ c. c ≡ seen_grid grid) }
 {
-    let mut grid = grid;
-    sort_axes(&mut grid.axes)?;
     let text = text_of(alloc, &grid.axes)?;
     let count = count_of(&grid.axes);
     Ok(Cube { grid, text, count })
 }
 
-/// The cubes with their values in byte order, and their texts.
+/// The cubes with their texts, the last one first.
 pub(crate) fn cubes_of(alloc: Global, grids: Vec<Grid>) -> Result<Vec<Cube>, NoMemory>
     requires grids { All IsGrid grids.items }
     requires keys { AreKeys (keys_of (seen_grids grids.items)) }
-    ensures { IfOk result (λ v. IsPermutation (keys_of (seen_grids grids.items)) (keys_of v.items)) }
+    ensures { IfOk result (λ v. IsPermutation (seen_grids grids.items) v.items) }
 {
     let mut left = grids;
     let mut done = Vec::new(alloc);

@@ -3,7 +3,8 @@ ghost use Rattle.std.specs.Prelude.{◌≡◌, ◌≤◌, ◌≢◌, IfOk, lengt
 ghost use Rattle.std.specs.List.{All, AllPairs};
 ghost use Rattle.std.specs.List.Sorted.{IsPermutation};
 ghost use Rattle.fd_cubes.specs.Cubes.{IsAskable, keys_of};
-ghost use Rattle.fd_cubes.specs.Grids.{IsGrid, Regroups, seen_grids};
+ghost use Rattle.fd_cubes.specs.Grids.{AreSettled, IsGrid, Regroups, RoundsTo, seen_grids};
+ghost use Rattle.fd_cubes.specs.Joining.{NoneCanJoin};
 
 use crate::cube::Cube;
 use crate::finishing::cubes_of;
@@ -28,7 +29,9 @@ fn grids_of(alloc: Global, keys: &[Key]) -> Result<Vec<Grid>, NoMemory>
 }
 
 /// The most names of a cube.
-fn most_names(grids: &[Grid]) -> usize {
+fn most_names(grids: &[Grid]) -> usize
+    ensures { All (λ g. length g.axes.items ≤ result) grids.now }
+{
     let mut most = 0;
     for grid in grids {
         most = most.max(grid.axes.len());
@@ -39,7 +42,7 @@ fn most_names(grids: &[Grid]) -> usize {
 /// Joins cubes that differ in the values of one name, by the last name first.
 fn round(alloc: Global, grids: Vec<Grid>) -> Result<Vec<Grid>, NoMemory>
     requires { All IsGrid grids.items }
-    ensures { IfOk result (λ v. Regroups grids.items v.items) }
+    ensures { IfOk result (λ v. RoundsTo grids.items v.items) }
 {
     let mut place = most_names(&grids);
     let mut grids = grids;
@@ -53,7 +56,8 @@ fn round(alloc: Global, grids: Vec<Grid>) -> Result<Vec<Grid>, NoMemory>
 /// Joins cubes until a round over all names changes nothing.
 fn all_joined(alloc: Global, grids: Vec<Grid>) -> Result<Vec<Grid>, NoMemory>
     requires { All IsGrid grids.items }
-    ensures { IfOk result (λ v. Regroups grids.items v.items) }
+    ensures keys { IfOk result (λ v. Regroups grids.items v.items) }
+    ensures settled { IfOk result (λ v. AreSettled v.items) }
 {
     let mut grids = grids;
     let mut before = grids.len() + 1;
@@ -69,12 +73,13 @@ fn all_joined(alloc: Global, grids: Vec<Grid>) -> Result<Vec<Grid>, NoMemory>
 ///
 /// Cubes with the same names in the same order and the same values in all but one of them become the cube with the values of
 /// both, where its text has at most 65,536 bytes: by the last name first, then by the name before it, and so on, in rounds until
-/// one of them joins nothing. That no two of what is left could be joined isn't said.
+/// one of them joins nothing. No two of what is left can be joined.
 pub fn cubes(alloc: Global, keys: &[Key]) -> Result<Vec<Cube>, NoMemory>
     requires askable { All IsAskable keys.now }
     requires distinct { AllPairs (λ a b. a ≢ b) keys.now }
     requires few { length keys.now ≤ 262144 }
     ensures keys { IfOk result (λ v. IsPermutation keys.now (keys_of v.items)) }
+    ensures joined { IfOk result (λ v. NoneCanJoin v.items) }
 {
     let grids = grids_of(alloc, keys)?;
     let grids = all_joined(alloc, grids)?;

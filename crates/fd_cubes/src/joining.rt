@@ -1,14 +1,12 @@
 // Two cubes as one.
-ghost use Rattle.std.specs.Prelude.{◌≡◌, ◌<◌, ◌≤◌, ◌++◌, ◌∷◌, [], IsTrue, IfOk, OnOk, length};
-ghost use Rattle.std.specs.List.{All};
-ghost use Rattle.std.specs.List.Sorted.{IsPermutation};
+ghost use Rattle.std.specs.Prelude.{◌≡◌, ◌≤◌, ◌↔◌, ◌∷◌, [], IsTrue, IfOk, OnOk, length};
 ghost use Rattle.fd_key.specs.Pairs.{key_text};
 ghost use Rattle.fd_request.specs.Expansion.{expand};
 ghost use Rattle.fd_cubes.specs.Cubes.{IsAskable, alone, cube_text};
 ghost use Rattle.fd_cubes.specs.Axes.{seen_axes};
-ghost use Rattle.fd_cubes.specs.Grids.{seen_grid, IsGrid, Takes};
+ghost use Rattle.fd_cubes.specs.Grids.{seen_grid, IsGrid, Joins, Takes};
 
-use crate::axis::{Axis, axis_of, same_but, values_at, width};
+use crate::axis::{Axis, add_values, axis_of, same_but, values_at, width};
 use crate::grid::{BYTES, Grid};
 use fd_bytes::NoMemory;
 use fd_key::Key;
@@ -51,7 +49,7 @@ pub(crate) fn grid_of(alloc: Global, key: &Key) -> Result<Grid, NoMemory>
 impl Grid {
     /// Tells that this cube can take the values that another has for the name at a place.
     pub(crate) fn takes(&self, other: &Grid, place: usize) -> bool
-        ensures { IsTrue result → Takes place self.now other.now }
+        ensures { IsTrue result ↔ Takes place self.now other.now }
     {
         if place >= self.axes.len() {
             return false;
@@ -65,19 +63,13 @@ impl Grid {
 
     /// Takes the values that another cube has for the name at a place.
     pub(crate) fn join(&mut self, place: usize, other: Grid) -> Result<(), NoMemory>
-        requires grid { IsGrid self.old }
-        requires other { IsGrid other }
         requires takes { Takes place self.old other }
-        ensures grid { OnOk result (IsGrid self.new) }
-        ensures keys { OnOk result (IsPermutation (expand (seen_grid self.new)) (expand (seen_grid self.old) ++ expand (seen_grid other))) }
+        ensures { OnOk result (Joins place self.old other self.new) }
     {
         let Grid { mut axes, size: _ } = other;
-        let Axis {
-            name: _,
-            mut values,
-        } = axes.swap_remove(place);
+        let Axis { name: _, values } = axes.swap_remove(place);
         self.size += width(&values);
-        self.axes[place].values.append(&mut values)?;
+        add_values(&mut self.axes[place].values, values)?;
         Ok(())
     }
 }

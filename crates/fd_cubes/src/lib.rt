@@ -9,7 +9,9 @@ mod grid;
 mod joining;
 mod laws;
 mod passing;
+mod printing;
 
 pub use cube::Cube;
 pub use gathering::cubes;
 pub use laws::every_cube_reads_back;
+pub use printing::lines_of;

@@ -1,11 +1,12 @@
 // The cubes that differ in the values of one name, joined.
-ghost use Rattle.std.specs.Prelude.{◌≡◌, ◌<◌, ◌++◌, ◌∷◌, [], IfOk, IfSome, OnOk, string_bytes, slice_get, Some, length, if◌then◌else◌};
+ghost use Rattle.std.specs.Prelude.{◌≡◌, ◌<◌, ◌++◌, ◌∷◌, [], IfOk, IfSome, IsTrue, List, None, OnOk, Some, cond, false, if◌then◌else◌, length, slice_get, string_bytes, ℕ};
 ghost use Rattle.std.specs.List.{All};
 ghost use Rattle.std.specs.List.Sorted.{IsPermutation};
+ghost use Rattle.std.specs.Str.{bytes_eq};
 ghost use Rattle.fd_schema.specs.Seen.{texts};
 ghost use Rattle.fd_cubes.specs.declared.grid.Grid as code_grid;
 ghost use Rattle.fd_cubes.specs.Axes.{code, seen_axes, values_code, with_values};
-ghost use Rattle.fd_cubes.specs.Grids.{IsGrid, Regroups, Takes};
+ghost use Rattle.fd_cubes.specs.Grids.{IsGrid, IsNoting, IsSettled, NoneTakes, PassesTo, Puts, Takes, noted, rest_of};
 
 use crate::axis::{Axis, values_at};
 use crate::grid::Grid;
@@ -57,37 +58,66 @@ pub(crate) fn rest_text(alloc: Global, axes: &[Axis], place: usize) -> Result<St
     Ok(out)
 }
 
+/// Tells that the cube at a place can take the values of another one.
+fn can_take(grids: &[Grid], at: usize, grid: &Grid, place: usize) -> bool
+    ensures within { IsTrue result → at < length grids.now }
+    ensures takes { IsTrue result → (g : code_grid.Grid) → slice_get grids.now at ≡ Some g → Takes place g grid.now }
+    ensures none { result ≡ false → (g : code_grid.Grid) → slice_get grids.now at ≡ Some g → Takes place g grid.now → ⊥ }
+{
+    at < grids.len() && grids[at].takes(grid, place)
+}
+
 /// The first of these cubes that can take the values of another one.
 fn first_to_take(places: &[usize], grids: &[Grid], grid: &Grid, place: usize) -> Option<usize>
     ensures within { IfSome result (λ i. i < length grids.now) }
     ensures takes { IfSome result (λ i. (g : code_grid.Grid) → slice_get grids.now i ≡ Some g → Takes place g grid.now) }
+    ensures none { result ≡ None → All (λ i. (g : code_grid.Grid) → slice_get grids.now i ≡ Some g → Takes place g grid.now → ⊥) places.now }
 {
     for at in places {
-        let at = *at;
-        if at < grids.len() && grids[at].takes(grid, place) {
-            return Some(at);
+        if can_take(grids, *at, grid, place) {
+            return Some(*at);
         }
     }
     None
 }
 
-/// The first cube with this text that can take the values of another one.
-fn taker(alike: &Alike, text: &str, grids: &[Grid], grid: &Grid, place: usize) -> Option<usize>
-    ensures within { IfSome result (λ i. i < length grids.now) }
-    ensures takes { IfSome result (λ i. (g : code_grid.Grid) → slice_get grids.now i ≡ Some g → Takes place g grid.now) }
+/// The places that stand at a text.
+fn places_at<'a>(alike: &'a Alike, text: &str) -> &'a [usize]
+    ensures { result.now ≡ noted alike.now text.now }
 {
     match alike.get(text) {
-        Some(places) => first_to_take(places, grids, grid, place),
-        None => None,
+        Some(places) => places,
+        None => &[],
+    }
+}
+
+/// The first cube with this text that can take the values of another one.
+fn taker(alike: &Alike, text: &str, grids: &[Grid], grid: &Grid, place: usize) -> Option<usize>
+    requires text { text.now ≡ rest_of place grid.now }
+    requires noting { IsNoting place alike.now grids.now }
+    ensures within { IfSome result (λ i. i < length grids.now) }
+    ensures takes { IfSome result (λ i. (g : code_grid.Grid) → slice_get grids.now i ≡ Some g → Takes place g grid.now) }
+    ensures none { result ≡ None → NoneTakes place grids.now grid.now }
+{
+    first_to_take(places_at(alike, text), grids, grid, place)
+}
+
+/// Takes out the places that stand at a text.
+fn taken_places(alloc: Global, alike: &mut Alike, text: &str) -> Vec<usize>
+    ensures places { result.items ≡ noted alike.old text.now }
+    ensures left { (t : List ℕ) → noted alike.new t ≡ cond (bytes_eq text.now t) [] (noted alike.old t) }
+{
+    match alike.remove(text) {
+        Some(places) => places,
+        None => Vec::new(alloc),
     }
 }
 
 /// Notes that the cube at a place has this text.
-fn note(alloc: Global, alike: &mut Alike, text: String, at: usize) -> Result<(), NoMemory> {
-    let mut places = match alike.remove(text.as_str()) {
-        Some(places) => places,
-        None => Vec::new(alloc),
-    };
+fn note(alloc: Global, alike: &mut Alike, text: String, at: usize) -> Result<(), NoMemory>
+    ensures { OnOk result ((t : List ℕ) → noted alike.new t ≡ cond (bytes_eq (string_bytes text) t) (noted alike.old (string_bytes text) ++ at ∷ []) (noted alike.old t)) }
+{
+    let mut places = taken_places(alloc, alike, text.as_str());
     places.push(at)?;
     alike.insert(text, places)?;
     Ok(())
@@ -103,7 +133,10 @@ fn put(
 ) -> Result<(), NoMemory>
     requires each { All IsGrid grids.old.items }
     requires grid { IsGrid grid }
-    ensures { OnOk result (Regroups (grids.old.items ++ grid ∷ []) grids.new.items) }
+    requires settled { IsSettled place grids.old.items }
+    requires noting { IsNoting place alike.old grids.old.items }
+    ensures puts { OnOk result (Puts place grids.old.items grid grids.new.items) }
+    ensures noting { OnOk result (IsNoting place alike.new grids.new.items) }
 {
     let text = rest_text(alloc, &grid.axes, place)?;
     match taker(alike, text.as_str(), grids, &grid, place) {
@@ -137,11 +170,11 @@ fn last_value_first(grids: &mut Vec<Grid>, place: usize) -> Result<(), NoMemory>
     Ok(())
 }
 
-/// Joins cubes that differ in the values of the name at a place. In the order of these values each goes to the first cube that
-/// has room for it.
+/// Joins cubes that differ in the values of the name at a place, until no two can be. In the order of these values each goes to
+/// the first cube that has room for it.
 pub(crate) fn pass(alloc: Global, place: usize, grids: Vec<Grid>) -> Result<Vec<Grid>, NoMemory>
     requires { All IsGrid grids.items }
-    ensures { IfOk result (λ v. Regroups grids.items v.items) }
+    ensures { IfOk result (λ v. PassesTo place grids.items v.items) }
 {
     let mut left = grids;
     last_value_first(&mut left, place)?;
