@@ -4,6 +4,8 @@
 #[cfg(test)]
 mod full;
 #[cfg(test)]
+mod layers;
+#[cfg(test)]
 mod reading;
 #[cfg(test)]
 mod stores;

@@ -97,7 +97,7 @@ fn are_fetched<F: Send + Drop, Z: Sealed<F>, X: Drop, K: Sink<X>>(
 }
 
 /// The byte of which these bytes consist, as many as a message has.
-fn byte_of(bytes: &[u8]) -> Option<u8> {
+pub(crate) fn byte_of(bytes: &[u8]) -> Option<u8> {
     let first = *bytes.first()?;
     if bytes == [first; SIZE].as_slice() {
         Some(first)
@@ -122,7 +122,7 @@ pub(crate) fn fetched<F: Send + Drop, Z: Sealed<F>>(
 
 /// A gate that counts how often each of the first two workers passed its first step, and what else passed.
 #[derive(Drop)]
-struct Counts {
+pub(crate) struct Counts {
     first: AtomicU64,
     second: AtomicU64,
     others: AtomicU64,
@@ -140,7 +140,7 @@ impl Gate for Counts {
 }
 
 impl Counts {
-    fn new() -> Counts {
+    pub(crate) fn new() -> Counts {
         Counts {
             first: AtomicU64::new(0),
             second: AtomicU64::new(0),
@@ -148,7 +148,7 @@ impl Counts {
         }
     }
 
-    fn all(&self) -> [u64; 3] {
+    pub(crate) fn all(&self) -> [u64; 3] {
         [
             self.first.load(Ordering::SeqCst),
             self.second.load(Ordering::SeqCst),
@@ -158,7 +158,7 @@ impl Counts {
 }
 
 /// The places of three keys.
-fn places(alloc: Global, keys: &[Key; 3]) -> Result<[Place; 3], AllocError> {
+pub(crate) fn places(alloc: Global, keys: &[Key; 3]) -> Result<[Place; 3], AllocError> {
     let first = place(alloc, keys[0])?;
     let second = place(alloc, keys[1])?;
     Ok([first, second, place(alloc, keys[2])?])

@@ -80,17 +80,17 @@ where
 }
 
 /// Founds the table of the dataset of a store in memory, and tells whether it did.
-fn is_begun_in_memory(alloc: Global, store: &mut MemStore) -> bool
+pub(crate) fn is_begun_in_memory(alloc: Global, store: &mut MemStore) -> bool
     requires { ⟦<MemStore as Store<MemFault>>⟧.out store.old (codes "a=1") ≡ false }
 {
     is_begun(alloc, store)
 }
 
 /// A snapshot of a dataset of the store.
-type Listed<F, S> = Snapshot<F, <<S as Store<F>>::Folder as Folder<F>>::Sealed>;
+pub(crate) type Listed<F, S> = Snapshot<F, <<S as Store<F>>::Folder as Folder<F>>::Sealed>;
 
 /// What is listed in the store that a crash left.
-fn listed<F: Send + Drop, S: Store<F>, R: Wait>(
+pub(crate) fn listed<F: Send + Drop, S: Store<F>, R: Wait>(
     rt: &R,
     alloc: Global,
     left: Result<S, (S, NoMemory)>,
