@@ -30,11 +30,12 @@ use Rattle.fd_outcome.proofs.Leaving.{grows_none, stays}
 use Rattle.fd_schema.specs.Grammar as schemas
 use Rattle.fd_schema.specs.Reading.{IsFirst}
 use Rattle.fd_schema.specs.declared.fault.SchemaKind.{SchemaKind}
-use Rattle.fd_retrieve.specs.Stops.{ToldSome}
+use Rattle.fd_telling.specs.Stops.{ToldSome}
 use Rattle.fd_bulk.specs.declared.bulk.Bulk.{Bulk}
 use Rattle.fd_bulk.specs.declared.bulk.BulkFault.{BulkFault}
 use Rattle.fd_bulk.specs.declared.bulk.BulkFault.TheVariants as faults
-use Rattle.fd_bulk.specs.Archived.{HasRead, IsCause, IsFront, IsRead, OnDisk, OnInput, refusal_at}
+use Rattle.fd_bulk.specs.Archived.{HasRead, IsCause, IsFront, IsRead, IsWholeTaken, OnDisk, OnInput}
+use Rattle.fd_outcome.specs.Fields.{refusal_at}
 use Rattle.fd_sections.specs.declared.bad.Bad.{Bad}
 use Rattle.fd_sections.specs.declared.bad.Bad.TheVariants as bads
 use Rattle.fd_sections.specs.declared.refusal.BadAt.{BadAt}
@@ -185,7 +186,7 @@ module _ (root : List ℕ) (given : List keys.Pair) (workers : ℕ) (start now :
 
     -- all messages are stored
     whole_grows : (bulk : Bulk) → (w : WholeKept workers rules given input.before input.now start now bulk) → Where (λ octets h i. GrowsBy workers (pairs_for (taken rules given octets).stored) h i)
-    whole_grows bulk w octets h i x y z = subst (λ t. GrowsBy workers (pairs_for t.stored) h i) (sym (at_some input.before (λ o. taken rules given o ≡ record { stored = w.all; refusal = None; junk = bulk.junk }) w.taken_is octets x)) (at_both (GrowsBy workers (pairs_for w.all)) w.grows h i y z)
+    whole_grows bulk w octets h i x y z = subst (λ ss. GrowsBy workers (pairs_for ss) h i) (sym (at_some input.before (λ o. IsWholeTaken w.all bulk.junk (taken rules given o)) w.taken_is octets x).stored) (at_both (GrowsBy workers (pairs_for w.all)) w.grows h i y z)
 
     abbrev counts_line : Bulk → List ℕ
     counts_line bulk = line (codes "archived " ++ decimal bulk.fields ++ codes " datasets " ++ decimal bulk.datasets ++ codes " junk " ++ decimal bulk.junk)
@@ -207,7 +208,10 @@ module _ (root : List ℕ) (given : List keys.Pair) (workers : ℕ) (start now :
 
         is : (octets : List ℕ) → input.before ≡ Some octets → archived given (Ok rules) octets ≡ record { output = []; report = counts_line bulk; status = Done }
         is octets x =
-            ap (λ t. archive_ends t t.refusal) (at_some input.before (λ o. taken rules given o ≡ record { stored = w.all; refusal = None; junk = bulk.junk }) w.taken_is octets x)
+            let t = at_some input.before (λ o. IsWholeTaken w.all bulk.junk (taken rules given o)) w.taken_is octets x in
+            ap (archive_ends (taken rules given octets)) t.refusal
+            ∙ ap (λ ss. record { output = []; report = line (codes "archived " ++ decimal (length ss) ++ codes " datasets " ++ decimal (count_distinct (datasets_in ss)) ++ codes " junk " ++ decimal (taken rules given octets).junk); status = Done }) t.stored
+            ∙ ap (λ n. record { output = []; report = line (codes "archived " ++ decimal (length w.all) ++ codes " datasets " ++ decimal (count_distinct (datasets_in w.all)) ++ codes " junk " ++ decimal n); status = Done }) t.skipped
             ∙ ap (λ n. record { output = []; report = line (codes "archived " ++ decimal n ++ codes " datasets " ++ decimal (count_distinct (datasets_in w.all)) ++ codes " junk " ++ decimal bulk.junk); status = Done }) (sym w.fields)
             ∙ ap (λ n. record { output = []; report = line (codes "archived " ++ decimal bulk.fields ++ codes " datasets " ++ decimal n ++ codes " junk " ++ decimal bulk.junk); status = Done }) (sym w.datasets)
 
@@ -320,7 +324,7 @@ module _ (root : List ℕ) (given : List keys.Pair) (workers : ℕ) (start now :
 
     message_ran : {X : Type 0} (at : BadAt) → RefusedOf {X = X} (faults.Message at) → IsCalm input → (refusal : Refusal) → IsRefusalOf at refusal → ToldRefusal refusal result report.before report.now report.faults_before report.faults_now → Out
     message_ran at w calm refusal of told =
-        let same : refusal_at (length w.all + 1) at.bad ≡ refusal = (let e = sym (bad_told (length w.all) at.bad) ∙ of false (length w.all) w.numbered in cc e) in
+        let same : refusal_at (w.messages + 1) at.bad ≡ refusal = (let e = sym (bad_told w.messages at.bad) ∙ of false w.messages w.numbered in cc e) in
         refusal_ran (faults.Message at) refusal (λ c is. is ∙ ap (λ (n : ℕ). causes.InStream (refusal_at n at.bad)) w.numbered ∙ ap causes.InStream same) w calm told
 
     -- why not all is stored
@@ -328,6 +332,7 @@ module _ (root : List ℕ) (given : List keys.Pair) (workers : ℕ) (start now :
         → OnDisk (Err fault) (Rose sm sn) → ToldFault fault result report.before report.now report.faults_before report.faults_now → Out
     halted_ran (faults.Input f) w calm read rose told = unread_ran w read told
     halted_ran (faults.Message at) w calm read rose told = message_ran at w calm told.0 told.1 told.2
+    halted_ran (faults.NoMap number field) w calm read rose told = refusal_ran (faults.NoMap number field) (refusals.NoMap number field) (λ c is. is) w calm told
     halted_ran (faults.Cut t) w calm read rose told = refusal_ran (faults.Cut t) (refusals.Cut t) (λ c is. is) w calm told
     halted_ran (faults.Key number fault) w calm read rose told = refusal_ran (faults.Key number fault) (refusals.Key number fault) (λ c is. is) w calm told
     halted_ran (faults.NoRule number text) w calm read rose told = elim told as (λ _. Out) [ inl t ↦ no_rule_ran number text w calm t | inr t ↦ starved_refused (faults.NoRule number text) w t ]

@@ -204,6 +204,7 @@ module _ {D : Type 0} (has : D → Option Contents) where
       back_of (Ok bulk) w = (w.all, back_only workers w.all each w.back)
       back_of (Err (faults.Input f)) w = (w.all, back_only workers w.all each w.back)
       back_of (Err (faults.Message at)) w = refused_back (faults.Message at) w
+      back_of (Err (faults.NoMap number field)) w = refused_back (faults.NoMap number field) w
       back_of (Err (faults.Cut t)) w = refused_back (faults.Cut t) w
       back_of (Err (faults.Key number fault)) w = refused_back (faults.Key number fault) w
       back_of (Err (faults.NoRule number text)) w = refused_back (faults.NoRule number text) w
@@ -221,7 +222,7 @@ module _ {D : Type 0} (has : D → Option Contents) where
 
       module _ {X : Type 0} where
         refused_kept : (fault : BulkFault X) → RefusedArchived has workers rules pairs left after start now each fault → RefusedKept workers rules pairs left after start later fault
-        refused_kept fault w = record { all = w.all; grows = all_grow workers w.all each start now later given w.grows w.back kept; firm = firm_all w.all w.grows w.back; firmly = all_firmly workers w.all each start now later given w.grows w.back; numbered = w.numbered; refused = w.refused }
+        refused_kept fault w = record { all = w.all; grows = all_grow workers w.all each start now later given w.grows w.back kept; firm = firm_all w.all w.grows w.back; firmly = all_firmly workers w.all each start now later given w.grows w.back; messages = w.messages; numbered = w.numbered; next_is = w.next_is; refused = w.refused }
 
         stopped_kept : (fault : BulkFault X) → StoppedArchived has workers rules pairs left after start now each fault → IsStop workers rules pairs left after start later fault → StoppedKept workers rules pairs left after start later fault
         stopped_kept fault w stop = record { all = w.all; grows = some_grow workers w.all each start now later given w.grows w.back; firmly = some_firmly workers w.all each start now later given w.grows w.back; front = w.front; stop = stop }
@@ -230,6 +231,7 @@ module _ {D : Type 0} (has : D → Option Contents) where
         kept_of (Ok bulk) w = record { all = w.all; grows = all_grow workers w.all each start now later given w.grows w.back kept; firm = firm_all w.all w.grows w.back; firmly = all_firmly workers w.all each start now later given w.grows w.back; fields = w.fields; datasets = w.datasets; taken_is = w.taken_is }
         kept_of (Err (faults.Input f)) w = record { all = w.all; grows = all_grow workers w.all each start now later given w.grows w.back kept; firm = firm_all w.all w.grows w.back; firmly = all_firmly workers w.all each start now later given w.grows w.back; read = w.read }
         kept_of (Err (faults.Message at)) w = refused_kept (faults.Message at) w
+        kept_of (Err (faults.NoMap number field)) w = refused_kept (faults.NoMap number field) w
         kept_of (Err (faults.Cut t)) w = refused_kept (faults.Cut t) w
         kept_of (Err (faults.Key number fault)) w = refused_kept (faults.Key number fault) w
         kept_of (Err (faults.NoRule number text)) w = refused_kept (faults.NoRule number text) w

@@ -28,7 +28,7 @@ use Rattle.fd_outcome.specs.Told.{Told, ToldOrNoMemory}
 use Rattle.fd_bulk.specs.declared.bulk.Bulk.{Bulk}
 use Rattle.fd_bulk.specs.declared.bulk.BulkFault.{BulkFault}
 use Rattle.fd_bulk.specs.declared.bulk.BulkFault.TheVariants as faults
-use Rattle.fd_bulk.specs.Archived.{HasRead, IsCause, IsFront}
+use Rattle.fd_bulk.specs.Archived.{HasRead, IsCause, IsFront, IsWholeTaken}
 use Rattle.fd_archive.specs.Crashing.{GrowsFirmly, IsFirm, Outlasts, OutlastsBy, OutlastsCrash, OutlastsTrial}
 use Rattle.fd_archive.specs.Kept.{InputKept, RefusedKept, StoppedKept, UnreadKept, WholeKept}
 use Rattle.fd_archive.specs.Telling.{ToldFault, ToldRefusal}
@@ -109,7 +109,7 @@ module _ (given : List keys.Pair) (workers : ℕ) (start now : Option Holdings) 
         (λ octets h i x y z. subst (λ ss. GrowsFirmly workers (pairs_for ss) h i) (sym (stored octets x)) (at_both (GrowsFirmly workers (pairs_for w.all)) w.firmly h i y z))
       where
         stored : (octets : List ℕ) → before ≡ Some octets → (taken rules given octets).stored ≡ w.all
-        stored octets x = ap (λ t. t.stored) (at_some before (λ o. taken rules given o ≡ record { stored = w.all; refusal = None; junk = bulk.junk }) w.taken_is octets x)
+        stored octets x = (at_some before (λ o. IsWholeTaken w.all bulk.junk (taken rules given o)) w.taken_is octets x).stored
 
     -- ---- what stands before a refusal or a failed read
 
@@ -168,6 +168,7 @@ module _ (given : List keys.Pair) (workers : ℕ) (start now : Option Holdings) 
       pub halted_keeps : (fault : BulkFault X) → InputKept workers rules given before left start now (Err fault) → ToldFault fault result c d m n → Keeps
       halted_keeps (faults.Input f) w told = unread_keeps w told
       halted_keeps (faults.Message at) w told = refusal_keeps (faults.Message at) told.0 w told.2
+      halted_keeps (faults.NoMap number field) w told = refusal_keeps (faults.NoMap number field) (refusals.NoMap number field) w told
       halted_keeps (faults.Cut t) w told = refusal_keeps (faults.Cut t) (refusals.Cut t) w told
       halted_keeps (faults.Key number fault) w told = refusal_keeps (faults.Key number fault) (refusals.Key number fault) w told
       halted_keeps (faults.NoRule number text) w told = keeps_or statuses.Refused (line (codes "refused NoRule " ++ string_bytes text)) told (firm_of (faults.NoRule number text) w) (grown_of (faults.NoRule number text) w) (firmly_of (faults.NoRule number text) w)
@@ -248,9 +249,11 @@ starved_outlasts result has sm sn left im io c d m n told (Some (commands.Genera
 starved_outlasts result has sm sn left im io c d m n told (Some (commands.Create root)) = tt
 starved_outlasts result has sm sn left im io c d m n told (Some (commands.Archive root given workers)) = idle_keeps given workers has left left result (Takes c d table_full) NoMemory no_memory c d m n (inl refl) told
 starved_outlasts result has sm sn left im io c d m n told (Some (commands.Retrieve root workers)) = tt
+starved_outlasts result has sm sn left im io c d m n told (Some (commands.RetrieveOver root layers workers)) = tt
 starved_outlasts result has sm sn left im io c d m n told (Some (commands.List root)) = tt
 starved_outlasts result has sm sn left im io c d m n told (Some (commands.Axes root)) = tt
 starved_outlasts result has sm sn left im io c d m n told (Some (commands.Stats root)) = tt
+starved_outlasts result has sm sn left im io c d m n told (Some (commands.Cubes root)) = tt
 starved_outlasts result has sm sn left im io c d m n told (Some (commands.Session root)) = tt
 starved_outlasts result has sm sn left im io c d m n told (Some (commands.Purge root dataset)) = tt
 starved_outlasts result has sm sn left im io c d m n told (Some (commands.Wipe root dataset)) = tt

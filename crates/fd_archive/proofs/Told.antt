@@ -63,6 +63,7 @@ pub on_disk : {X : Type 0} (r : Result Bulk (BulkFault X)) (P Q : Type 0) → (P
 on_disk (Ok bulk) P Q f p = tt
 on_disk (Err (faults.Input e)) P Q f p = tt
 on_disk (Err (faults.Message at)) P Q f p = tt
+on_disk (Err (faults.NoMap number field)) P Q f p = tt
 on_disk (Err (faults.Cut t)) P Q f p = tt
 on_disk (Err (faults.Key number e)) P Q f p = tt
 on_disk (Err (faults.NoRule number text)) P Q f p = tt

@@ -93,9 +93,11 @@ OutlastsCrash (commands.Create root) s store input report = Unit {0}
 OutlastsCrash (commands.Archive root given workers) s store input report =
     IfSome input.before (λ octets. WhereTold store.before store.now (λ h i. OutlastsBy s (Takes report.before report.now table_full) workers (rules_of h.schema) given octets input.now h i))
 OutlastsCrash (commands.Retrieve root workers) s store input report = Unit {0}
+OutlastsCrash (commands.RetrieveOver root layers workers) s store input report = Unit {0}
 OutlastsCrash (commands.List root) s store input report = Unit {0}
 OutlastsCrash (commands.Axes root) s store input report = Unit {0}
 OutlastsCrash (commands.Stats root) s store input report = Unit {0}
+OutlastsCrash (commands.Cubes root) s store input report = Unit {0}
 OutlastsCrash (commands.Session root) s store input report = Unit {0}
 OutlastsCrash (commands.Purge root dataset) s store input report = Unit {0}
 OutlastsCrash (commands.Wipe root dataset) s store input report = Unit {0}

@@ -10,7 +10,7 @@ use Rattle.fd_outcome.specs.Store.{Grows, GrowsBy, IsFull, Stands}
 use Rattle.fd_bulk.specs.declared.bulk.Bulk.{Bulk}
 use Rattle.fd_bulk.specs.declared.bulk.BulkFault.{BulkFault}
 use Rattle.fd_bulk.specs.declared.bulk.BulkFault.TheVariants as faults
-use Rattle.fd_bulk.specs.Archived.{HasRead, IsCause, IsFront, IsNumbered}
+use Rattle.fd_bulk.specs.Archived.{HasRead, IsCause, IsFront, IsNumbered, IsWholeTaken}
 use Rattle.fd_archive.specs.Crashing.{GrowsFirmly, IsFirm}
 
 module _ (workers : ℕ) (rules : List Rule) (given : List Pair) (left after : Option (List ℕ)) (start now : Option Holdings) where
@@ -22,7 +22,7 @@ module _ (workers : ℕ) (rules : List Rule) (given : List Pair) (left after : O
     pub firmly : WhereTold start now (GrowsFirmly workers (pairs_for all))
     pub fields : bulk.fields ≡ length all
     pub datasets : bulk.datasets ≡ count_distinct (datasets_in all)
-    pub taken_is : IfSome left (λ octets. taken rules given octets ≡ record { stored = all; refusal = None; junk = bulk.junk })
+    pub taken_is : IfSome left (λ octets. IsWholeTaken all bulk.junk (taken rules given octets))
 
   -- these stand in it so, and the message behind them is refused, or the input
   pub record RefusedKept {X : Type 0} (fault : BulkFault X) : Type 0 where
@@ -30,7 +30,10 @@ module _ (workers : ℕ) (rules : List Rule) (given : List Pair) (left after : O
     pub grows : WhereTold start now (GrowsBy workers (pairs_for all))
     pub firm : WhereTold start now (IsFirm workers all)
     pub firmly : WhereTold start now (GrowsFirmly workers (pairs_for all))
-    pub numbered : IsNumbered fault (length all + 1)
+    -- the number of the message that is refused
+    pub messages : ℕ
+    pub numbered : IsNumbered fault (messages + 1)
+    pub next_is : IfSome left (λ octets. IsNumbered fault (taken rules given octets).next)
     pub refused : IfSome left (λ octets. ((taken rules given octets).stored ≡ all) × ((c : Cause) × ((taken rules given octets).refusal ≡ Some c) × IsCause fault c))
 
   -- these stand in it so, and a read failed
@@ -67,6 +70,7 @@ module _ (workers : ℕ) (rules : List Rule) (given : List Pair) (left after : O
   InputKept (Ok bulk) = WholeKept bulk
   InputKept (Err (faults.Input f)) = UnreadKept
   InputKept {X = X} (Err (faults.Message at)) = RefusedKept {X = X} (faults.Message at)
+  InputKept {X = X} (Err (faults.NoMap number field)) = RefusedKept {X = X} (faults.NoMap number field)
   InputKept {X = X} (Err (faults.Cut t)) = RefusedKept {X = X} (faults.Cut t)
   InputKept {X = X} (Err (faults.Key number fault)) = RefusedKept {X = X} (faults.Key number fault)
   InputKept {X = X} (Err (faults.NoRule number text)) = RefusedKept {X = X} (faults.NoRule number text)

@@ -28,6 +28,7 @@ ToldRefusal refusal result c d m n = ToldOrNoMemory (refusal_status refusal) (re
 abbrev pub ToldFault : {X : Type 0} → BulkFault X → Status → Option (List ℕ) → Option (List ℕ) → ℕ → ℕ → Type 0
 ToldFault (faults.Input f) result c d m n = Told statuses.InputFault input_failed result c d m n
 ToldFault (faults.Message at) result c d m n = (refusal : Refusal) × IsRefusalOf at refusal × ToldRefusal refusal result c d m n
+ToldFault (faults.NoMap number field) result c d m n = ToldRefusal (refusals.NoMap number field) result c d m n
 ToldFault (faults.Cut t) result c d m n = ToldRefusal (refusals.Cut t) result c d m n
 ToldFault (faults.Key number fault) result c d m n = ToldRefusal (refusals.Key number fault) result c d m n
 ToldFault (faults.NoRule number text) result c d m n = ToldOrNoMemory statuses.Refused (line (codes "refused NoRule " ++ string_bytes text)) result c d m n

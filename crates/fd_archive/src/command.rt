@@ -13,15 +13,15 @@ use fd_disk::{Folder, Shelf, Store};
 use fd_io::{Gate, Sink, Source};
 use fd_key::Given;
 use fd_outcome::{Status, Unruled, stored_schema, tell, tell_disk_failed, tell_no_memory};
-use fd_retrieve::tell_schema;
 use fd_schema::Schema;
+use fd_telling::tell_schema;
 use fd_words::Root;
 use std::alloc::Global;
 use std::sync::Wait;
 use std::thread::Threads;
 
-/// Stores the messages of the input under their keys and the given pairs, each in the dataset that the store's schema says,
-/// by so many workers, and tells how many they were, or why the next one isn't stored. No folder of the store is out, and
+/// Stores the fields of the input, each as a message of its own, under their keys and the given pairs, in the datasets that the store's
+/// schema says, by so many workers, and tells how many they were, or why the next one isn't stored. No folder of the store is out, and
 /// none is out afterwards. Before a refusal of the input or a failed read is told, all datasets are listed; a refusal that a
 /// worker meets there is told in its place.
 ///

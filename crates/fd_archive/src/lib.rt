@@ -1,4 +1,4 @@
-//! `archive`: the messages of a stream, stored in the datasets of a store by several workers.
+//! `archive`: the fields of a stream, stored in the datasets of a store by several workers.
 #![tactic(auto)]
 
 mod command;

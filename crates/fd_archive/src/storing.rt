@@ -14,12 +14,13 @@ use std::alloc::Global;
 use std::sync::Wait;
 use std::thread::Threads;
 
-/// Stores the messages of the input under their keys and the given pairs, each in the dataset that the schema says, by so
-/// many workers, at most 8, lists them, and gives all datasets back: what was stored, or why not all. No folder of the store
+/// Stores the fields of the input, each as a message of its own, under their keys and the given pairs, in the datasets that the schema
+/// says, by so many workers, at most 8, lists them, and gives all datasets back: what was stored, or why not all. No folder of the store
 /// is out, and none is out afterwards.
 ///
-/// At a refusal of the input and at a failed read the messages before it are all stored. At another fault, and where memory
-/// runs out, each dataset has few batches more, of its messages alone.
+/// At a refusal of the input and at a failed read the fields before it are all stored: of a message that is refused as a whole none, of
+/// one with a field that can't be stored those before that field. At another fault, and where memory runs out, each dataset has few
+/// batches more, of its messages alone.
 pub fn store_all<
     F: Send + Drop,
     X: Drop,

@@ -11,10 +11,10 @@ use fd_outcome::{
     Refusal, Status, refusal_of, tell, tell_disk_failed, tell_input_failed, tell_no_memory,
     tell_refusal, tell_text,
 };
-use fd_retrieve::{Broken, tell_broken};
+use fd_telling::{Broken, tell_broken};
 use std::alloc::Global;
 
-/// Writes the line of how many messages were stored, in how many datasets, and how many octets were skipped.
+/// Writes the line of how many fields were stored, in how many datasets, and how many octets were skipped.
 pub(crate) fn tell_counts<X: Drop, E: Sink<X>>(alloc: Global, report: &mut E, bulk: Bulk) -> Status
     ensures { ToldOrNoMemory Status.Done (line (codes "archived " ++ decimal bulk.fields ++ codes " datasets " ++ decimal bulk.datasets ++ codes " junk " ++ decimal bulk.junk)) result (E.taken report.old) (E.taken report.new) (E.faults report.old) (E.faults report.new) }
 {
@@ -40,6 +40,9 @@ pub fn tell_fault<X: Drop, Y: Drop, E: Sink<Y>>(
     match fault {
         BulkFault::Input(_) => tell_input_failed(report),
         BulkFault::Message(at) => tell_refusal(alloc, report, refusal_of(at)),
+        BulkFault::NoMap { number, field } => {
+            tell_refusal(alloc, report, Refusal::NoMap { number, field })
+        }
         BulkFault::Cut(cut) => tell_refusal(alloc, report, Refusal::Cut(cut)),
         BulkFault::Key { number, fault } => {
             tell_refusal(alloc, report, Refusal::Key { number, fault })

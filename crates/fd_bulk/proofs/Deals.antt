@@ -18,6 +18,7 @@ module _ {D H X Y E : Type 0} (has : D → Option Contents) (kept : H → Option
   pub seated_undealt : {Z : Type 0} (fault : BulkFault Z) → SeatedAs has kept start now all waiting worker n datasets (Err fault) l ps js parcels → Undealt has kept start now all waiting name texts fault l ps js parcels
   seated_undealt (faults.Input f) s = absurd s
   seated_undealt (faults.Message bad) s = absurd s
+  seated_undealt (faults.NoMap number field) s = absurd s
   seated_undealt (faults.Cut t) s = absurd s
   seated_undealt (faults.Key number why) s = absurd s
   seated_undealt (faults.NoRule number text) s = absurd s
@@ -32,6 +33,7 @@ module _ {D H X Y E : Type 0} (has : D → Option Contents) (kept : H → Option
   pub seated_few : {Z : Type 0} (too_many : Bool) (fault : BulkFault Z) → SeatedAs has kept start now all waiting worker n datasets (Err fault) l ps js parcels → TooManyAt {A = Unit {0}} too_many (Err fault)
   seated_few b (faults.Input f) s = tt
   seated_few b (faults.Message bad) s = tt
+  seated_few b (faults.NoMap number field) s = tt
   seated_few b (faults.Cut t) s = tt
   seated_few b (faults.Key number why) s = tt
   seated_few b (faults.NoRule number text) s = tt
@@ -47,6 +49,7 @@ module _ {D H X Y E : Type 0} (has : D → Option Contents) (kept : H → Option
   pub seated_calm : {Z : Type 0} (fault : BulkFault Z) → SeatedAs has kept start now all waiting worker n datasets (Err fault) l ps js parcels → is_calm fault ≡ false
   seated_calm (faults.Input f) s = refl
   seated_calm (faults.Message bad) s = absurd s
+  seated_calm (faults.NoMap number field) s = absurd s
   seated_calm (faults.Cut t) s = absurd s
   seated_calm (faults.Key number why) s = absurd s
   seated_calm (faults.NoRule number text) s = absurd s

@@ -22,7 +22,7 @@ use Rattle.fd_bulk.specs.declared.bulk.BulkFault.TheVariants as faults
 use Rattle.fd_bulk.specs.declared.reading.Counts.{Counts}
 use Rattle.fd_bulk.specs.declared.round.Job.{Job}
 use Rattle.fd_bulk.specs.declared.round.Parcel.{Parcel}
-use Rattle.fd_bulk.specs.Archived.{Archived, Grows, GrowsAll, IsBack, IsCause, IsFront, IsRead, IsSure, OnDisk, OnInput, StoppedArchived, WholeArchived}
+use Rattle.fd_bulk.specs.Archived.{Archived, Grows, GrowsAll, IsBack, IsCause, IsFront, IsNumbered, IsRead, IsSure, OnDisk, OnInput, StoppedArchived, WholeArchived, IsWholeTaken}
 use Rattle.fd_bulk.specs.Crewing.{AllBegun, CanEnd, Crewed, Deals, Finished, HasBegun, HasFull, HoldsRest, SeeFull, Stopping, desks_at}
 use Rattle.fd_bulk.specs.Halting.{HaveMetNone, OnStore}
 use Rattle.fd_bulk.specs.Inputs.{BeginsIn, ComesTo, EndsAfter, InputEnds, is_calm, is_unread}
@@ -113,6 +113,7 @@ module _ {Z : Type 0} (P : Type 0) where
   pub read_of : (fault : BulkFault Z) → (is_calm fault ≡ true → P) → IsRead (Err fault) P
   read_of (faults.Input f) p = tt
   read_of (faults.Message at) p = p refl
+  read_of (faults.NoMap number field) p = p refl
   read_of (faults.Cut t) p = p refl
   read_of (faults.Key number why) p = p refl
   read_of (faults.NoRule number text) p = p refl
@@ -127,6 +128,7 @@ module _ {Z : Type 0} (P : Type 0) where
   pub input_of : (fault : BulkFault Z) → (is_unread fault ≡ true → P) → OnInput (Err fault) P
   input_of (faults.Input f) p = p refl
   input_of (faults.Message at) p = tt
+  input_of (faults.NoMap number field) p = tt
   input_of (faults.Cut t) p = tt
   input_of (faults.Key number why) p = tt
   input_of (faults.NoRule number text) p = tt
@@ -141,6 +143,7 @@ module _ {Z : Type 0} (P : Type 0) where
   pub disk_of : (fault : BulkFault Z) → OnStore fault P → OnDisk (Err fault) P
   disk_of (faults.Input f) p = tt
   disk_of (faults.Message at) p = tt
+  disk_of (faults.NoMap number field) p = tt
   disk_of (faults.Cut t) p = tt
   disk_of (faults.Key number why) p = tt
   disk_of (faults.NoRule number text) p = tt
@@ -164,6 +167,7 @@ module _ {D H X Y F : Type 0} (has : D → Option Contents) (kept : H → Option
     stops (Ok counts) m = finished_stops has kept start now m.lost l ps js m.all m.ends.0
     stops (Err (faults.Input f)) m = finished_stops has kept start now m.lost l ps js m.all m.ends
     stops (Err (faults.Message at)) m = finished_stops has kept start now m.lost l ps js m.all m.ends.0
+    stops (Err (faults.NoMap number field)) m = finished_stops has kept start now m.lost l ps js m.all m.ends.0
     stops (Err (faults.Cut t)) m = finished_stops has kept start now m.lost l ps js m.all m.ends.0
     stops (Err (faults.Key number why)) m = finished_stops has kept start now m.lost l ps js m.all m.ends.0
     stops (Err (faults.NoRule number text)) m = finished_stops has kept start now m.lost l ps js m.all m.ends.0
@@ -214,7 +218,7 @@ module _ {D H X Y F : Type 0} (has : D → Option Contents) (kept : H → Option
           let c = m.ends.0 in
           let long = matched_long (λ k b h q. HasBegun has start m.lost b h q (desks_at k js)) 0 l.boards l.each ps c.each in
           datasets ∙ long.0 ∙ sym (length-map l.each (λ (h : OpenDataset D). h.name)) ∙ sym m.ends.1.count;
-      taken_is = subst (λ (k : ℕ). IfSome left (λ octets. taken rules given octets ≡ record { stored = m.all; refusal = None; junk = k })) (sym junk) m.comes.1;
+      taken_is = subst (λ (k : ℕ). IfSome left (λ octets. IsWholeTaken m.all k (taken rules given octets))) (sym junk) m.comes.1;
     }
 
     -- a dataset that has a pair is one of a message
@@ -229,7 +233,7 @@ module _ {D H X Y F : Type 0} (has : D → Option Contents) (kept : H → Option
 
     module _ {Z : Type 0} where
       -- the next message is refused, or the input
-      refused_at : (all : List Stored) (fault : BulkFault Z) → ((t : Taken) → Rattle.fd_bulk.specs.Inputs.EndsTaken fault t → (t.stored ≡ []) × ((c : Cause) × (t.refusal ≡ Some c) × IsCause fault c)) → IfSome left (λ octets. EndsAfter fault all (taken rules given octets))
+      refused_at : (all : List Stored) (fault : BulkFault Z) → ((t : Taken) → Rattle.fd_bulk.specs.Inputs.EndsTaken fault t → (t.stored ≡ []) × ((c : Cause) × (t.refusal ≡ Some c) × IsCause fault c × IsNumbered fault t.next)) → IfSome left (λ octets. EndsAfter fault all (taken rules given octets))
           → IfSome left (λ octets. ((taken rules given octets).stored ≡ all) × ((c : Cause) × ((taken rules given octets).refusal ≡ Some c) × IsCause fault c))
       refused_at all fault says x = go left x
         where
@@ -240,6 +244,15 @@ module _ {D H X Y F : Type 0} (has : D → Option Contents) (kept : H → Option
                 ap (λ (t : Taken). t.stored) x.is ∙ ap (λ (zs : List Stored). all ++ zs) e.0 ∙ append-nil all,
                 (e.1.0, ap (λ (t : Taken). t.refusal) x.is ∙ e.1.1, e.1.2),
               )
+
+      -- and its number
+      numbered_at : (all : List Stored) (fault : BulkFault Z) → ((t : Taken) → Rattle.fd_bulk.specs.Inputs.EndsTaken fault t → (t.stored ≡ []) × ((c : Cause) × (t.refusal ≡ Some c) × IsCause fault c × IsNumbered fault t.next)) → IfSome left (λ octets. EndsAfter fault all (taken rules given octets))
+          → IfSome left (λ octets. IsNumbered fault (taken rules given octets).next)
+      numbered_at all fault says x = go left x
+        where
+          go : (o : Option (List ℕ)) → IfSome o (λ octets. EndsAfter fault all (taken rules given octets)) → IfSome o (λ octets. IsNumbered fault (taken rules given octets).next)
+          go None x = tt
+          go (Some octets) x = let e = says x.rest x.ends in subst (λ (t : Taken). IsNumbered fault t.next) (sym x.is) e.1.3
 
       -- the dataset is one of a message
       met_in : (all : List Stored) (fault : BulkFault Z) (name : List ℕ) → ((t : Taken) → Rattle.fd_bulk.specs.Inputs.EndsTaken fault t → BeginsIn name t) → IfSome left (λ octets. EndsAfter fault all (taken rules given octets)) → IfSome left (λ octets. Contains (datasets_in (taken rules given octets).stored) name)
@@ -255,10 +268,11 @@ module _ {D H X Y F : Type 0} (has : D → Option Contents) (kept : H → Option
 
       pub told : (fault : BulkFault Z) → Ends (Err fault) → Archived has workers rules given left after start now each (Err fault)
       told (faults.Input f) m = record { all = m.all; grows = all_grown m.lost m.all m.ends; back = all_back m.lost m.all m.ends; read = m.comes }
-      told (faults.Message at) m = record { all = m.all; grows = all_grown m.lost m.all m.ends.0; back = all_back m.lost m.all m.ends.0; numbered = m.ends.1; refused = refused_at m.all (faults.Message at) (λ t e. e) m.comes }
-      told (faults.Cut c) m = record { all = m.all; grows = all_grown m.lost m.all m.ends.0; back = all_back m.lost m.all m.ends.0; numbered = m.ends.1; refused = refused_at m.all (faults.Cut c) (λ t e. e) m.comes }
-      told (faults.Key number why) m = record { all = m.all; grows = all_grown m.lost m.all m.ends.0; back = all_back m.lost m.all m.ends.0; numbered = m.ends.1; refused = refused_at m.all (faults.Key number why) (λ t e. e) m.comes }
-      told (faults.NoRule number text) m = record { all = m.all; grows = all_grown m.lost m.all m.ends.0; back = all_back m.lost m.all m.ends.0; numbered = m.ends.1; refused = refused_at m.all (faults.NoRule number text) (λ t e. e) m.comes }
+      told (faults.Message at) m = record { all = m.all; grows = all_grown m.lost m.all m.ends.0; back = all_back m.lost m.all m.ends.0; messages = m.ends.1.0; numbered = m.ends.1.1; split = m.ends.1.2; next_is = numbered_at m.all (faults.Message at) (λ t e. e) m.comes; refused = refused_at m.all (faults.Message at) (λ t e. e) m.comes }
+      told (faults.NoMap number field) m = record { all = m.all; grows = all_grown m.lost m.all m.ends.0; back = all_back m.lost m.all m.ends.0; messages = m.ends.1.0; numbered = m.ends.1.1; split = m.ends.1.2; next_is = numbered_at m.all (faults.NoMap number field) (λ t e. e) m.comes; refused = refused_at m.all (faults.NoMap number field) (λ t e. e) m.comes }
+      told (faults.Cut c) m = record { all = m.all; grows = all_grown m.lost m.all m.ends.0; back = all_back m.lost m.all m.ends.0; messages = m.ends.1.0; numbered = m.ends.1.1; split = m.ends.1.2; next_is = numbered_at m.all (faults.Cut c) (λ t e. e) m.comes; refused = refused_at m.all (faults.Cut c) (λ t e. e) m.comes }
+      told (faults.Key number why) m = record { all = m.all; grows = all_grown m.lost m.all m.ends.0; back = all_back m.lost m.all m.ends.0; messages = m.ends.1.0; numbered = m.ends.1.1; split = m.ends.1.2; next_is = numbered_at m.all (faults.Key number why) (λ t e. e) m.comes; refused = refused_at m.all (faults.Key number why) (λ t e. e) m.comes }
+      told (faults.NoRule number text) m = record { all = m.all; grows = all_grown m.lost m.all m.ends.0; back = all_back m.lost m.all m.ends.0; messages = m.ends.1.0; numbered = m.ends.1.1; split = m.ends.1.2; next_is = numbered_at m.all (faults.NoRule number text) (λ t e. e) m.comes; refused = refused_at m.all (faults.NoRule number text) (λ t e. e) m.comes }
       told faults.Disk m = record { all = m.all; grows = grown m.lost m.all m.ends; back = back m.lost m.all m.ends; front = ends_front Z rules given left m.all faults.Disk m.comes; stop = tt }
       told (faults.NotATable dataset at want found) m = record {
         all = m.all;
@@ -278,6 +292,6 @@ module _ {D H X Y F : Type 0} (has : D → Option Contents) (kept : H → Option
           let front = ends_front Z rules given left m.all (faults.TableFull n) m.comes in
           let f = full start now m.lost m.all m.ends.0 m.ends.1.1 in
           record { all = m.all; grows = grown m.lost m.all m.ends.0; back = back m.lost m.all m.ends.0; front = front; stop = (m.ends.1.0, (f.0, f.1, f.2, met_among m.all f.0.name f.3 front)) }
-      told (faults.TooMany n) m = record { all = m.all; grows = all_grown m.lost m.all m.ends.0; back = all_back m.lost m.all m.ends.0; numbered = tt; refused = refused_at m.all (faults.TooMany n) (λ t e. e) m.comes }
-      told faults.InputLimit m = record { all = m.all; grows = all_grown m.lost m.all m.ends.0; back = all_back m.lost m.all m.ends.0; numbered = tt; refused = refused_at m.all faults.InputLimit (λ t e. e) m.comes }
+      told (faults.TooMany n) m = record { all = m.all; grows = all_grown m.lost m.all m.ends.0; back = all_back m.lost m.all m.ends.0; messages = 0; numbered = tt; split = tt; next_is = numbered_at m.all (faults.TooMany n) (λ t e. e) m.comes; refused = refused_at m.all (faults.TooMany n) (λ t e. e) m.comes }
+      told faults.InputLimit m = record { all = m.all; grows = all_grown m.lost m.all m.ends.0; back = all_back m.lost m.all m.ends.0; messages = 0; numbered = tt; split = tt; next_is = numbered_at m.all faults.InputLimit (λ t e. e) m.comes; refused = refused_at m.all faults.InputLimit (λ t e. e) m.comes }
       told faults.NoMemory m = record { all = m.all; grows = grown m.lost m.all m.ends; back = back m.lost m.all m.ends; front = ends_front Z rules given left m.all faults.NoMemory m.comes; stop = tt }

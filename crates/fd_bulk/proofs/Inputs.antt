@@ -2,12 +2,13 @@
 use Rattle.std.proofs.Common.{◌≡◌, ℕ, ◌+◌, ◌<◌, ◌≤◌, Bool, true, false, List, [], ◌++◌, length, take, Option, Some, None, Result, Ok, Err, refl, sym, ap, subst, ◌∙◌, append_assoc, append-nil, arith, length-append}
 use Rattle.std.proofs.lemmas.List.{take_at}
 use Rattle.fd_sections.specs.declared.refusal.Truncated.{Truncated}
-use Rattle.fd_sections.specs.Message.{Sections}
+use Rattle.fd_sections.specs.Frames.{Frames, FramesEnd, frames}
 use Rattle.fd_sections.specs.Progress.{Progress}
-use Rattle.fd_sections.specs.Splitting.{start, fed, finished}
-use Rattle.fd_sections.specs.Stream.{Stream, first, stream}
-use Rattle.fd_sections.specs.Joining.{IsStream, IsWaiting}
-use Rattle.fd_sections.proofs.Joins.{all_ended, all_ended_so, splits_more, splits_nothing, splits_piece}
+use Rattle.fd_sections.specs.Splitting.{finished}
+use Rattle.fd_sections.specs.Stream.{End, Whole, first}
+use Rattle.fd_sections.specs.Stream as streams
+use Rattle.fd_sections.specs.Joining.{IsWaiting}
+use Rattle.fd_sections.proofs.Frames.{ends_framed}
 use Rattle.fd_key.specs.Pairs.{Pair}
 use Rattle.fd_schema.specs.Rules.{Rule}
 use Rattle.fd_outcome.specs.declared.refusal.Refusal.TheVariants.{Cut, Input}
@@ -15,116 +16,123 @@ use Rattle.fd_bulk.specs.declared.bulk.BulkFault.{BulkFault}
 use Rattle.fd_bulk.specs.declared.bulk.BulkFault.TheVariants as faults
 use Rattle.fd_outcome.specs.Limits.{input_limit}
 use Rattle.fd_outcome.specs.Causes.{Cause, InStream}
-use Rattle.fd_outcome.specs.Archiving.{Stored, Taken, ended, taken, taken_of, taken_after, datasets_in}
+use Rattle.fd_outcome.specs.Fields.{behind_fields, fields_after}
+use Rattle.fd_outcome.specs.Positions.{Position, at_message, fed_at}
+use Rattle.fd_outcome.specs.Inputs.{refused}
+use Rattle.fd_outcome.specs.Archiving.{Stored, Taken, datasets_in, ended, in_stream, taken, taken_after, taken_of, taken_of_fields}
+use Rattle.fd_bulk.specs.Archived.{IsWholeTaken}
 use Rattle.fd_bulk.specs.Inputs.{EndsAfter, EndedOn}
-use Rattle.fd_bulk.specs.Taking.{AreStored, StoredOn, Seen, behind, taken_from}
-use Rattle.fd_outcome.proofs.InputLaws.{all_of, front_of, begins_with}
-use Rattle.fd_bulk.proofs.Takings.{behind_both, both_stored, taken_end, taken_on}
+use Rattle.fd_bulk.specs.Taking.{Seen, StoredOn, behind, taken_from}
+use Rattle.fd_outcome.proofs.FrameLaws.{all_of, begins_with, front_of}
+use Rattle.fd_bulk.proofs.Takings.{behind_both, piece_later}
 
 -- ---- how it went on
 
 module _ (rules : List Rule) (given : List Pair) where
-  abbrev of_stream : Bool → Stream → Taken
-  of_stream past s = taken_after rules given past [] 0 0 s
+  abbrev of_fields : Bool → Frames → Taken
+  of_fields past s = taken_after rules given past [] 0 0 s
 
-  pub seen_nothing : (p : Progress) → p ≡ start → Seen rules given p [] []
-  seen_nothing p e = subst (λ (q : Progress). Seen rules given q [] []) (sym e) (record { messages = []; splits = splits_nothing start; stores = refl })
-
-  fed_then : (p : Progress) (a : List Stored) (seen piece : List ℕ) → Seen rules given p a seen → (past : Bool) (more : List ℕ)
-      → of_stream past (stream ((seen ++ piece) ++ more)) ≡ behind a (taken_from rules given (datasets_in a) (fed p piece) past more)
-  fed_then p a seen piece s past more =
-      ap (λ (x : List ℕ). of_stream past (stream x)) (append_assoc seen piece more)
-      ∙ taken_on rules given past [] start p seen s.messages a (piece ++ more) s.splits s.stores
-      ∙ ap (λ (x : List ℕ). behind a (taken_after rules given past (datasets_in a) p.given p.skipped (stream x))) (sym (append_assoc p.rest piece more))
-
-  pub seen_more : (p q : Progress) (a b : List Stored) (seen piece : List ℕ) → Seen rules given p a seen → StoredOn rules given (fed p piece) q a b → Seen rules given q b (seen ++ piece)
-  seen_more p q a b seen piece s t =
-      subst (λ (bs : List Stored). Seen rules given q bs (seen ++ piece)) (sym t.adds) (record {
-        messages = s.messages ++ t.on.messages;
-        splits = splits_more start p q seen piece s.messages t.on.messages s.splits (splits_piece p q piece t.on.messages t.on.splits);
-        stores = both_stored rules given [] start p seen s.messages t.on.messages a t.new s.splits s.stores t.on.stores;
-      })
+  fed_then : (a : Position) (x : List Stored) (seen piece : List ℕ) → Seen rules given a x seen → (past : Bool) (more : List ℕ) → of_fields past (frames ((seen ++ piece) ++ more)) ≡ behind x (taken_from rules given (datasets_in x) (fed_at a piece) past more)
+  fed_then a x seen piece s past more =
+      ap (λ (y : List ℕ). of_fields past (frames y)) (append_assoc seen piece more)
+      ∙ s.on past (piece ++ more)
+      ∙ ap (behind x) (sym (piece_later rules given (datasets_in x) a piece past more))
 
   module _ {Z : Type 0} where
     -- what was stored of a piece ended for a cause
-    pub ended_in : (e : BulkFault Z) (p : Progress) (a b : List Stored) (octets seen piece after : List ℕ) → Seen rules given p a seen → octets ≡ (seen ++ piece) ++ after → length (seen ++ piece) ≤ input_limit
-        → EndedOn e (taken_from rules given (datasets_in a) (fed p piece)) a b → EndsAfter e b (taken rules given octets)
-    ended_in e p a b octets seen piece after s all short t =
-        begins_with of_stream octets (seen ++ piece) after (EndsAfter e b) all short (λ past more.
-        let x = t.ends past more in
+    pub ended_in : (e : BulkFault Z) (a : Position) (x y : List Stored) (octets seen piece after : List ℕ) → Seen rules given a x seen → octets ≡ (seen ++ piece) ++ after → length (seen ++ piece) ≤ input_limit
+        → EndedOn e (taken_from rules given (datasets_in x) (fed_at a piece)) x y → EndsAfter e y (taken rules given octets)
+    ended_in e a x y octets seen piece after s all short t =
+        begins_with of_fields octets (seen ++ piece) after (EndsAfter e y) all short (λ past more.
+        let w = t.ends past more in
         record {
-          rest = x.rest;
-          is = fed_then p a seen piece s past more ∙ ap (behind a) x.is ∙ behind_both a t.new x.rest ∙ ap (λ (bs : List Stored). behind bs x.rest) (sym t.adds);
-          ends = x.ends;
+          rest = w.rest;
+          is = fed_then a x seen piece s past more ∙ ap (behind x) w.is ∙ behind_both x t.new w.rest ∙ ap (λ (ss : List Stored). behind ss w.rest) (sym t.adds);
+          ends = w.ends;
         })
 
-  -- ---- the octets seen are a stream of the messages that were gone over
+  -- ---- no message is whole in what is held
 
-  last : (a : List Stored) (refusal : Option Cause) (j k : ℕ) → j ≡ k → behind a (ended refusal j) ≡ record { stored = a; refusal = refusal; junk = k }
-  last a refusal j k e = ap (λ (zs : List Stored). record { stored = zs; refusal = refusal; junk = j }) (append-nil a) ∙ ap (λ (n : ℕ). record { stored = a; refusal = refusal; junk = n }) e
+  -- what comes where no more octets do
+  abbrev EndsHere : List (List ℕ) → Progress → ℕ → Bool → Result ℕ Truncated → Type 0
+  EndsHere ds p c past (Ok k) = taken_from rules given ds (at_message p c) past [] ≡ ended (in_stream (refused past p.given Whole)) k (p.given + 1)
+  EndsHere ds p c past (Err t) = (t.number ≡ p.given + 1) × ((j : ℕ) × (taken_from rules given ds (at_message p c) past [] ≡ ended (in_stream (refused past p.given (streams.Cut t.have t.want))) j (p.given + 1)))
 
-  at_end : (p : Progress) (a : List Stored) (octets seen : List ℕ) → Seen rules given p a seen → octets ≡ seen ++ [] → p.fed ≤ input_limit → taken rules given octets ≡ of_stream false (stream seen)
-  at_end p a octets seen s is le =
+  held_frames : (ds : List (List ℕ)) (p : Progress) (c : ℕ) (past : Bool) (k : ℕ) (end : End) → frames p.rest ≡ record { frames = []; skipped = k; end = end } → taken_from rules given ds (at_message p c) past [] ≡ ended (in_stream (refused past p.given end)) (p.skipped + k) (p.given + 1)
+  held_frames ds p c past k end is =
+      let zero : p.given + 0 ≡ p.given = omega arith in
+      ap (λ (s : Frames). taken_of_fields rules given ds (p.skipped + s.skipped) (behind_fields [] (fields_after past p.given s))) (ap frames (append-nil p.rest) ∙ is)
+      ∙ ap (λ (n : ℕ). ended (in_stream (refused past n end)) (p.skipped + k) (p.given + 1)) zero
+
+  ends_here : (ds : List (List ℕ)) (p : Progress) (c : ℕ) (past : Bool) (r : Result ℕ Truncated) → FramesEnd p r → EndsHere ds p c past r
+  ends_here ds p c past (Ok count) (passed, sum, is) = held_frames ds p c past passed Whole is ∙ ap (λ (n : ℕ). ended (in_stream (refused past p.given Whole)) n (p.given + 1)) (sym sum)
+  ends_here ds p c past (Err t) (passed, number, is) = (number, (p.skipped + passed, held_frames ds p c past passed (streams.Cut t.have t.want) is))
+
+  waits_here : (ds : List (List ℕ)) (p : Progress) (c : ℕ) (past : Bool) (r : Result ℕ Truncated) → IsWaiting p → r ≡ finished p (first p.rest) → EndsHere ds p c past r
+  waits_here ds p c past r w e = ends_here ds p c past r (subst (FramesEnd p) (sym e) (ends_framed p w))
+
+  -- ---- the octets seen are all that came
+
+  last : (x : List Stored) (refusal : Option Cause) (j n : ℕ) → behind x (ended refusal j n) ≡ record { stored = x; refusal = refusal; junk = j; next = n }
+  last x refusal j n = ap (λ (zs : List Stored). record { stored = zs; refusal = refusal; junk = j; next = n }) (append-nil x)
+
+  seen_all : (a : Position) (x : List Stored) (seen : List ℕ) (past : Bool) → Seen rules given a x seen → of_fields past (frames seen) ≡ behind x (taken_from rules given (datasets_in x) a past [])
+  seen_all a x seen past s = ap (λ (y : List ℕ). of_fields past (frames y)) (sym (append-nil seen)) ∙ s.on past []
+
+  at_end : (p : Progress) (c : ℕ) (x : List Stored) (octets seen : List ℕ) → Seen rules given (at_message p c) x seen → octets ≡ seen ++ [] → p.fed ≤ input_limit → taken rules given octets ≡ behind x (taken_from rules given (datasets_in x) (at_message p c) false [])
+  at_end p c x octets seen s is le =
       let all : octets ≡ seen = is ∙ append-nil seen in
-      let size = s.splits.fed in
+      let size = s.is_fed in
       let small : length octets ≤ input_limit = omega (arith, ap length all, size, le) in
-      all_of of_stream octets small ∙ ap (λ (x : List ℕ). of_stream false (stream x)) all
+      all_of of_fields octets small ∙ ap (λ (y : List ℕ). of_fields false (frames y)) all ∙ seen_all (at_message p c) x seen false s
 
   -- no message has begun behind them: all is stored, and these octets were skipped
-  pub taken_whole : (p : Progress) (a : List Stored) (octets seen : List ℕ) (k : ℕ) → Seen rules given p a seen → octets ≡ seen ++ [] → p.fed ≤ input_limit → IsWaiting p → Ok k ≡ finished p (first p.rest)
-      → taken rules given octets ≡ record { stored = a; refusal = None; junk = k }
-  taken_whole p a octets seen k s all le w e =
-      at_end p a octets seen s all le
-      ∙ ap (of_stream false) (all_ended_so p seen s.messages (Ok k) s.splits w e)
-      ∙ taken_end rules given [] 1 s.messages a None (0 + k) s.stores
-      ∙ last a None (0 + k) k (omega arith)
+  pub taken_whole : (p : Progress) (c : ℕ) (x : List Stored) (octets seen : List ℕ) (k : ℕ) → Seen rules given (at_message p c) x seen → octets ≡ seen ++ [] → p.fed ≤ input_limit → IsWaiting p → Ok k ≡ finished p (first p.rest) → IsWholeTaken x k (taken rules given octets)
+  taken_whole p c x octets seen k s all le w e =
+      let is : taken rules given octets ≡ record { stored = x; refusal = None; junk = k; next = p.given + 1 } = at_end p c x octets seen s all le ∙ ap (behind x) (waits_here (datasets_in x) p c false (Ok k) w e) ∙ last x None k (p.given + 1) in
+      record { stored = ap (λ (t : Taken). t.stored) is; refusal = ap (λ (t : Taken). t.refusal) is; skipped = ap (λ (t : Taken). t.junk) is }
 
   -- octets come beyond the limit, and nothing below it is refused
-  past_limit : (a : List Stored) (seen : List ℕ) (ms : List Sections) (r : Result ℕ Truncated) → IsStream seen ms r → AreStored rules given [] 1 ms a → (j : ℕ) × (of_stream true (stream seen) ≡ behind a (ended (Some (InStream Input)) j))
-  past_limit a seen ms (Ok k) is stores = (0 + k, ap (of_stream true) is ∙ taken_end rules given [] 1 ms a (Some (InStream Input)) (0 + k) stores)
-  past_limit a seen ms (Err t) (number, (k, is)) stores = (0 + k, ap (of_stream true) is ∙ taken_end rules given [] 1 ms a (Some (InStream Input)) (0 + k) stores)
+  past_limit : (ds : List (List ℕ)) (p : Progress) (c : ℕ) (r : Result ℕ Truncated) → EndsHere ds p c true r → (j : ℕ) × (taken_from rules given ds (at_message p c) true [] ≡ ended (Some (InStream Input)) j (p.given + 1))
+  past_limit ds p c (Ok k) is = (k, is)
+  past_limit ds p c (Err t) (number, (j, is)) = (j, is)
 
   module _ {Z : Type 0} where
     -- a message was cut
-    pub taken_cut : (p : Progress) (a : List Stored) (octets seen : List ℕ) (t : Truncated) → Seen rules given p a seen → octets ≡ seen ++ [] → p.fed ≤ input_limit → IsWaiting p → Err t ≡ finished p (first p.rest)
-        → EndsAfter {Z = Z} (faults.Cut t) a (taken rules given octets)
-    taken_cut p a octets seen t s all le w e =
-        let is = all_ended_so p seen s.messages (Err t) s.splits w e in
-        let number = is.0 in
-        let n : 0 + length s.messages + 1 ≡ t.number = omega (arith, number) in
+    pub taken_cut : (p : Progress) (c : ℕ) (x : List Stored) (octets seen : List ℕ) (t : Truncated) → Seen rules given (at_message p c) x seen → octets ≡ seen ++ [] → p.fed ≤ input_limit → IsWaiting p → Err t ≡ finished p (first p.rest)
+        → EndsAfter {Z = Z} (faults.Cut t) x (taken rules given octets)
+    taken_cut p c x octets seen t s all le w e =
+        let is = waits_here (datasets_in x) p c false (Err t) w e in
         record {
-          rest = ended (Some (InStream (Cut t))) (0 + is.1.0);
-          is = at_end p a octets seen s all le
-              ∙ ap (of_stream false) is.1.1
-              ∙ taken_end rules given [] 1 s.messages a (Some (InStream (Cut (record { number = 0 + length s.messages + 1; have = t.have; want = t.want })))) (0 + is.1.0) s.stores
-              ∙ ap (λ (i : ℕ). behind a (ended (Some (InStream (Cut (record { number = i; have = t.have; want = t.want })))) (0 + is.1.0))) n;
-          ends = (refl, (InStream (Cut t), refl, refl));
+          rest = ended (Some (InStream (Cut t))) is.1.0 (p.given + 1);
+          is = at_end p c x octets seen s all le
+              ∙ ap (behind x) is.1.1
+              ∙ ap (λ (n : ℕ). behind x (ended (Some (InStream (Cut (record { number = n; have = t.have; want = t.want })))) is.1.0 (p.given + 1))) (sym is.0);
+          ends = (refl, (InStream (Cut t), refl, refl, is.0));
         }
 
     -- the input is longer than an input may be
-    pub taken_past : (p : Progress) (a : List Stored) (octets seen left : List ℕ) → Seen rules given p a seen → octets ≡ seen ++ left → p.fed ≡ input_limit → 0 < length left → IsWaiting p
-        → EndsAfter {Z = Z} faults.InputLimit a (taken rules given octets)
-    taken_past p a octets seen left s all full some w =
-        let count = s.splits.fed in
+    pub taken_past : (p : Progress) (c : ℕ) (x : List Stored) (octets seen left : List ℕ) → Seen rules given (at_message p c) x seen → octets ≡ seen ++ left → p.fed ≡ input_limit → 0 < length left → IsWaiting p
+        → EndsAfter {Z = Z} faults.InputLimit x (taken rules given octets)
+    taken_past p c x octets seen left s all full some w =
+        let count = s.is_fed in
         let size : length seen ≡ input_limit = omega (arith, count, full) in
-        let long : input_limit < length octets = omega (arith, ap length all, length-append seen left) in
+        let long : input_limit < length octets = omega (arith, ap length all, length-append seen left, size, some) in
         let front : take input_limit octets ≡ seen = ap (take input_limit) all ∙ take_at seen left input_limit size in
-        let x = past_limit a seen s.messages (finished p (first p.rest)) (all_ended p seen s.messages s.splits w) s.stores in
+        let y = past_limit (datasets_in x) p c (finished p (first p.rest)) (waits_here (datasets_in x) p c true (finished p (first p.rest)) w refl) in
         record {
-          rest = ended (Some (InStream Input)) x.0;
-          is = front_of of_stream octets long ∙ ap (λ (y : List ℕ). of_stream true (stream y)) front ∙ x.1;
-          ends = (refl, (InStream Input, refl, refl));
+          rest = ended (Some (InStream Input)) y.0 (p.given + 1);
+          is = front_of of_fields octets long ∙ ap (λ (z : List ℕ). of_fields true (frames z)) front ∙ seen_all (at_message p c) x seen true s ∙ ap (behind x) y.1;
+          ends = (refl, (InStream Input, refl, refl, tt));
         }
 
-  -- ---- the messages that are whole in the octets read
+  -- ---- the fields of the messages that are whole in the octets read
 
-  stored_of_stream : (a : List Stored) (seen : List ℕ) (ms : List Sections) (r : Result ℕ Truncated) → IsStream seen ms r → AreStored rules given [] 1 ms a → taken_of rules given seen ≡ a
-  stored_of_stream a seen ms (Ok k) is stores =
-      ap (λ (x : Stream). (of_stream false x).stored) is ∙ ap (λ (t : Taken). t.stored) (taken_end rules given [] 1 ms a None (0 + k) stores) ∙ append-nil a
-  stored_of_stream a seen ms (Err t) (number, (k, is)) stores =
-      ap (λ (x : Stream). (of_stream false x).stored) is
-      ∙ ap (λ (x : Taken). x.stored) (taken_end rules given [] 1 ms a (Some (InStream (Cut (record { number = 0 + length ms + 1; have = t.have; want = t.want })))) (0 + k) stores)
-      ∙ append-nil a
+  held_stored : (x : List Stored) (ds : List (List ℕ)) (p : Progress) (c : ℕ) (r : Result ℕ Truncated) → EndsHere ds p c false r → (behind x (taken_from rules given ds (at_message p c) false [])).stored ≡ x
+  held_stored x ds p c (Ok k) is = ap (λ (t : Taken). x ++ t.stored) is ∙ append-nil x
+  held_stored x ds p c (Err t) (number, (j, is)) = ap (λ (y : Taken). x ++ y.stored) is ∙ append-nil x
 
-  pub held_of : (p : Progress) (a : List Stored) (seen : List ℕ) → Seen rules given p a seen → IsWaiting p → taken_of rules given seen ≡ a
-  held_of p a seen s w = stored_of_stream a seen s.messages (finished p (first p.rest)) (all_ended p seen s.messages s.splits w) s.stores
+  pub held_of : (p : Progress) (c : ℕ) (x : List Stored) (seen : List ℕ) → Seen rules given (at_message p c) x seen → IsWaiting p → taken_of rules given seen ≡ x
+  held_of p c x seen s w =
+      ap (λ (t : Taken). t.stored) (seen_all (at_message p c) x seen false s)
+      ∙ held_stored x (datasets_in x) p c (finished p (first p.rest)) (waits_here (datasets_in x) p c false (finished p (first p.rest)) w refl)

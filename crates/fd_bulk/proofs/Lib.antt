@@ -35,6 +35,7 @@ pub mod Openings
 pub mod Seats
 pub mod Takings
 pub mod Steps
+pub mod Single
 pub mod Gone
 pub mod Placing
 pub mod Inputs

@@ -90,6 +90,7 @@ module _ {X : Type 0} where
   pub store_weaker : (P Q : Type 0) (u : BulkFault X) → (P → Q) → OnStore u P → OnStore u Q
   store_weaker P Q (faults.Input f) g p = tt
   store_weaker P Q (faults.Message bad) g p = tt
+  store_weaker P Q (faults.NoMap number field) g p = tt
   store_weaker P Q (faults.Cut t) g p = tt
   store_weaker P Q (faults.Key number why) g p = tt
   store_weaker P Q (faults.NoRule number text) g p = tt

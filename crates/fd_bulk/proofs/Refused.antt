@@ -49,6 +49,7 @@ module _ {Z : Type 0} where
   tells_table : (name : List ℕ) (bad : NotATable) (u : BulkFault Z) → SaysNotATable name bad u → TellsTable name bad u ⊎ (u ≡ faults.NoMemory)
   tells_table name bad (faults.Input f) s = absurd s
   tells_table name bad (faults.Message m) s = absurd s
+  tells_table name bad (faults.NoMap number field) s = absurd s
   tells_table name bad (faults.Cut t) s = absurd s
   tells_table name bad (faults.Key number why) s = absurd s
   tells_table name bad (faults.NoRule number text) s = absurd s
@@ -70,6 +71,7 @@ module _ {Z : Type 0} where
   tells_damage : (name : List ℕ) (d : Damage) (u : BulkFault Z) → SaysDamaged name d u → TellsDamage name d u ⊎ (u ≡ faults.NoMemory)
   tells_damage name d (faults.Input f) s = absurd s
   tells_damage name d (faults.Message bad) s = absurd s
+  tells_damage name d (faults.NoMap number field) s = absurd s
   tells_damage name d (faults.Cut t) s = absurd s
   tells_damage name d (faults.Key number why) s = absurd s
   tells_damage name d (faults.NoRule number text) s = absurd s

@@ -18,7 +18,7 @@ use Rattle.fd_bulk.specs.declared.bulk.BulkFault.TheVariants as faults
 use Rattle.fd_bulk.specs.declared.reading.Counts.{Counts}
 use Rattle.fd_bulk.specs.declared.round.Job.{Job}
 use Rattle.fd_bulk.specs.declared.round.Parcel.{Parcel}
-use Rattle.fd_bulk.specs.Archived.{IsFront}
+use Rattle.fd_bulk.specs.Archived.{IsFront, IsWholeTaken}
 use Rattle.fd_bulk.specs.Crewing.{CanFinish, CanRun, Closes, Crewed, Deals, Finished, FinishedAs, OnFull, RanAs, Running, Stopping, Waits}
 use Rattle.fd_bulk.specs.Inputs.{ComesTo, EndsAfter, EndsTaken, Halts, InputDealt, InputEnds, StandsAt, is_calm, is_listed, is_unread}
 use Rattle.fd_bulk.specs.Sharing.{AreParcels, its_pairs}
@@ -46,15 +46,16 @@ module _ {Z : Type 0} (rules : List Rule) (given : List Pair) (left after : Opti
   pub front : (r : Result Counts (BulkFault Z)) → ComesTo rules given left after all r → IfSome left (λ octets. IsFront all (taken rules given octets))
   front (Ok counts) c = go left c.1
     where
-      go : (o : Option (List ℕ)) → IfSome o (λ octets. taken rules given octets ≡ record { stored = all; refusal = None; junk = counts.junk }) → IfSome o (λ octets. IsFront all (taken rules given octets))
+      go : (o : Option (List ℕ)) → IfSome o (λ octets. IsWholeTaken all counts.junk (taken rules given octets)) → IfSome o (λ octets. IsFront all (taken rules given octets))
       go None c = tt
-      go (Some octets) c = ([], ap (λ (t : Taken). t.stored) c ∙ sym (append-nil all))
+      go (Some octets) c = ([], c.stored ∙ sym (append-nil all))
   front (Err (faults.Input f)) c = go left c
     where
       go : (o : Option (List ℕ)) → IfSome o (λ octets. Rattle.fd_bulk.specs.Archived.HasRead rules given octets after all) → IfSome o (λ octets. IsFront all (taken rules given octets))
       go None c = tt
       go (Some octets) c = c.front
   front (Err (faults.Message at)) c = ends_front Z rules given left all (faults.Message at) c
+  front (Err (faults.NoMap number field)) c = ends_front Z rules given left all (faults.NoMap number field) c
   front (Err (faults.Cut t)) c = ends_front Z rules given left all (faults.Cut t) c
   front (Err (faults.Key number why)) c = ends_front Z rules given left all (faults.Key number why) c
   front (Err (faults.NoRule number text)) c = ends_front Z rules given left all (faults.NoRule number text) c
@@ -74,8 +75,8 @@ module _ {Z : Type 0} (rules : List Rule) (given : List Pair) (left after : Opti
       go None f = tt
       go (Some octets) f =
           let t : Taken = taken rules given octets in
-          let rest : Taken = record { stored = f.0; refusal = t.refusal; junk = t.junk } in
-          record { rest = rest; is = ap (λ (zs : List Stored). record { stored = zs; refusal = t.refusal; junk = t.junk }) f.1; ends = ends rest }
+          let rest : Taken = record { stored = f.0; refusal = t.refusal; junk = t.junk; next = t.next } in
+          record { rest = rest; is = ap (λ (zs : List Stored). record { stored = zs; refusal = t.refusal; junk = t.junk; next = t.next }) f.1; ends = ends rest }
 
 module _ {D H X Y F : Type 0} (has : D → Option Contents) (kept : H → Option (FileName → Option (List ℕ))) where
   -- ---- a worker that runs, or has listed all, might as well have stopped
@@ -116,6 +117,7 @@ module _ {D H X Y F : Type 0} (has : D → Option Contents) (kept : H → Option
     pub stopped_so : (fault : BulkFault Z) → Crewed has (Stopping kept (length js) all) start now lost l ps js → OnFull fault js → IfSome left (λ octets. IsFront all (taken rules given octets)) → InputEnds has kept rules given left after start now l ps js How (Err fault)
     stopped_so (faults.Input x) c full f = absurd full
     stopped_so (faults.Message at) c full f = absurd full
+    stopped_so (faults.NoMap number field) c full f = absurd full
     stopped_so (faults.Cut t) c full f = absurd full
     stopped_so (faults.Key number why) c full f = absurd full
     stopped_so (faults.NoRule number text) c full f = absurd full
@@ -149,6 +151,7 @@ module _ {D H X Y F : Type 0} (has : D → Option Contents) (kept : H → Option
     runs (Ok counts) s = inl (by_deals s)
     runs (Err (faults.Input f)) s = inl (by_deals s)
     runs (Err (faults.Message at)) s = inl (by_closes s.0)
+    runs (Err (faults.NoMap number field)) s = inl (by_closes s.0)
     runs (Err (faults.Cut t)) s = inl (by_closes s.0)
     runs (Err (faults.Key number why)) s = inl (by_closes s.0)
     runs (Err (faults.NoRule number text)) s = inl (by_closes s.0)
@@ -189,6 +192,7 @@ module _ {D H X Y F : Type 0} (has : D → Option Contents) (kept : H → Option
       round (Ok counts) s c = record { all = so_far; lost = 0; ends = (ran 0 s.crewed s.waits, s.met); comes = c }
       round (Err (faults.Input f)) s c = record { all = so_far; lost = 0; ends = ran 0 s.crewed s.waits; comes = c }
       round (Err (faults.Message at)) s c = record { all = so_far; lost = 1; ends = (closed s.0, s.2); comes = c }
+      round (Err (faults.NoMap number field)) s c = record { all = so_far; lost = 1; ends = (closed s.0, s.2); comes = c }
       round (Err (faults.Cut t)) s c = record { all = so_far; lost = 1; ends = (closed s.0, s.2); comes = c }
       round (Err (faults.Key number why)) s c = record { all = so_far; lost = 1; ends = (closed s.0, s.2); comes = c }
       round (Err (faults.NoRule number text)) s c = record { all = so_far; lost = 1; ends = (closed s.0, s.2); comes = c }
@@ -233,6 +237,7 @@ module _ {D H X Y F : Type 0} (has : D → Option Contents) (kept : H → Option
     unlisted (Ok counts) e m = absurd (cc e)
     unlisted (Err (faults.Input f)) e m = absurd (cc e)
     unlisted (Err (faults.Message at)) e m = absurd (cc e)
+    unlisted (Err (faults.NoMap number field)) e m = absurd (cc e)
     unlisted (Err (faults.Cut t)) e m = absurd (cc e)
     unlisted (Err (faults.Key number why)) e m = absurd (cc e)
     unlisted (Err (faults.NoRule number text)) e m = absurd (cc e)
@@ -248,6 +253,7 @@ module _ {D H X Y F : Type 0} (has : D → Option Contents) (kept : H → Option
     runs_on (Ok counts) e m = m.ends.0
     runs_on (Err (faults.Input f)) e m = m.ends
     runs_on (Err (faults.Message at)) e m = m.ends.0
+    runs_on (Err (faults.NoMap number field)) e m = m.ends.0
     runs_on (Err (faults.Cut t)) e m = m.ends.0
     runs_on (Err (faults.Key number why)) e m = m.ends.0
     runs_on (Err (faults.NoRule number text)) e m = m.ends.0
@@ -269,6 +275,7 @@ module _ {D H X Y F : Type 0} (has : D → Option Contents) (kept : H → Option
       listed (Ok counts) e m lists = record { all = m.all; lost = m.lost; ends = (lists m.ends.0, m.ends.1); comes = m.comes }
       listed (Err (faults.Input f)) e m lists = record { all = m.all; lost = m.lost; ends = lists m.ends; comes = m.comes }
       listed (Err (faults.Message at)) e m lists = record { all = m.all; lost = m.lost; ends = (lists m.ends.0, m.ends.1); comes = m.comes }
+      listed (Err (faults.NoMap number field)) e m lists = record { all = m.all; lost = m.lost; ends = (lists m.ends.0, m.ends.1); comes = m.comes }
       listed (Err (faults.Cut t)) e m lists = record { all = m.all; lost = m.lost; ends = (lists m.ends.0, m.ends.1); comes = m.comes }
       listed (Err (faults.Key number why)) e m lists = record { all = m.all; lost = m.lost; ends = (lists m.ends.0, m.ends.1); comes = m.comes }
       listed (Err (faults.NoRule number text)) e m lists = record { all = m.all; lost = m.lost; ends = (lists m.ends.0, m.ends.1); comes = m.comes }
@@ -296,6 +303,7 @@ module _ {D H X Y F : Type 0} (has : D → Option Contents) (kept : H → Option
 pub not_calm : {H X Y F Z : Type 0} (js : List (Job (Writing H) (Pass X Y) (FlushFault F))) (fault : BulkFault Z) → OnFull fault js → is_calm fault ≡ false
 not_calm js (faults.Input f) full = absurd full
 not_calm js (faults.Message at) full = absurd full
+not_calm js (faults.NoMap number field) full = absurd full
 not_calm js (faults.Cut t) full = absurd full
 not_calm js (faults.Key number why) full = absurd full
 not_calm js (faults.NoRule number text) full = absurd full
@@ -310,6 +318,7 @@ not_calm js faults.NoMemory full = refl
 pub not_unread_full : {H X Y F Z : Type 0} (js : List (Job (Writing H) (Pass X Y) (FlushFault F))) (fault : BulkFault Z) → OnFull fault js → is_unread fault ≡ false
 not_unread_full js (faults.Input f) full = absurd full
 not_unread_full js (faults.Message at) full = absurd full
+not_unread_full js (faults.NoMap number field) full = absurd full
 not_unread_full js (faults.Cut t) full = absurd full
 not_unread_full js (faults.Key number why) full = absurd full
 not_unread_full js (faults.NoRule number text) full = absurd full

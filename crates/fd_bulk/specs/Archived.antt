@@ -1,14 +1,13 @@
 -- What stands in the datasets once an input was archived, or why not all of it.
 use Rattle.std.specs.Prelude.{◌≡◌, ◌≢◌, ◌≤◌, ◌+◌, ◌/◌, ℕ, false, List, [], ◌++◌, length, All, Contains, Option, Some, None, IfSome, Result, Ok, Err, string_bytes}
 use Rattle.fd_disk.specs.Folders.{Contents, Holdings, WhereTold, folder_at}
-use Rattle.fd_sections.specs.declared.bad.Bad.{Bad}
 use Rattle.fd_sections.specs.declared.bad.Bad.TheVariants as bads
 use Rattle.fd_key.specs.Pairs as keys
 use Rattle.fd_key.specs.Pairs.{key_text}
 use Rattle.fd_schema.specs.Rules.{Rule}
 use Rattle.fd_library.specs.Open.{OpenDataset, Seated, among, names_of}
 use Rattle.fd_library.specs.Stores.{KeepsFolder, held_of, held_with}
-use Rattle.fd_outcome.specs.declared.refusal.Refusal.{Refusal}
+use Rattle.fd_outcome.specs.Fields.{refusal_at}
 use Rattle.fd_outcome.specs.declared.refusal.Refusal.TheVariants as refusals
 use Rattle.fd_outcome.specs.Asking.{count_distinct}
 use Rattle.fd_outcome.specs.Archiving.{Stored, Taken, datasets_in, pairs_for, taken, taken_of}
@@ -58,15 +57,12 @@ module _ {D : Type 0} (has : D → Option Contents) where
 
 -- ---- the answers
 
-abbrev pub refusal_at : ℕ → Bad → Refusal
-refusal_at number (bads.TooLong len) = refusals.TooLong len
-refusal_at number bad = refusals.Message (record { number = number; bad = bad })
-
 module _ {X : Type 0} where
   -- the cause of a refusal of the input, or of one of its messages
   abbrev pub IsCause : BulkFault X → Cause → Type 0
   IsCause (faults.Input f) c = ⊥
   IsCause (faults.Message at) c = c ≡ InStream (refusal_at at.number at.bad)
+  IsCause (faults.NoMap number field) c = c ≡ InStream (refusals.NoMap number field)
   IsCause (faults.Cut t) c = c ≡ InStream (refusals.Cut t)
   IsCause (faults.Key number fault) c = c ≡ InStream (refusals.Key number fault)
   IsCause (faults.NoRule number text) c = (key : List keys.Pair) × (c ≡ NoRule key) × (string_bytes text ≡ key_text key)
@@ -81,10 +77,16 @@ module _ {X : Type 0} where
   -- the number that a refusal of a message tells
   abbrev pub IsNumbered : BulkFault X → ℕ → Type 0
   IsNumbered (faults.Message at) n = at.number ≡ n
+  IsNumbered (faults.NoMap number field) n = number ≡ n
   IsNumbered (faults.Cut t) n = t.number ≡ n
   IsNumbered (faults.Key number fault) n = number ≡ n
   IsNumbered (faults.NoRule number text) n = number ≡ n
   IsNumbered fault n = Unit {0}
+
+  -- octets that are no message are never told to be one of several fields
+  abbrev pub IsSplit : BulkFault X → Type 0
+  IsSplit (faults.Message at) = (section : ℕ) → at.bad ≡ bads.MultiField section → ⊥
+  IsSplit fault = Unit {0}
 
   abbrev pub OnInput : Result Bulk (BulkFault X) → Type 0 → Type 0
   OnInput (Err (faults.Input f)) P = P
@@ -101,6 +103,12 @@ module _ {X : Type 0} where
   IsRead (Err (faults.TableFull count)) P = Unit {0}
   IsRead (Err faults.NoMemory) P = Unit {0}
   IsRead answer P = P
+
+-- these are all that is stored, and nothing is refused
+pub record IsWholeTaken (all : List Stored) (junk : ℕ) (t : Taken) : Type 0 where
+  pub stored : t.stored ≡ all
+  pub refusal : t.refusal ≡ None
+  pub skipped : t.junk ≡ junk
 
 -- these come first of all that is stored
 abbrev pub IsFront : List Stored → Taken → Type 0
@@ -123,14 +131,18 @@ module _ {D : Type 0} (has : D → Option Contents) (workers : ℕ) (rules : Lis
     pub back : All (λ h. IsBack has workers all h × IsSure has h) each
     pub fields : bulk.fields ≡ length all
     pub datasets : bulk.datasets ≡ count_distinct (datasets_in all)
-    pub taken_is : IfSome left (λ octets. taken rules given octets ≡ record { stored = all; refusal = None; junk = bulk.junk })
+    pub taken_is : IfSome left (λ octets. IsWholeTaken all bulk.junk (taken rules given octets))
 
   -- these stand in them, and the message behind them is refused, or the input
   pub record RefusedArchived {X : Type 0} (fault : BulkFault X) : Type 0 where
     pub all : List Stored
     pub grows : WhereTold start now (GrowsAll has workers all each)
     pub back : All (λ h. IsBack has workers all h × IsSure has h) each
-    pub numbered : IsNumbered fault (length all + 1)
+    -- the number of the message that is refused
+    pub messages : ℕ
+    pub numbered : IsNumbered fault (messages + 1)
+    pub split : IsSplit fault
+    pub next_is : IfSome left (λ octets. IsNumbered fault (taken rules given octets).next)
     pub refused : IfSome left (λ octets. ((taken rules given octets).stored ≡ all) × ((c : Cause) × ((taken rules given octets).refusal ≡ Some c) × IsCause fault c))
 
   -- these stand in them, and a read failed
@@ -162,6 +174,7 @@ module _ {D : Type 0} (has : D → Option Contents) (workers : ℕ) (rules : Lis
   Archived (Ok bulk) = WholeArchived bulk
   Archived (Err (faults.Input f)) = UnreadArchived
   Archived {X = X} (Err (faults.Message at)) = RefusedArchived {X = X} (faults.Message at)
+  Archived {X = X} (Err (faults.NoMap number field)) = RefusedArchived {X = X} (faults.NoMap number field)
   Archived {X = X} (Err (faults.Cut t)) = RefusedArchived {X = X} (faults.Cut t)
   Archived {X = X} (Err (faults.Key number fault)) = RefusedArchived {X = X} (faults.Key number fault)
   Archived {X = X} (Err (faults.NoRule number text)) = RefusedArchived {X = X} (faults.NoRule number text)

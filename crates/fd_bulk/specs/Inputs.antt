@@ -3,7 +3,6 @@ use Rattle.std.specs.Prelude.{◌≡◌, ◌⊎◌, ◌≤◌, ◌<◌, ◌+◌,
 use Rattle.fd_disk.specs.declared.folders.FileName.{FileName}
 use Rattle.fd_disk.specs.Folders.{Contents, Holdings, folder_at}
 use Rattle.fd_sections.specs.Message.{Sections}
-use Rattle.fd_sections.specs.Progress.{Progress}
 use Rattle.fd_sections.specs.Splitting.{finished}
 use Rattle.fd_sections.specs.Stream.{first}
 use Rattle.fd_sections.specs.declared.refusal.Truncated.{Truncated}
@@ -19,6 +18,7 @@ use Rattle.fd_archiver.specs.declared.fault.FlushFault.{FlushFault}
 use Rattle.fd_archiver.specs.Writing.{Writing}
 use Rattle.fd_library.specs.Open.{OpenDatasets, names_of}
 use Rattle.fd_outcome.specs.Archiving.{Stored, Taken, datasets_in, taken}
+use Rattle.fd_outcome.specs.Positions.{Position, weight}
 use Rattle.fd_outcome.specs.Causes.{BadFile, BadTable, Cause}
 use Rattle.fd_outcome.specs.Store.{Stands}
 use Rattle.fd_bulk.specs.declared.bulk.BulkFault.{BulkFault}
@@ -26,13 +26,13 @@ use Rattle.fd_bulk.specs.declared.bulk.BulkFault.TheVariants as faults
 use Rattle.fd_bulk.specs.declared.reading.Counts.{Counts}
 use Rattle.fd_bulk.specs.declared.round.Job.{Job}
 use Rattle.fd_bulk.specs.declared.round.Parcel.{Parcel}
-use Rattle.fd_bulk.specs.Archived.{HasRead, IsCause, IsNumbered}
+use Rattle.fd_bulk.specs.Archived.{HasRead, IsCause, IsNumbered, IsSplit, IsWholeTaken}
 use Rattle.fd_bulk.specs.Crewing.{AreMet, Closes, Crewed, Deals, OnFull, SeeFull, Stopping, octets_of}
 use Rattle.fd_bulk.specs.Taking.{Seen, StoredOn, behind, taken_from}
 
--- ---- one message
+-- ---- one field
 
--- the place of a message of this number, or why it has none
+-- the place of a field of the message of this number, or why it has none
 abbrev pub PlacedAs : {Z : Type 0} → List Rule → List keys.Pair → ℕ → Sections → Result Place (BulkFault Z) → Type 0
 PlacedAs rules given number m (Ok place) = (key : List keys.Pair) × (key_of m given ≡ Ok key) × (place_from 0 rules key ≡ Some (seen_place place))
 PlacedAs rules given number m (Err (faults.Key n fault)) = (n ≡ number) × (key_of m given ≡ Err fault)
@@ -40,7 +40,7 @@ PlacedAs rules given number m (Err (faults.NoRule n text)) = (n ≡ number) × (
 PlacedAs rules given number m (Err faults.NoMemory) = Unit {0}
 PlacedAs rules given number m (Err fault) = ⊥
 
--- the first message is stored in the dataset of this text
+-- the first field is stored in the dataset of this text
 abbrev pub BeginsIn : List ℕ → Taken → Type 0
 BeginsIn name t = (s : Stored) × ((more : List Stored) × (t.stored ≡ s ∷ more) × (s.dataset ≡ name))
 
@@ -53,7 +53,7 @@ module _ {Z : Type 0} where
   EndsTaken (faults.Damaged dataset damage) t = BeginsIn (string_bytes dataset) t
   EndsTaken (faults.TableFull count) t = Unit {0}
   EndsTaken faults.NoMemory t = Unit {0}
-  EndsTaken fault t = (t.stored ≡ []) × ((c : Cause) × (t.refusal ≡ Some c) × IsCause fault c)
+  EndsTaken fault t = (t.stored ≡ []) × ((c : Cause) × (t.refusal ≡ Some c) × IsCause fault c × IsNumbered fault t.next)
 
   -- what is stored begins so, and ends behind that for this cause
   pub record EndsAfter (fault : BulkFault Z) (new : List Stored) (t : Taken) : Type 0 where
@@ -61,7 +61,7 @@ module _ {Z : Type 0} where
     pub is : t ≡ behind new rest
     pub ends : EndsTaken fault rest
 
-  -- messages come behind the messages a, all are b; what comes behind them isn't stored, for this cause, whatever more comes
+  -- fields come behind the fields a, all are b; what comes behind them isn't stored, for this cause, whatever more comes
   pub record EndedOn (fault : BulkFault Z) (all : Bool → List ℕ → Taken) (a b : List Stored) : Type 0 where
     pub new : List Stored
     pub adds : b ≡ a ++ new
@@ -73,20 +73,21 @@ Reads None left P = Unit {0}
 Reads (Some octets) None P = ⊥
 Reads (Some octets) (Some left) P = (seen : List ℕ) × (octets ≡ seen ++ left) × P seen
 
--- what the splitter counted, or the message that is cut
-abbrev pub EndsOf : {Z : Type 0} → Result Counts (BulkFault Z) → Progress → Type 0
-EndsOf (Ok counts) p = (counts.fields ≡ p.given) × (Ok counts.junk ≡ finished p (first p.rest))
-EndsOf (Err fault) p = (t : Truncated) × (fault ≡ faults.Cut t) × (Err t ≡ finished p (first p.rest))
+-- how many fields came and octets were skipped, or the message that is cut
+abbrev pub EndsOf : {Z : Type 0} → Result Counts (BulkFault Z) → Position → Type 0
+EndsOf (Ok counts) a = (counts.fields ≡ a.count) × (Ok counts.junk ≡ finished a.split (first a.split.rest))
+EndsOf (Err fault) a = (t : Truncated) × (fault ≡ faults.Cut t) × (Err t ≡ finished a.split (first a.split.rest))
 
 -- ---- over the run
 
 module _ {D H X Y F : Type 0} (has : D → Option Contents) (kept : H → Option (FileName → Option (List ℕ))) (start now : Option Holdings) where
-  -- The messages of a stream were dealt so far: as many as were given, and their octets are octets that are gone over. Each has at
-  -- least one, so 33 for each octet are enough for its octets and the 32 of its digest.
-  pub record Going (all waiting : List Stored) (l : OpenDatasets D) (passes : List (Pass X Y)) (jobs : List (Job (Writing H) (Pass X Y) (FlushFault F))) (parcels : List Parcel) (p : Progress) : Type 0 where
+  -- The fields of a stream were dealt up to this position: each is no longer than a message may be, beside the 32 octets of its digest, and
+  -- took 16 octets at least of those that came.
+  pub record Going (all waiting : List Stored) (l : OpenDatasets D) (passes : List (Pass X Y)) (jobs : List (Job (Writing H) (Pass X Y) (FlushFault F))) (parcels : List Parcel) (a : Position) : Type 0 where
     pub deals : Deals has kept start now all waiting (datasets_in (all ++ waiting)) l passes jobs parcels
-    pub sum : octets_of (all ++ waiting) + 33 * length p.rest ≤ 33 * p.fed
-    pub given : p.given ≡ length (all ++ waiting)
+    pub given : a.count ≡ length (all ++ waiting)
+    pub sizes : octets_of (all ++ waiting) ≤ 134217760 * length (all ++ waiting)
+    pub count : 16 * length (all ++ waiting) + weight a ≤ a.split.fed
 
   -- the workers have stored the first of these messages, and store nothing more
   pub record Halts (all : List Stored) (l : OpenDatasets D) (passes : List (Pass X Y)) (jobs : List (Job (Writing H) (Pass X Y) (FlushFault F))) (parcels : List Parcel) : Type 0 where
@@ -109,7 +110,7 @@ module _ {D H X Y F : Type 0} (has : D → Option Contents) (kept : H → Option
     EndsFor faults.Disk = Ending faults.Disk
     EndsFor (faults.TableFull count) = Halts (all ++ waiting) l passes jobs parcels × OnFull {Z = Z} (faults.TableFull count) jobs
     EndsFor faults.NoMemory = Ending faults.NoMemory
-    EndsFor fault = Closes has kept start now all waiting l passes jobs parcels × AreMet (datasets_in (all ++ waiting)) (names_of l.each) × IsNumbered fault (length (all ++ waiting) + 1)
+    EndsFor fault = Closes has kept start now all waiting l passes jobs parcels × AreMet (datasets_in (all ++ waiting)) (names_of l.each) × ((messages : ℕ) × IsNumbered fault (messages + 1) × IsSplit fault)
 
     -- what stands where the input was read to its end, or a read failed, or it ended for a cause
     abbrev pub StandsAt : Result Counts (BulkFault Z) → Type 0
@@ -127,43 +128,43 @@ module _ {D H X Y F : Type 0} (start : Option Holdings) (Runs Stops : Type 0) wh
   EndsAt all l jobs (Err (faults.Damaged dataset damage)) = Stops × IfSome start (λ s. Stands (string_bytes dataset) (folder_at s (string_bytes dataset)) (BadFile damage))
   EndsAt all l jobs (Err (faults.TableFull count)) = Stops × ((count ≡ 65535) × SeeFull jobs)
   EndsAt all l jobs (Err faults.NoMemory) = Stops
-  EndsAt all l jobs (Err fault) = Runs × IsNumbered fault (length all + 1)
+  EndsAt all l jobs (Err fault) = Runs × ((messages : ℕ) × IsNumbered fault (messages + 1) × IsSplit fault)
 
 -- ---- what comes of the octets
 
 module _ {Z : Type 0} (rules : List Rule) (given : List keys.Pair) (left after : Option (List ℕ)) (all : List Stored) where
   -- these messages come of the input, and then its end, or a read that failed, or this cause
   abbrev pub ComesTo : Result Counts (BulkFault Z) → Type 0
-  ComesTo (Ok counts) = (counts.fields ≡ length all) × IfSome left (λ octets. taken rules given octets ≡ record { stored = all; refusal = None; junk = counts.junk })
+  ComesTo (Ok counts) = (counts.fields ≡ length all) × IfSome left (λ octets. IsWholeTaken all counts.junk (taken rules given octets))
   ComesTo (Err (faults.Input f)) = IfSome left (λ octets. HasRead rules given octets after all)
   ComesTo (Err fault) = IfSome left (λ octets. EndsAfter fault all (taken rules given octets))
 
 module _ {D H X Y F : Type 0} (has : D → Option Contents) (kept : H → Option (FileName → Option (List ℕ))) where
-  abbrev pub CanGo : Option Holdings → OpenDatasets D → List (Pass X Y) → List (Job (Writing H) (Pass X Y) (FlushFault F)) → List Parcel → Progress → Type 0
+  abbrev pub CanGo : Option Holdings → OpenDatasets D → List (Pass X Y) → List (Job (Writing H) (Pass X Y) (FlushFault F)) → List Parcel → Position → Type 0
   CanGo now l passes jobs parcels p = (start : Option Holdings) × ((all : List Stored) × ((waiting : List Stored) × Going has kept start now all waiting l passes jobs parcels p))
 
-  -- The stream was gone over from one place to another, and all its messages were dealt; before were these.
-  pub record WentOn (rules : List Rule) (given : List keys.Pair) (p q : Progress) (start now : Option Holdings) (before : List Stored) (l : OpenDatasets D) (passes : List (Pass X Y)) (jobs : List (Job (Writing H) (Pass X Y) (FlushFault F))) (parcels : List Parcel) : Type 0 where
+  -- The stream was gone over from one position to another, and all its fields were dealt; before were these.
+  pub record WentOn (rules : List Rule) (given : List keys.Pair) (p q : Position) (start now : Option Holdings) (before : List Stored) (l : OpenDatasets D) (passes : List (Pass X Y)) (jobs : List (Job (Writing H) (Pass X Y) (FlushFault F))) (parcels : List Parcel) : Type 0 where
     pub all : List Stored
     pub waiting : List Stored
     pub on : StoredOn rules given p q before (all ++ waiting)
     pub going : Going has kept start now all waiting l passes jobs parcels q
 
   -- it ended on the way, for this cause
-  pub record EndedThere {Z : Type 0} (rules : List Rule) (given : List keys.Pair) (p : Progress) (start now : Option Holdings) (before : List Stored) (l : OpenDatasets D) (passes : List (Pass X Y)) (jobs : List (Job (Writing H) (Pass X Y) (FlushFault F))) (parcels : List Parcel) (fault : BulkFault Z) : Type 0 where
+  pub record EndedThere {Z : Type 0} (rules : List Rule) (given : List keys.Pair) (p : Position) (start now : Option Holdings) (before : List Stored) (l : OpenDatasets D) (passes : List (Pass X Y)) (jobs : List (Job (Writing H) (Pass X Y) (FlushFault F))) (parcels : List Parcel) (fault : BulkFault Z) : Type 0 where
     pub all : List Stored
     pub waiting : List Stored
     pub on : EndedOn fault (taken_from rules given (datasets_in before) p) before (all ++ waiting)
     pub ends : EndsFor has kept start now all waiting l passes jobs parcels fault
     pub sum : octets_of (all ++ waiting) < 2 ^ 63
 
-  abbrev pub GoesOn : {A Z : Type 0} → List Rule → List keys.Pair → Progress → Progress → Option Holdings → Option Holdings → List Stored → OpenDatasets D → List (Pass X Y) → List (Job (Writing H) (Pass X Y) (FlushFault F)) → List Parcel → Result A (BulkFault Z) → Type 0
+  abbrev pub GoesOn : {A Z : Type 0} → List Rule → List keys.Pair → Position → Position → Option Holdings → Option Holdings → List Stored → OpenDatasets D → List (Pass X Y) → List (Job (Writing H) (Pass X Y) (FlushFault F)) → List Parcel → Result A (BulkFault Z) → Type 0
   GoesOn rules given p q start now before l passes jobs parcels (Ok some) = WentOn rules given p q start now before l passes jobs parcels
   GoesOn rules given p q start now before l passes jobs parcels (Err fault) = EndedThere rules given p start now before l passes jobs parcels fault
 
   module _ (rules : List Rule) (given : List keys.Pair) (left after : Option (List ℕ)) (start now : Option Holdings) (l : OpenDatasets D) (passes : List (Pass X Y)) (jobs : List (Job (Writing H) (Pass X Y) (FlushFault F))) where
-    -- the messages that are whole in what was read so far are dealt
-    pub record Midway (parcels : List Parcel) (p : Progress) : Type 0 where
+    -- the fields of what was read so far are dealt up to this position
+    pub record Midway (parcels : List Parcel) (p : Position) : Type 0 where
       pub all : List Stored
       pub waiting : List Stored
       pub going : Going has kept start now all waiting l passes jobs parcels p

@@ -1,9 +1,9 @@
--- Messages that were taken with their places are dealt.
+-- Fields that were taken with their places are dealt.
 use Rattle.std.specs.Prelude.{◌≡◌, ◌≤◌, ℕ, List, Option, Err}
 use Rattle.fd_disk.specs.declared.folders.FileName.{FileName}
 use Rattle.fd_disk.specs.Folders.{Contents, Holdings}
 use Rattle.fd_sections.specs.Message.{Sections}
-use Rattle.fd_sections.specs.Progress.{Progress}
+use Rattle.fd_outcome.specs.Positions.{Position}
 use Rattle.fd_key.specs.Pairs as keys
 use Rattle.fd_schema.specs.Rules.{Rule}
 use Rattle.fd_sheets.specs.declared.sheets.Sheet.{Sheet}
@@ -22,7 +22,7 @@ use Rattle.fd_bulk.specs.declared.round.Job.{Job}
 use Rattle.fd_bulk.specs.declared.round.Parcel.{Parcel}
 use Rattle.fd_bulk.specs.Inputs.{Going, PlacedAs}
 
--- why a message has no place, told of the message of this number
+-- why a field has no place, told of the message of this number
 abbrev pub ToldAs : {Z : Type 0} → ℕ → Unplaced → BulkFault Z → Type 0
 ToldAs number reason fault = (rules : List Rule) (given : List keys.Pair) (m : Sections) → FoundAs rules given m (Err reason) → PlacedAs rules given number m (Err fault)
 
@@ -30,17 +30,18 @@ ToldAs number reason fault = (rules : List Rule) (given : List keys.Pair) (m : S
 abbrev pub IsTold : {Z : Type 0} → Stop Z → BulkFault Z → Type 0
 IsTold (stops.Input f) fault = fault ≡ faults.Input f
 IsTold (stops.Message at) fault = fault ≡ faults.Message at
+IsTold (stops.NoMap number field) fault = fault ≡ faults.NoMap number field
 IsTold stops.InputLimit fault = fault ≡ faults.InputLimit
 IsTold stops.NoMemory fault = fault ≡ faults.NoMemory
 
 module _ {D H X Y F : Type 0} (has : D → Option Contents) (kept : H → Option (FileName → Option (List ℕ))) where
-  -- these messages come next, and can be dealt
+  -- these fields come next, and can be dealt
   pub record CanDeal (now : Option Holdings) (sheets : List Sheet) (l : OpenDatasets D) (passes : List (Pass X Y)) (jobs : List (Job (Writing H) (Pass X Y) (FlushFault F))) (parcels : List Parcel) : Type 0 where
     pub rules : List Rule
     pub given : List keys.Pair
-    pub from : Progress
-    pub to : Progress
-    pub few : from.fed ≤ 68719476736
+    pub from : Position
+    pub to : Position
+    pub few : from.split.fed ≤ 68719476736
     pub placed : Placed rules given from sheets to
     pub start : Option Holdings
     pub all : List Stored

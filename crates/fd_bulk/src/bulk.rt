@@ -1,4 +1,4 @@
-//! The messages of an input, archived by several workers.
+//! The fields of an input, archived by several workers.
 ghost use Rattle.std.specs.Prelude.{◌≡◌, ◌≤◌, [], List, ℕ, Option, Some, Ok, IfSome, OnOk, false, is_some, length};
 ghost use Rattle.fd_bytes.specs.Causes.{Rose};
 ghost use Rattle.fd_schema.specs.Grammar.{IsSchema};
@@ -37,16 +37,21 @@ pub struct Bulk {
 pub enum BulkFault<X> {
     /// A read of the input failed.
     Input(X),
-    /// A message is no GRIB 2 message.
+    /// A message is no GRIB 2 message, also where several fields are one.
     Message(BadAt),
+    /// A field of the message of this number, which has several, lacks a bit map. Fields count from 1.
+    NoMap {
+        number: u64,
+        field: u32,
+    },
     /// The last message is cut.
     Cut(Truncated),
-    /// The message of this number has no key, for this reason.
+    /// A field of the message of this number has no key, for this reason.
     Key {
         number: u64,
         fault: KeyFault,
     },
-    /// No rule admits the key of the message of this number, which has this text.
+    /// No rule admits the key of a field of the message of this number, which has this text.
     NoRule {
         number: u64,
         key: String,
@@ -93,8 +98,9 @@ impl<X> From<NoMemory> for BulkFault<X> {
     }
 }
 
-/// Archives the messages of an input under their keys and the given pairs, each in the dataset that the schema says, by so
-/// many workers, at most 8. The opener has no dataset open yet; afterwards each pass and archiver is back with it.
+/// Archives the fields of an input, each as a message of its own, under their keys and the given pairs, in the datasets that the schema
+/// says, by so many workers, at most 8. The opener has no dataset open yet; afterwards each pass and archiver is back with it. Of a
+/// message that is refused as a whole nothing is stored; of one of whose fields one can't be stored the fields before it are.
 ///
 /// Messages are dealt to the workers by their places, so that those of one key stay in their order. They come in rounds: a
 /// round ends with its 64th message, or with that by which its messages have 134,217,728 octets. Worker w, from 1, passes

@@ -1,5 +1,6 @@
-//! Archiving in parallel: the messages of a stream are dealt to workers, each of which fills and lists batches of its own in
-//! every dataset that it meets, and the datasets come to hold what one batch of all their messages would make of them.
+//! Archiving in parallel: the fields of a stream, each as a message of its own, are dealt to workers, each of which fills and lists
+//! batches of its own in every dataset that it meets, and the datasets come to hold what one batch of all their messages would make of
+//! them.
 #![tactic(auto)]
 
 mod bulk;

@@ -1,9 +1,9 @@
-//! An input, whose messages are dealt as they come.
+//! An input, whose fields are dealt as they come, each as a message of its own.
 ghost use Rattle.std.specs.Prelude.{◌≡◌, ◌≤◌, ℕ, List, Option, [], ◌++◌, ◌∷◌, All, Some, IfSome, IfOk, IfErr, OnOk, length, is_some, true, false};
 ghost use Rattle.fd_bytes.specs.Causes.{Rose};
 ghost use Rattle.fd_disk.specs.Folders.{Holdings};
-ghost use Rattle.fd_sections.specs.Progress.{Progress};
 ghost use Rattle.fd_sections.specs.Splitting.{start as nothing_read};
+ghost use Rattle.fd_outcome.specs.Positions.{IsIdle, Position, at_message};
 ghost use Rattle.fd_key.specs.Pairs.{Pair};
 ghost use Rattle.fd_schema.specs.Grammar.{IsSchema};
 ghost use Rattle.fd_schema.specs.Rules.{Rule};
@@ -12,7 +12,6 @@ ghost use Rattle.fd_outcome.specs.Archiving.{Stored};
 ghost use Rattle.fd_bulk.specs.Halting.{OnStore};
 ghost use Rattle.fd_bulk.specs.Batches.{AllDealt, BatchEnds};
 ghost use Rattle.fd_bulk.specs.Inputs.{CanGo, EndsOf, Going, GoesOn, InputDealt, InputEnds, Midway, is_calm, is_listed, is_unread};
-ghost use Rattle.fd_sections.specs.Joining.{IsWaiting};
 ghost use Rattle.fd_sheets.specs.Names.{IsKnown};
 ghost use Rattle.fd_sheets.specs.Reading.{ReadOn};
 ghost use Rattle.fd_sheets.specs.Sheets.{Placed};
@@ -36,7 +35,7 @@ use std::thread::Threads;
 /// long as a worker needs for some twenty small messages.
 const ENOUGH: usize = 128;
 
-/// How many messages were stored of an input that was read to its end, and how many octets were skipped.
+/// How many fields were stored of an input that was read to its end, and how many octets were skipped.
 #[derive(Drop)]
 pub(crate) struct Counts {
     pub(crate) fields: u64,
@@ -51,6 +50,7 @@ fn is_listed<X>(found: &Result<Counts, BulkFault<X>>) -> bool
         Ok(_) => true,
         Err(BulkFault::Input(_)) => true,
         Err(BulkFault::Message(_)) => true,
+        Err(BulkFault::NoMap { .. }) => true,
         Err(BulkFault::Cut(_)) => true,
         Err(BulkFault::Key { .. }) => true,
         Err(BulkFault::NoRule { .. }) => true,
@@ -64,7 +64,7 @@ fn is_listed<X>(found: &Result<Counts, BulkFault<X>>) -> bool
     }
 }
 
-// Why a message has no place, as it is told of the message of this number.
+// Why a field has no place, as it is told of the message of this number.
 fn unplaced<X>(reason: Unplaced, number: u64) -> BulkFault<X>
     ensures { ToldAs number reason result }
 {
@@ -82,12 +82,13 @@ fn stopped<X>(stop: Stop<X>) -> BulkFault<X>
     match stop {
         Stop::Input(fault) => BulkFault::Input(fault),
         Stop::Message(at) => BulkFault::Message(at),
+        Stop::NoMap { number, field } => BulkFault::NoMap { number, field },
         Stop::InputLimit => BulkFault::InputLimit,
         Stop::NoMemory => BulkFault::NoMemory,
     }
 }
 
-// Deals a message, unless it has no place.
+// Deals a field, unless it has no place.
 fn deal_sheet<F: Send + Drop, X: Drop, S: Store<F>>(
     alloc: Global,
     sheet: Sheet,
@@ -100,7 +101,7 @@ where
     requires out { OutAre opener.old.library.each (S.out store.old) }
     requires can { CanDeal S.Folder.has S.Folder.Shelf.kept (S.has store.old) (sheet ∷ []) opener.old.library crew.old.passes.items crew.old.jobs.items crew.old.parcels.items }
     ensures out { OutAre opener.new.library.each (S.out store.new) }
-    ensures goes { (rules : List Rule) (given : List Pair) (p q : Progress) (start : Option Holdings) (all waiting : List Stored) → p.fed ≤ 68719476736 → Placed rules given p (sheet ∷ []) q
+    ensures goes { (rules : List Rule) (given : List Pair) (p q : Position) (start : Option Holdings) (all waiting : List Stored) → p.split.fed ≤ 68719476736 → Placed rules given p (sheet ∷ []) q
         → Going S.Folder.has S.Folder.Shelf.kept start (S.has store.old) all waiting opener.old.library crew.old.passes.items crew.old.jobs.items crew.old.parcels.items p
         → GoesOn S.Folder.has S.Folder.Shelf.kept rules given p q start (S.has store.new) (all ++ waiting) opener.new.library crew.new.passes.items crew.new.jobs.items crew.new.parcels.items result }
     ensures known { IsKnown names.old.texts.items sheet → AreOpened names.old.texts.items (names_of opener.old.library.each) → IfErr result (λ e. is_calm e ≡ false) }
@@ -128,7 +129,7 @@ where
     }
 }
 
-// Deals messages.
+// Deals fields.
 fn deal_sheets<F: Send + Drop, X: Drop, S: Store<F>>(
     alloc: Global,
     sheets: Vec<Sheet>,
@@ -141,7 +142,7 @@ where
     requires out { OutAre opener.old.library.each (S.out store.old) }
     requires can { CanDeal S.Folder.has S.Folder.Shelf.kept (S.has store.old) sheets.items opener.old.library crew.old.passes.items crew.old.jobs.items crew.old.parcels.items }
     ensures out { OutAre opener.new.library.each (S.out store.new) }
-    ensures goes { (rules : List Rule) (given : List Pair) (p q : Progress) (start : Option Holdings) (all waiting : List Stored) → p.fed ≤ 68719476736 → Placed rules given p sheets.items q
+    ensures goes { (rules : List Rule) (given : List Pair) (p q : Position) (start : Option Holdings) (all waiting : List Stored) → p.split.fed ≤ 68719476736 → Placed rules given p sheets.items q
         → Going S.Folder.has S.Folder.Shelf.kept start (S.has store.old) all waiting opener.old.library crew.old.passes.items crew.old.jobs.items crew.old.parcels.items p
         → GoesOn S.Folder.has S.Folder.Shelf.kept rules given p q start (S.has store.new) (all ++ waiting) opener.new.library crew.new.passes.items crew.new.jobs.items crew.new.parcels.items result }
     ensures known { All (IsKnown names.old.texts.items) sheets.items → AreOpened names.old.texts.items (names_of opener.old.library.each) → IfErr result (λ e. is_calm e ≡ false) }
@@ -182,8 +183,8 @@ fn read_batch<
 where
     requires schema { IsSchema schema.now }
     requires can { CanGo S.Folder.has S.Folder.Shelf.kept (S.has store.old) opener.now.library crew.old.passes.items crew.old.jobs.items crew.old.parcels.items reader.old }
-    requires few { reader.old.fed ≤ 68719476736 }
-    ensures goes { (rules : List Rule) (given : List Pair) (p : Progress) (start : Option Holdings) (all waiting : List Stored) → p.fed ≤ 68719476736
+    requires few { reader.old.split.fed ≤ 68719476736 }
+    ensures goes { (rules : List Rule) (given : List Pair) (p : Position) (start : Option Holdings) (all waiting : List Stored) → p.split.fed ≤ 68719476736
         → Going S.Folder.has S.Folder.Shelf.kept start (S.has store.old) all waiting opener.now.library crew.old.passes.items crew.old.jobs.items crew.old.parcels.items p
         → GoesOn S.Folder.has S.Folder.Shelf.kept rules given p p start (S.has store.new) (all ++ waiting) opener.now.library crew.new.passes.items crew.new.jobs.items crew.new.parcels.items result }
     ensures reads { IfOk result (ReadOn schema.now given.now names.now.texts.items reader.old reader.new (I.left input.old) (I.left input.new) (I.faults input.old) (I.faults input.new)) }
@@ -206,7 +207,7 @@ where
 
 // What was stored of an input that is at its end, or which message is cut.
 fn end_of<X>(reader: Reader) -> Result<Counts, BulkFault<X>>
-    requires { IsWaiting reader }
+    requires { IsIdle reader }
     ensures { EndsOf result reader }
 {
     match reader.finish() {
@@ -215,7 +216,7 @@ fn end_of<X>(reader: Reader) -> Result<Counts, BulkFault<X>>
     }
 }
 
-// Reads on, where enough is dealt storing it meanwhile, and deals the messages that were read.
+// Reads on, where enough is dealt storing it meanwhile, and deals the fields that were read.
 fn deal_batch<
     F: Send + Drop,
     X: Drop,
@@ -241,7 +242,7 @@ where
     requires schema { IsSchema schema.now }
     requires out { OutAre opener.old.library.each (S.out store.old) }
     requires can { CanGo S.Folder.has S.Folder.Shelf.kept (S.has store.old) opener.old.library crew.old.passes.items crew.old.jobs.items crew.old.parcels.items reader.old }
-    requires few { reader.old.fed ≤ 68719476736 }
+    requires few { reader.old.split.fed ≤ 68719476736 }
     requires opened { AreOpened names.old.texts.items (names_of opener.old.library.each) }
     ensures out { OutAre opener.new.library.each (S.out store.new) }
     ensures deals { (left : Option (List ℕ)) (start : Option Holdings) → Midway S.Folder.has S.Folder.Shelf.kept schema.now given.now left (I.left input.old) start (S.has store.old) opener.old.library crew.old.passes.items crew.old.jobs.items crew.old.parcels.items reader.old
@@ -272,7 +273,7 @@ where
     }
 }
 
-// Deals the messages of the input, batch by batch, up to its end, and stores what was dealt, where it is enough, while the next batch
+// Deals the fields of the input, batch by batch, up to its end, and stores what was dealt, where it is enough, while the next batch
 // is read.
 fn deal_all<F: Send + Drop, X: Drop, S: Store<F>, I: Source<X>, G: Gate, R: Threads + Wait + Sync>(
     rt: &R,
@@ -289,7 +290,7 @@ fn deal_all<F: Send + Drop, X: Drop, S: Store<F>, I: Source<X>, G: Gate, R: Thre
 ) -> Result<(), BulkFault<X>>
 where
     requires schema { IsSchema schema.now }
-    requires unread { reader.old ≡ nothing_read }
+    requires unread { reader.old ≡ at_message nothing_read 0 }
     requires unopened { names.old.texts.items ≡ [] }
     requires out { OutAre opener.old.library.each (S.out store.old) }
     requires begun { Deals S.Folder.has S.Folder.Shelf.kept (S.has store.old) (S.has store.old) [] [] [] opener.old.library crew.old.passes.items crew.old.jobs.items crew.old.parcels.items }
@@ -319,7 +320,7 @@ where
     Err(BulkFault::InputLimit)
 }
 
-// The messages of the input are dealt, up to its end or to where it stops.
+// The fields of the input are dealt, up to its end or to where it stops.
 fn deal_input<
     F: Send + Drop,
     X: Drop,
@@ -375,7 +376,7 @@ where
     }
 }
 
-// Stores the messages of the input. Where it stops, what was dealt is stored first; a refusal of a worker is that
+// Stores the fields of the input. Where it stops, what was dealt is stored first; a refusal of a worker is that
 // of a message before.
 fn archive_input<
     F: Send + Drop,
@@ -420,7 +421,7 @@ where
     }
 }
 
-/// Stores the messages of the input, and lists them, where the input is at its end or refused, or a read of it failed.
+/// Stores the fields of the input, and lists them, where the input is at its end or refused, or a read of it failed.
 pub(crate) fn list_input<
     F: Send + Drop,
     X: Drop,

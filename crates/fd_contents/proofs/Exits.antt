@@ -28,10 +28,10 @@ use Rattle.fd_outcome.specs.Told.{Told, ToldOrNoMemory}
 use Rattle.fd_outcome.proofs.AnyCommand.{Seen, ran_of, told_of}
 use Rattle.fd_outcome.proofs.Endings.{CanStop, ends_early, ends_told, ends_unwritten, takes_nothing, nothing_of}
 use Rattle.fd_outcome.proofs.Exits.{apart, by_cause, cause_calm, cause_not_whole, cause_told, is_disk_fault, is_input_fault, is_output_fault, is_whole, is_words, never_whole}
-use Rattle.fd_retrieve.specs.declared.stop.Stop.{Stop}
-use Rattle.fd_retrieve.specs.declared.stop.Stop.TheVariants as stops
+use Rattle.fd_telling.specs.declared.stop.Stop.{Stop}
+use Rattle.fd_telling.specs.declared.stop.Stop.TheVariants as stops
 use Rattle.fd_retrieve.specs.Ready.{IsBrokenOf}
-use Rattle.fd_retrieve.specs.Stops.{OfDataset, OnDisk, OnInput, OnRefusal, ToldSome, ToldStop, seen_broken}
+use Rattle.fd_telling.specs.Stops.{OfDataset, OnDisk, OnInput, OnRefusal, ToldSome, ToldStop, seen_broken}
 use Rattle.fd_retrieve.proofs.ReadyLemmas.{contains_among}
 use Rattle.fd_contents.specs.declared.lines.Lines.{Lines}
 use Rattle.fd_contents.specs.declared.lines.Lines.TheVariants as lines
@@ -49,10 +49,12 @@ uses (commands.Generate count) is = absurd is
 uses (commands.Create root) is = absurd is
 uses (commands.Archive root given workers) is = absurd is
 uses (commands.Retrieve root workers) is = absurd is
+uses (commands.RetrieveOver root layers workers) is = absurd is
 uses (commands.List root) is = tt
 uses (commands.Axes root) is = tt
 uses (commands.Stats root) is = tt
 uses (commands.Session root) is = absurd is
+uses (commands.Cubes root) is = absurd is
 uses (commands.Purge root dataset) is = absurd is
 uses (commands.Wipe root dataset) is = absurd is
 uses (commands.Trial root count workers) is = absurd is
@@ -66,10 +68,12 @@ opens (commands.Generate count) is h names octets name c = absurd is
 opens (commands.Create root) is h names octets name c = absurd is
 opens (commands.Archive root given workers) is h names octets name c = absurd is
 opens (commands.Retrieve root workers) is h names octets name c = absurd is
+opens (commands.RetrieveOver root layers workers) is h names octets name c = absurd is
 opens (commands.List root) is h names octets name c = c
 opens (commands.Axes root) is h names octets name c = c
 opens (commands.Stats root) is h names octets name c = c
 opens (commands.Session root) is h names octets name c = absurd is
+opens (commands.Cubes root) is h names octets name c = absurd is
 opens (commands.Purge root dataset) is h names octets name c = absurd is
 opens (commands.Wipe root dataset) is h names octets name c = absurd is
 opens (commands.Trial root count workers) is h names octets name c = absurd is
@@ -84,10 +88,12 @@ broken_there (commands.Generate count) is h i name broken x = absurd is
 broken_there (commands.Create root) is h i name broken x = absurd is
 broken_there (commands.Archive root given workers) is h i name broken x = absurd is
 broken_there (commands.Retrieve root workers) is h i name broken x = absurd is
+broken_there (commands.RetrieveOver root layers workers) is h i name broken x = absurd is
 broken_there (commands.List root) is h i name broken x = x
 broken_there (commands.Axes root) is h i name broken x = x
 broken_there (commands.Stats root) is h i name broken x = x
 broken_there (commands.Session root) is h i name broken x = absurd is
+broken_there (commands.Cubes root) is h i name broken x = absurd is
 broken_there (commands.Purge root dataset) is h i name broken x = absurd is
 broken_there (commands.Wipe root dataset) is h i name broken x = absurd is
 broken_there (commands.Trial root count workers) is h i name broken x = absurd is
@@ -101,10 +107,12 @@ early_is (commands.Generate count) is h names octets = absurd is
 early_is (commands.Create root) is h names octets = absurd is
 early_is (commands.Archive root given workers) is h names octets = absurd is
 early_is (commands.Retrieve root workers) is h names octets = absurd is
+early_is (commands.RetrieveOver root layers workers) is h names octets = absurd is
 early_is (commands.List root) is h names octets = refl
 early_is (commands.Axes root) is h names octets = refl
 early_is (commands.Stats root) is h names octets = refl
 early_is (commands.Session root) is h names octets = absurd is
+early_is (commands.Cubes root) is h names octets = absurd is
 early_is (commands.Purge root dataset) is h names octets = absurd is
 early_is (commands.Wipe root dataset) is h names octets = absurd is
 early_is (commands.Trial root count workers) is h names octets = absurd is
@@ -118,10 +126,12 @@ leaves_by (commands.Generate count) is s calm full input left before now stays =
 leaves_by (commands.Create root) is s calm full input left before now stays = absurd is
 leaves_by (commands.Archive root given workers) is s calm full input left before now stays = absurd is
 leaves_by (commands.Retrieve root workers) is s calm full input left before now stays = absurd is
+leaves_by (commands.RetrieveOver root layers workers) is s calm full input left before now stays = absurd is
 leaves_by (commands.List root) is s calm full input left before now stays = stays
 leaves_by (commands.Axes root) is s calm full input left before now stays = stays
 leaves_by (commands.Stats root) is s calm full input left before now stays = stays
 leaves_by (commands.Session root) is s calm full input left before now stays = absurd is
+leaves_by (commands.Cubes root) is s calm full input left before now stays = absurd is
 leaves_by (commands.Purge root dataset) is s calm full input left before now stays = absurd is
 leaves_by (commands.Wipe root dataset) is s calm full input left before now stays = absurd is
 leaves_by (commands.Trial root count workers) is s calm full input left before now stays = absurd is
@@ -136,10 +146,12 @@ seen_at (commands.Generate count) input store P w octets h d e = subst (λ o. P 
 seen_at (commands.Create root) input store P w octets h d e = w octets h d e
 seen_at (commands.Archive root given workers) input store P w octets h d e = w octets h d e
 seen_at (commands.Retrieve root workers) input store P w octets h d e = w octets h d e
+seen_at (commands.RetrieveOver root layers workers) input store P w octets h d e = w octets h d e
 seen_at (commands.List root) input store P w octets h d e = w octets h d e
 seen_at (commands.Axes root) input store P w octets h d e = w octets h d e
 seen_at (commands.Stats root) input store P w octets h d e = subst (λ o. P o h) (sym d) (w h e)
 seen_at (commands.Session root) input store P w octets h d e = w octets h d e
+seen_at (commands.Cubes root) input store P w octets h d e = w octets h d e
 seen_at (commands.Purge root dataset) input store P w octets h d e = subst (λ o. P o h) (sym d) (w h e)
 seen_at (commands.Wipe root dataset) input store P w octets h d e = subst (λ o. P o h) (sym d) (w h e)
 seen_at (commands.Trial root count workers) input store P w octets h d e = subst (λ o. P o h) (sym d) (w h e)
@@ -234,6 +246,7 @@ module _ (command : Command) (is : IsListing command) (before now : Option Holdi
   halted (stops.Schema line kind) told of says disk part = absurd of
   halted (stops.Request at kind) told of says disk part = absurd of
   halted (stops.NoRule text) told of says disk part = absurd of
+  halted (stops.NoLayer layer text) told of says disk part = absurd of
   halted stops.TooMany told of says disk part = absurd of
   halted {A = A} (stops.Broken dataset broken) told of says disk part = elim told as (λ _. Out) [
     | inl t ↦ broken_ran part (string_bytes dataset) (seen_broken broken)
@@ -364,6 +377,7 @@ module _ (command : Command) (is : IsListing command) (before now : Option Holdi
   stopped (stops.Schema line kind) told soon says rose disk calm = schema_ran line kind told.0 told.1 says calm
   stopped (stops.Request at kind) told soon says rose disk calm = either_ran (causes.InRequest (record { at = at; kind = seen_kind kind })) says calm told
   stopped (stops.NoRule text) told soon says rose disk calm = absurd soon
+  stopped (stops.NoLayer layer text) told soon says rose disk calm = absurd soon
   stopped stops.TooMany told soon says rose disk calm = absurd soon
   stopped (stops.Broken dataset broken) told soon says rose disk calm = absurd soon
   stopped stops.NoMemory told soon says rose disk calm = starved0 told
@@ -451,6 +465,7 @@ never_input stops.Missing P on = tt
 never_input (stops.Schema line kind) P on = tt
 never_input (stops.Request at kind) P on = tt
 never_input (stops.NoRule text) P on = tt
+never_input (stops.NoLayer layer text) P on = tt
 never_input stops.TooMany P on = tt
 never_input (stops.Broken dataset broken) P on = tt
 never_input stops.NoMemory P on = tt
@@ -462,6 +477,7 @@ calm_always stops.Missing P p = p
 calm_always (stops.Schema line kind) P p = p
 calm_always (stops.Request at kind) P p = p
 calm_always (stops.NoRule text) P p = p
+calm_always (stops.NoLayer layer text) P p = p
 calm_always stops.TooMany P p = p
 calm_always (stops.Broken dataset broken) P p = p
 calm_always stops.NoMemory P p = tt

@@ -3,3 +3,7 @@ mod Texts
 mod Opened
 mod Partial
 mod Exits
+mod Gathered
+mod Askable
+mod CubeExits
+pub mod CubesDone

@@ -28,7 +28,7 @@ use Rattle.fd_retrieve.specs.Open.{AreListed, IsOpenIn, IsOpenOf, Open, table_of
 use Rattle.fd_retrieve.proofs.DatasetLemmas.{contains_mapped, contains_of}
 use Rattle.fd_contents.specs.declared.lines.Lines.{Lines}
 use Rattle.fd_contents.specs.declared.lines.Lines.TheVariants as lines
-use Rattle.fd_retrieve.specs.declared.stop.Stop.{Stop}
+use Rattle.fd_telling.specs.declared.stop.Stop.{Stop}
 use Rattle.fd_contents.specs.declared.datasets.Halt.{Halt}
 use Rattle.fd_contents.specs.declared.datasets.Halt.TheVariants as halts
 use Rattle.fd_contents.specs.Halts.{IsWrite, OnStop}
@@ -48,7 +48,7 @@ made_of f None y e = absurd (true≢false (sym (ap is_some e)))
 made_of f (Some x) y e = record { from = x; is = refl; makes = some_is (f x) y e }
 
 -- each listing has a batch of the table
-tells_all : (ls : List Standing) (t : List (List Pair)) → all_of (map (λ l. l.batch) (map listing ls)) ≡ Some t → Tells (map listing ls) t
+pub tells_all : (ls : List Standing) (t : List (List Pair)) → all_of (map (λ l. l.batch) (map listing ls)) ≡ Some t → Tells (map listing ls) t
 tells_all [] t e = ap (map (λ (b : List Pair). Some b)) (some_is [] t e)
 tells_all (l ∷ ls) t e = by (listing l).batch refl (tells_all ls) e
   where

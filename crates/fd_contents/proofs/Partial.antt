@@ -10,9 +10,9 @@ use Rattle.fd_request.specs.Grammar.{Fault, TooLong, keywords_of}
 use Rattle.fd_request.specs.Limits.{partial_of, too_long, within_size}
 use Rattle.fd_outcome.specs.Asking.{in_request, partial_in, rules_of, ◌then◌}
 use Rattle.fd_outcome.specs.Causes.{Cause, InRequest}
-use Rattle.fd_retrieve.specs.declared.stop.Stop.{Stop}
-use Rattle.fd_retrieve.specs.declared.stop.Stop.TheVariants as stops
-use Rattle.fd_retrieve.specs.Stops.{OnRequest}
+use Rattle.fd_telling.specs.declared.stop.Stop.{Stop}
+use Rattle.fd_telling.specs.declared.stop.Stop.TheVariants as stops
+use Rattle.fd_telling.specs.Stops.{OnRequest}
 use Rattle.fd_retrieve.proofs.RequestLemmas.{front_is}
 use Rattle.fd_contents.specs.Asked.{IsRuled, Refuses, asked_in, unruled}
 
@@ -59,6 +59,7 @@ refused_by stops.Missing h octets ruled on = absurd on
 refused_by (stops.Schema line kind) h octets ruled on = absurd on
 refused_by (stops.Request at kind) h octets ruled on = asked_by h octets ruled ∙ on
 refused_by (stops.NoRule text) h octets ruled on = absurd on
+refused_by (stops.NoLayer layer text) h octets ruled on = absurd on
 refused_by stops.TooMany h octets ruled on = absurd on
 refused_by (stops.Broken dataset broken) h octets ruled on = absurd on
 refused_by stops.NoMemory h octets ruled on = tt
@@ -76,6 +77,7 @@ refuses_more stops.Missing P Q to says = to _ says
 refuses_more (stops.Schema line kind) P Q to says = (says.0, says.1, says.2, to _ says.3)
 refuses_more (stops.Request at kind) P Q to says = to _ says
 refuses_more (stops.NoRule text) P Q to says = says
+refuses_more (stops.NoLayer layer text) P Q to says = says
 refuses_more stops.TooMany P Q to says = says
 refuses_more (stops.Broken dataset broken) P Q to says = says
 refuses_more stops.NoMemory P Q to says = tt

@@ -14,8 +14,8 @@ use Rattle.fd_outcome.specs.Causes.{Cause}
 use Rattle.fd_outcome.specs.Ends.{ReadsOut}
 use Rattle.fd_outcome.specs.Objects.{IsCalm, Object}
 use Rattle.fd_outcome.specs.Outcome.{outcome, printed}
-use Rattle.fd_retrieve.specs.declared.stop.Stop.{Stop}
-use Rattle.fd_retrieve.specs.declared.stop.Stop.TheVariants as stops
+use Rattle.fd_telling.specs.declared.stop.Stop.{Stop}
+use Rattle.fd_telling.specs.declared.stop.Stop.TheVariants as stops
 use Rattle.fd_contents.specs.declared.lines.Lines.{Lines}
 use Rattle.fd_contents.specs.Texts.{texts_for}
 
@@ -39,6 +39,7 @@ Refuses stops.Missing P = P causes.SchemaMissing
 Refuses (stops.Schema line kind) P = (text : List ℕ) × (fault : schemas.Fault) × IsFirst text line kind fault × P (causes.InStored text fault)
 Refuses (stops.Request at kind) P = P (causes.InRequest (record { at = at; kind = seen_kind kind }))
 Refuses (stops.NoRule text) P = ⊥
+Refuses (stops.NoLayer layer text) P = ⊥
 Refuses stops.TooMany P = ⊥
 Refuses (stops.Broken dataset broken) P = ⊥
 Refuses stops.NoMemory P = Unit {0}
@@ -51,6 +52,7 @@ IsEarly stops.Missing = Unit {0}
 IsEarly (stops.Schema line kind) = Unit {0}
 IsEarly (stops.Request at kind) = Unit {0}
 IsEarly (stops.NoRule text) = ⊥
+IsEarly (stops.NoLayer layer text) = ⊥
 IsEarly stops.TooMany = ⊥
 IsEarly (stops.Broken dataset broken) = ⊥
 IsEarly stops.NoMemory = Unit {0}
@@ -65,10 +67,12 @@ IsListing (commands.Generate count) = ⊥
 IsListing (commands.Create root) = ⊥
 IsListing (commands.Archive root given workers) = ⊥
 IsListing (commands.Retrieve root workers) = ⊥
+IsListing (commands.RetrieveOver root layers workers) = ⊥
 IsListing (commands.List root) = Unit {0}
 IsListing (commands.Axes root) = Unit {0}
 IsListing (commands.Stats root) = Unit {0}
 IsListing (commands.Session root) = ⊥
+IsListing (commands.Cubes root) = ⊥
 IsListing (commands.Purge root dataset) = ⊥
 IsListing (commands.Wipe root dataset) = ⊥
 IsListing (commands.Trial root count workers) = ⊥
@@ -85,9 +89,11 @@ WhereSeen (commands.Values decimals) input store P = (octets : List ℕ) (h : Ho
 WhereSeen (commands.Create root) input store P = (octets : List ℕ) (h : Holdings) → input ≡ Some octets → store ≡ Some h → P octets h
 WhereSeen (commands.Archive root given workers) input store P = (octets : List ℕ) (h : Holdings) → input ≡ Some octets → store ≡ Some h → P octets h
 WhereSeen (commands.Retrieve root workers) input store P = (octets : List ℕ) (h : Holdings) → input ≡ Some octets → store ≡ Some h → P octets h
+WhereSeen (commands.RetrieveOver root layers workers) input store P = (octets : List ℕ) (h : Holdings) → input ≡ Some octets → store ≡ Some h → P octets h
 WhereSeen (commands.List root) input store P = (octets : List ℕ) (h : Holdings) → input ≡ Some octets → store ≡ Some h → P octets h
 WhereSeen (commands.Axes root) input store P = (octets : List ℕ) (h : Holdings) → input ≡ Some octets → store ≡ Some h → P octets h
 WhereSeen (commands.Session root) input store P = (octets : List ℕ) (h : Holdings) → input ≡ Some octets → store ≡ Some h → P octets h
+WhereSeen (commands.Cubes root) input store P = (octets : List ℕ) (h : Holdings) → input ≡ Some octets → store ≡ Some h → P octets h
 WhereSeen (commands.Purge root dataset) input store P = (h : Holdings) → store ≡ Some h → P [] h
 WhereSeen (commands.Wipe root dataset) input store P = (h : Holdings) → store ≡ Some h → P [] h
 

@@ -1,7 +1,7 @@
 -- What ends the lines of datasets early.
 use Rattle.fd_inventory.specs.declared.fault.LinesFault.{LinesFault}
 use Rattle.fd_inventory.specs.declared.fault.LinesFault.TheVariants as faults
-use Rattle.fd_retrieve.specs.declared.stop.Stop.{Stop}
+use Rattle.fd_telling.specs.declared.stop.Stop.{Stop}
 use Rattle.fd_contents.specs.declared.datasets.Halt.{Halt}
 use Rattle.fd_contents.specs.declared.datasets.Halt.TheVariants as halts
 

@@ -1,3 +1,5 @@
 pub mod Texts
 pub mod Asked
 pub mod Halts
+pub mod Cubing
+pub mod Told

@@ -13,7 +13,7 @@ use crate::reading::{partial, ruled};
 use fd_disk::{Folder, Sealed, Store};
 use fd_io::{Sink, Source};
 use fd_outcome::{Status, tell_output_failed};
-use fd_retrieve::tell_stop;
+use fd_telling::tell_stop;
 use fd_words::Root;
 use std::alloc::Global;
 

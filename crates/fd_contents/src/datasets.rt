@@ -8,7 +8,7 @@ ghost use Rattle.fd_inventory.specs.Indexes.{IsAmongBad, OnLines};
 ghost use Rattle.fd_outcome.specs.Store.{AreNames, Stays, has_table};
 ghost use Rattle.fd_retrieve.specs.Open.{IsOpenIn};
 ghost use Rattle.fd_retrieve.specs.Ready.{IsBrokenOf};
-ghost use Rattle.fd_retrieve.specs.Stops.{OfDataset};
+ghost use Rattle.fd_telling.specs.Stops.{OfDataset};
 ghost use Rattle.fd_contents.specs.Halts.{IsWrite, OnStop, OnUnwritten};
 ghost use Rattle.fd_contents.specs.Texts.{text_for, texts_for};
 
@@ -16,8 +16,9 @@ use crate::lines::{Lines, write_lines};
 use fd_disk::{Down, Folder, Sealed, Store};
 use fd_inventory::LinesFault;
 use fd_io::Sink;
-use fd_retrieve::{Broken, Opened, Stop, has_table, open, unopened};
+use fd_retrieve::{Opened, has_table, open, unopened};
 use fd_segment::Damage;
+use fd_telling::{Broken, Stop};
 use std::alloc::Global;
 
 /// Why the lines weren't written to their end.
@@ -31,7 +32,7 @@ pub(crate) enum Halt<F, X> {
 
 /// Opens a dataset of the store, and gives it back; `None` exactly where there is no table. A dataset whose text has more
 /// than 255 bytes has none.
-fn opened_at<F: Send + Drop, S: Store<F>>(
+pub(crate) fn opened_at<F: Send + Drop, S: Store<F>>(
     alloc: Global,
     store: &mut S,
     name: &str,
@@ -61,7 +62,11 @@ where
 }
 
 /// A damage that the lines of a dataset met.
-fn damaged<F: Send, Z: Sealed<F>>(alloc: Global, dataset: &Opened<F, Z>, damage: Damage) -> Stop<F>
+pub(crate) fn damaged<F: Send, Z: Sealed<F>>(
+    alloc: Global,
+    dataset: &Opened<F, Z>,
+    damage: Damage,
+) -> Stop<F>
 where
     requires { IsAmongBad dataset.now.shown damage }
     ensures broken { (h : Holdings) → IsOpenIn h dataset.now → IsBrokenOf result h (dataset.now.name ∷ []) }

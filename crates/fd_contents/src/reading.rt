@@ -2,14 +2,14 @@
 ghost use Rattle.std.specs.Prelude.{◌≡◌, ◌≤◌, [], Some, Ok, Err, IfOk, IfErr, IfSome, OnOk};
 ghost use Rattle.fd_bytes.specs.Causes.{Rose};
 ghost use Rattle.fd_outcome.specs.Asking.{partial_in};
-ghost use Rattle.fd_retrieve.specs.Stops.{OnInput, OnRefusal, OnRequest};
+ghost use Rattle.fd_telling.specs.Stops.{OnInput, OnRefusal, OnRequest};
 ghost use Rattle.fd_contents.specs.Asked.{IsEarly, IsRuled, Refuses, asked_in, unruled};
 
 use fd_disk::Store;
 use fd_io::Source;
 use fd_outcome::{INPUT_LIMIT, Unread, Unruled, read_front, stored_schema};
 use fd_request::{Partial, RequestFault};
-use fd_retrieve::Stop;
+use fd_telling::Stop;
 use std::alloc::Global;
 
 /// Tells that the store has a schema that is one.

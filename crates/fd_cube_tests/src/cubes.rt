@@ -5,7 +5,7 @@ ghost use Rattle.fd_spelling.specs.Names.{is_value};
 ghost use Rattle.fd_cubes.specs.Cubes.{IsAskable};
 ghost use Rattle.fd_cube_tests.specs.Keys.{four, key, three};
 
-use fd_cubes::{cubes, lines_of};
+use fd_cubes::{cubes, every_cube_reads_back, lines_of};
 use fd_key::Key;
 use std::alloc::Global;
 
@@ -57,6 +57,28 @@ fn text_of(alloc: Global, keys: &[Key]) -> Option<String>
     Some(text)
 }
 
+/// For each cube of keys the number of its keys and its text.
+fn told_of(alloc: Global, keys: &[Key]) -> Option<String>
+    requires askable { All IsAskable keys.now }
+    requires distinct { AllPairs (λ a b. a ≢ b) keys.now }
+    requires few { length keys.now ≤ 262144 }
+{
+    let found = cubes(alloc, keys).ok()?;
+    let mut text = String::new(alloc);
+    for cube in &found {
+        let request = cube.text(alloc).ok()?;
+        let number = cube.count();
+        write!(text, " {number} {request}").ok()?;
+    }
+    Some(text)
+}
+
+/// The cube of four keys.
+fn told_of_four(alloc: Global) -> Option<String> {
+    let keys = four_keys(alloc)?;
+    told_of(alloc, &keys)
+}
+
 /// The lines of four keys.
 fn text_of_four(alloc: Global) -> Option<String> {
     let keys = four_keys(alloc)?;
@@ -81,5 +103,13 @@ fn a_cube_that_lacks_a_key_is_two_lines(rt: HostRuntime) {
     assert!(rt;
         text_of_three(rt.alloc()).is_some_and(|text| text.as_str()
             == " retrieve,a=1,b=x/y retrieve,a=2,b=x")
+    );
+}
+
+#[test]
+fn a_cube_tells_how_many_keys_it_has(rt: HostRuntime) {
+    every_cube_reads_back();
+    assert!(rt;
+        told_of_four(rt.alloc()).is_some_and(|text| text.as_str() == " 4 retrieve,a=1/2,b=x/y")
     );
 }

@@ -2,7 +2,7 @@
 ghost use Rattle.std.specs.Prelude.{◌≡◌, ◌≤◌, ◌≢◌, IfOk, length};
 ghost use Rattle.std.specs.List.{All, AllPairs};
 ghost use Rattle.std.specs.List.Sorted.{IsPermutation};
-ghost use Rattle.fd_cubes.specs.Cubes.{IsAskable, keys_of};
+ghost use Rattle.fd_cubes.specs.Cubes.{IsAskable, IsCube, keys_of};
 ghost use Rattle.fd_cubes.specs.Grids.{AreSettled, IsGrid, Regroups, RoundsTo, seen_grids};
 ghost use Rattle.fd_cubes.specs.Joining.{NoneCanJoin};
 
@@ -80,6 +80,7 @@ pub fn cubes(alloc: Global, keys: &[Key]) -> Result<Vec<Cube>, NoMemory>
     requires few { length keys.now ≤ 262144 }
     ensures keys { IfOk result (λ v. IsPermutation keys.now (keys_of v.items)) }
     ensures joined { IfOk result (λ v. NoneCanJoin v.items) }
+    ensures each { IfOk result (λ v. All IsCube v.items) }
 {
     let grids = grids_of(alloc, keys)?;
     let grids = all_joined(alloc, grids)?;

@@ -24,9 +24,13 @@ fn told(command: &Command) -> Told<'_> {
             ("archive", root.as_str(), given.len(), *workers)
         }
         Command::Retrieve(root, workers) => ("retrieve", root.as_str(), 0, *workers),
+        Command::RetrieveOver(root, layers, workers) => {
+            ("over", root.as_str(), (layers.len() & 7) as u32, *workers)
+        }
         Command::List(root) => ("list", root.as_str(), 0, 0),
         Command::Axes(root) => ("axes", root.as_str(), 0, 0),
         Command::Stats(root) => ("stats", root.as_str(), 0, 0),
+        Command::Cubes(root) => ("cubes", root.as_str(), 0, 0),
         Command::Session(root) => ("session", root.as_str(), 0, 0),
         Command::Purge(root, dataset) => ("purge", root.as_str(), is_class(dataset), 0),
         Command::Wipe(root, dataset) => ("wipe", root.as_str(), is_class(dataset), 0),
@@ -90,6 +94,8 @@ archive,--with=class=od,--workers=8,s|archive,s,1,8\n\
 retrieve,a b|retrieve,a b,0,1\n\
 retrieve,s,--workers,8|retrieve,s,0,8\n\
 retrieve,--workers=04,s|retrieve,s,0,4\n\
+retrieve,s,--over,expver=0001|over,s,1,1\n\
+retrieve,--over=EXPVER=1/a=1/a=1/a=1/a=1/a=1/a=1,--workers,2,s|over,s,7,2\n\
 list,s|list,s,0,0\n\
 axes,s|axes,s,0,0\n\
 stats,s|stats,s,0,0\n\
@@ -97,6 +103,7 @@ session,s|session,s,0,0\n\
 trial,s,--workers,4,400|trial,s,400,4\n\
 trial,s,1|trial,s,1,1\n\
 split|split,,0,0\n\
+cubes,s|cubes,s,0,0\n\
 purge,s,class=od|purge,s,1,0\n\
 wipe,s,class=od|wipe,s,1,0\n\
 wipe,s,step=0|wipe,s,0,0\n";
@@ -136,6 +143,12 @@ trial,s,1,--workers=0|\n\
 retrieve,s,--workers,0|\n\
 retrieve,s,--workers=9|\n\
 retrieve,s,--workers|\n\
+retrieve,s,--over|\n\
+retrieve,s,--over,levelist=5|\n\
+retrieve,s,--over,a=1//a=2|\n\
+retrieve,s,--over=a=1/a=1/a=1/a=1/a=1/a=1/a=1/a=1|\n\
+cubes|\n\
+cubes,s,t|\n\
 purge,s|\n\
 purge,s,|\n\
 purge,s,class|\n\
@@ -151,11 +164,11 @@ stats,s,--|\n";
 
 #[test]
 fn reads_words(rt: HostRuntime) {
-    assert_eq!(rt; agreed(rt.alloc(), READ, is_row), 22);
+    assert_eq!(rt; agreed(rt.alloc(), READ, is_row), 25);
 }
 
 #[test]
 fn refuses_words(rt: HostRuntime) {
-    assert_eq!(rt; agreed(rt.alloc(), REFUSED, is_row), 45);
+    assert_eq!(rt; agreed(rt.alloc(), REFUSED, is_row), 51);
     assert!(rt; asks_for(rt.alloc(), &[], ""));
 }

@@ -3,9 +3,12 @@ mod AxesOf
 mod AxisLines
 mod Batches
 mod Counts
+mod Finding
+mod Keyed
 mod Lengths
 mod Lining
 mod Newness
 mod Pieces
 mod Placing
+mod Printed
 pub mod Upserting

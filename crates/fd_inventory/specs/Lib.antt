@@ -4,3 +4,4 @@ pub mod Indexes
 pub mod Written
 pub mod Counted
 pub mod Axes
+pub mod Found

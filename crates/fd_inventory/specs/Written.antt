@@ -22,3 +22,8 @@ HasLinesCause (Err (lines.Disk f)) before now = now ≡ before
 HasLinesCause (Err (lines.Write x)) before now = Rose before now
 HasLinesCause (Err (lines.Damaged d)) before now = now ≡ before
 HasLinesCause (Err lines.NoMemory) before now = now ≡ before
+
+-- texts, each as a line
+unfoldable pub text_lines : List (List ℕ) → List ℕ
+text_lines [] = []
+text_lines (t ∷ ts) = line t ++ text_lines ts

@@ -5,13 +5,17 @@
 mod axis;
 mod counting;
 mod fault;
+mod found;
 mod listing;
+mod printing;
 mod rows;
 mod stored_key;
 
 pub use axis::axes;
 pub use counting::stats;
 pub use fault::LinesFault;
+pub use found::{Found, found_in};
 pub use listing::list;
+pub use printing::write_lines;
 pub use rows::{Newest, Rows};
 pub use stored_key::StoredKey;

@@ -143,7 +143,7 @@ pub(crate) fn stored_key(
 
 /// The same of its two texts.
 #[tactic(auto, unfolding(fd_outcome::specs::Rows::stored_at))]
-fn stored_at(
+pub(crate) fn stored_at(
     alloc: Global,
     dataset: &str,
     index: &str,

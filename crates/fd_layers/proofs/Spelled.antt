@@ -13,7 +13,8 @@ use Rattle.fd_key.specs.Given.{Refusal, differ_after, given_of, pairs_in, pairs_
 use Rattle.fd_key.proofs.GivenLaws.{piece_adds}
 use Rattle.fd_key.proofs.NameLaws.{first_differs}
 use Rattle.fd_key.proofs.PairLaws.{with_new_pair}
-use Rattle.fd_layers.specs.Based.{AreValues, has_names, or_own, under}
+use Rattle.fd_request.specs.Spelled.{AreValues}
+use Rattle.fd_layers.specs.Based.{has_names, or_own, under}
 
 -- ---- what is at a place
 

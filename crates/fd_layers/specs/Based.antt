@@ -1,27 +1,15 @@
 -- The place of a key with a layer's values in place of its own.
 use Rattle.std.specs.Prelude.{◌≡◌, ◌==◌, ◌&&◌, ℕ, Bool, true, List, [], map, is_some, Option, Some, None, Result, Ok, Err, if◌then◌else◌}
-use Rattle.std.specs.List.{All, list_all}
+use Rattle.std.specs.List.{list_all}
 use Rattle.std.specs.Str.{bytes_eq}
-use Rattle.fd_spelling.specs.Names.{is_name, is_value}
 use Rattle.fd_key.specs.Pairs.{Pair, text_of}
-use Rattle.fd_key.specs.Given.{differ_after, given_of}
+use Rattle.fd_key.specs.Given.{given_of}
+use Rattle.fd_request.specs.Spelled.{AreValues}
 use Rattle.fd_schema.specs.declared.place.Place.{Place}
 use Rattle.fd_schema.specs.Rules.{Rule, Texts, file_key, place_from}
 use Rattle.fd_schema.specs.Reading.{seen_place}
 use Rattle.fd_layers.specs.declared.fault.LayerFault.{LayerFault}
 use Rattle.fd_layers.specs.declared.fault.LayerFault.TheVariants as faults
-
--- ---- what holds of keys and layers
-
--- each text is a value
-abbrev pub AreValues : List Pair → Type 0
-AreValues pairs = All (λ p. is_value p.1 ≡ true) pairs
-
--- What holds of the keys of messages and requests: each name is a name and comes once, and each text is a value.
-pub record IsSpelled (key : List Pair) : Type 0 where
-  pub names : All (λ p. is_name p.0 ≡ true) key
-  pub values : AreValues key
-  pub once : differ_after [] key ≡ true
 
 -- the pairs that are read of a text are values
 abbrev pub GivenAreValues : Type 0

@@ -4,7 +4,8 @@ ghost use Rattle.std.specs.Option.{option_copied};
 ghost use Rattle.fd_key.specs.Pairs.{key_text, text_of};
 ghost use Rattle.fd_schema.specs.Rules.{IsShort, place_from};
 ghost use Rattle.fd_schema.specs.Reading.{seen_place};
-ghost use Rattle.fd_layers.specs.Based.{AreValues, GivesBased, IsSpelled, based, has_names, is_same_home, or_own, under};
+ghost use Rattle.fd_request.specs.Spelled.{AreValues, IsSpelled};
+ghost use Rattle.fd_layers.specs.Based.{GivesBased, based, has_names, is_same_home, or_own, under};
 
 use crate::fault::LayerFault;
 use fd_bytes::NoMemory;

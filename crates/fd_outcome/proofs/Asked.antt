@@ -29,9 +29,11 @@ module _ (P Q : List ℕ → Holdings → Holdings → Type 0) (to : (octets : L
   where_asked (commands.Create root) input store after p = of_both input store after p
   where_asked (commands.Archive root given workers) input store after p = of_both input store after p
   where_asked (commands.Retrieve root workers) input store after p = of_both input store after p
+  where_asked (commands.RetrieveOver root layers workers) input store after p = of_both input store after p
   where_asked (commands.List root) input store after p = of_both input store after p
   where_asked (commands.Axes root) input store after p = of_both input store after p
   where_asked (commands.Stats root) input store after p = of_store [] store after p
+  where_asked (commands.Cubes root) input store after p = tt
   where_asked (commands.Session root) input store after p = tt
   where_asked (commands.Purge root dataset) input store after p = of_store [] store after p
   where_asked (commands.Wipe root dataset) input store after p = of_store [] store after p
@@ -61,9 +63,11 @@ module _ (P : List ℕ → Holdings → Holdings → Type 0) (all : (octets : Li
   asked_all (commands.Create root) input store after = all_both input store after
   asked_all (commands.Archive root given workers) input store after = all_both input store after
   asked_all (commands.Retrieve root workers) input store after = all_both input store after
+  asked_all (commands.RetrieveOver root layers workers) input store after = all_both input store after
   asked_all (commands.List root) input store after = all_both input store after
   asked_all (commands.Axes root) input store after = all_both input store after
   asked_all (commands.Stats root) input store after = all_store [] store after
+  asked_all (commands.Cubes root) input store after = tt
   asked_all (commands.Session root) input store after = tt
   asked_all (commands.Purge root dataset) input store after = all_store [] store after
   asked_all (commands.Wipe root dataset) input store after = all_store [] store after

@@ -36,4 +36,4 @@ use Rattle.fd_outcome.specs.Worked.{Rows}
 
 pub every : Rows
 unfolding digits days_of_years days_of_months day_count days_from_civil indicator_at section_at local_use_at end_at reading first_at stream frame_at frames grid_at round_at rounds_at reading_rounds number signed_number signed_or_missing any_product_is param_numbers spelling canonical pair_of date_text time_text date_in date_spelling time_in time_spelling plain_pair with_piece pairs_from given_of message_pairs within_limit key_of levtype_text types_in levtype_spelling level_text unsigned_level level_spelling levelist_spelling scaled_text surface_text number_up_to cut step_text unit_of unsigned_step step_spelling schema_each_of schema_value_of schema_name_of want_of item_of level_of rule_of schema_rules_of version_of rules_in schema_of level_pairs place_from plain tokens parts each_before expand each_of verb_of value_of behind_words up_to_behind values_of behind_name name_of keyword_of request_in keywords_of too_many longest_text within_limits within_size request_of partial_of key_len_at record_at records_at page_at pages_at counts_of index_at batch_of listed octets_of first_indicator first_identification first_grid first_product first_representation first_bit_map first_values date_after identification product values schema_values_text level_items_text rules_text schema_text with_stored_piece with_pieces stored_at stored list_text axes_text stats_text
-every = record { taken_one = refl; archived_one = refl; archived_none = refl; archived_two = refl; split_two = refl; split_one = refl; split_unmapped = refl; asked_for = refl; table = refl; retrieved_one = refl; missed_one = refl; newest_in_batch = refl; newest_batch = refl; partial_is = refl; lists = refl; axes = refl; stats = refl; created_new = refl; created_again = refl; no_schema = refl; damaged_schema = refl; planted_rules = refl; tried_two = refl; tried_over = refl; absent = refl; short = refl; bad_index = refl; beyond = refl; index_digest = refl; field_digest = refl; cut_table = refl }
+every = record { taken_one = refl; archived_one = refl; archived_none = refl; archived_two = refl; archived_fields = refl; archived_unmapped = refl; split_two = refl; split_one = refl; split_unmapped = refl; asked_for = refl; table = refl; retrieved_one = refl; missed_one = refl; retrieved_over = refl; no_layer = refl; newest_in_batch = refl; newest_batch = refl; partial_is = refl; lists = refl; axes = refl; stats = refl; created_new = refl; created_again = refl; no_schema = refl; damaged_schema = refl; planted_rules = refl; tried_two = refl; tried_over = refl; absent = refl; short = refl; bad_index = refl; beyond = refl; index_digest = refl; field_digest = refl; cut_table = refl }

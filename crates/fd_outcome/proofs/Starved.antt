@@ -15,7 +15,8 @@ use Rattle.fd_outcome.specs.Listed.{listed}
 use Rattle.fd_outcome.specs.Splitting.{octets_of, split_of}
 use Rattle.fd_outcome.specs.Asking.{Answer, Asked, answers, asked_of, found_bytes, rules_of}
 use Rattle.fd_outcome.specs.Told.{Told}
-use Rattle.fd_outcome.specs.Outcome.{Outcome, outcome, early, output_early, answered, answered_early, retrieved, retrieved_early, picked, created, archived, generated_messages, tried}
+use Rattle.fd_outcome.specs.Layered.{Laid, laid_answers, laid_of}
+use Rattle.fd_outcome.specs.Outcome.{Outcome, outcome, early, output_early, answered, answered_early, over_early, retrieved, retrieved_early, retrieved_over, picked, created, archived, generated_messages, tried}
 use Rattle.fd_outcome.specs.Trying.{trial_rules}
 use Rattle.fd_outcome.specs.Objects.{failures, object}
 use Rattle.fd_outcome.specs.Ends.{Calm, troubles, no_memory}
@@ -73,6 +74,10 @@ module _ (h : Holdings) (names : List (List ℕ)) (input : List ℕ) where
   retrieved_within (Ok asked) = answers_early (answers (table_at h) asked)
   retrieved_within (Err cause) = ([], refl)
 
+  over_within : (r : Result (List Laid) Cause) → IfSome (retrieved_over h r) (λ x. (more : List ℕ) × (x.output ≡ (over_early h r).output ++ more))
+  over_within (Ok asked) = answers_early (laid_answers (table_at h) asked)
+  over_within (Err cause) = ([], refl)
+
   nothing_within : (o : Option Outcome) → IfSome o (λ x. (more : List ℕ) × (x.output ≡ [] ++ more))
   nothing_within None = tt
   nothing_within (Some x) = (x.output, refl)
@@ -86,9 +91,11 @@ module _ (h : Holdings) (names : List (List ℕ)) (input : List ℕ) where
   within (commands.Create root) = ((created h.schema input).output, refl)
   within (commands.Archive root given workers) = ((archived given (rules_of h.schema) input).output, refl)
   within (commands.Retrieve root workers) = retrieved_within (asked_of h input)
+  within (commands.RetrieveOver root layers workers) = over_within (laid_of h layers input)
   within (commands.List root) = whole_early (outcome (commands.List root) h names input)
   within (commands.Axes root) = whole_early (outcome (commands.Axes root) h names input)
   within (commands.Stats root) = whole_early (outcome (commands.Stats root) h names input)
+  within (commands.Cubes root) = tt
   within (commands.Session root) = tt
   within (commands.Purge root dataset) = nothing_within (outcome (commands.Purge root dataset) h names input)
   within (commands.Wipe root dataset) = nothing_within (outcome (commands.Wipe root dataset) h names input)

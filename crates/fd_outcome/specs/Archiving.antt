@@ -1,9 +1,9 @@
--- What is stored of a stream of messages.
+-- What is stored of the fields of a stream of messages.
 use Rattle.std.specs.Prelude.{ℕ, ◌+◌, Bool, false, not, ◌&&◌, List, [], ◌∷◌, ◌++◌, length, codes, nat_lt, Option, Some, None, Result, Ok, Err, if◌then◌else◌}
 use Rattle.std.specs.Str.{bytes_eq}
 use Rattle.std.specs.Fmt.{decimal}
 use Rattle.fd_sections.specs.Message.{Sections, message_octets}
-use Rattle.fd_sections.specs.Stream.{Stream, stream}
+use Rattle.fd_sections.specs.Frames.{Frames, frames}
 use Rattle.fd_key.specs.declared.fault.KeyFault.{KeyFault}
 use Rattle.fd_key.specs.Pairs as keys
 use Rattle.fd_key.specs.Keys.{key_of}
@@ -12,7 +12,7 @@ use Rattle.fd_schema.specs.Rules.{Rule, Texts, file_key, place_from}
 use Rattle.fd_listing.specs.Lines.{line}
 use Rattle.fd_outcome.specs.declared.refusal.Refusal.{Refusal}
 use Rattle.fd_outcome.specs.declared.refusal.Refusal.TheVariants.{Key}
-use Rattle.fd_outcome.specs.Inputs.{refused, of_input}
+use Rattle.fd_outcome.specs.Fields.{FieldList, Numbered, fields_after, of_frames}
 use Rattle.fd_outcome.specs.Causes.{Cause, InStream, NoRule, TooManyDatasets}
 use Rattle.fd_outcome.specs.Asking.{is_among, count_distinct}
 
@@ -21,12 +21,13 @@ pub record Stored : Type 0 where
   pub dataset : List ℕ
   pub pair : Pair
 
--- the messages that are stored, in the order of the stream, why those behind them are refused, if they are, and how many
--- octets are skipped
+-- the fields that are stored, in the order of the stream, why those behind them are refused, if they are, how many octets are skipped,
+-- and the number of the message that is refused or would come next
 pub record Taken : Type 0 where
   pub stored : List Stored
   pub refusal : Option Cause
   pub junk : ℕ
+  pub next : ℕ
 
 abbrev pub stored_at : Texts → Sections → Stored
 stored_at place m = record { dataset = place.dataset; pair = record { key = file_key place; bytes = message_octets m } }
@@ -48,36 +49,40 @@ keyed rules datasets n m (Ok key) = stored_in datasets m key (place_from 0 rules
 abbrev pub stored_of : List Rule → List keys.Pair → List (List ℕ) → ℕ → Sections → Result Stored Cause
 stored_of rules given datasets n m = keyed rules datasets n m (key_of m given)
 
-abbrev pub ended : Option Cause → ℕ → Taken
-ended refusal junk = record { stored = []; refusal = refusal; junk = junk }
+abbrev pub ended : Option Cause → ℕ → ℕ → Taken
+ended refusal junk next = record { stored = []; refusal = refusal; junk = junk; next = next }
 
--- a message that is stored before others, or a refusal, after which nothing is
-abbrev pub before : Result Stored Cause → (List ℕ → Taken) → Taken
-before (Err cause) others = ended (Some cause) 0
-before (Ok s) others = record { stored = s ∷ (others s.dataset).stored; refusal = (others s.dataset).refusal; junk = (others s.dataset).junk }
+-- a field of message n that is stored before others, or a refusal, after which nothing is
+abbrev pub before : ℕ → Result Stored Cause → (List ℕ → Taken) → Taken
+before n (Err cause) others = ended (Some cause) 0 n
+before n (Ok s) others = record { stored = s ∷ (others s.dataset).stored; refusal = (others s.dataset).refusal; junk = (others s.dataset).junk; next = (others s.dataset).next }
 
--- the messages from number n on, after messages of these datasets; `last` tells why what follows them is refused, if it is
-abbrev pub taken_messages : List Rule → List keys.Pair → List (List ℕ) → ℕ → Option Cause → ℕ → List Sections → Taken
-taken_messages rules given datasets n last junk [] = ended last junk
-taken_messages rules given datasets n last junk (m ∷ ms) =
-    before (stored_of rules given datasets n m) (λ dataset. taken_messages rules given (datasets ++ dataset ∷ []) (n + 1) last junk ms)
+-- the fields, after fields of these datasets; `last` tells why what follows them is refused, if it is, and `next` the number of the
+-- message that does
+abbrev pub taken_fields : List Rule → List keys.Pair → List (List ℕ) → Option Cause → ℕ → ℕ → List Numbered → Taken
+taken_fields rules given datasets last junk next [] = ended last junk next
+taken_fields rules given datasets last junk next (f ∷ fs) =
+    before f.number (stored_of rules given datasets f.number f.sections) (λ dataset. taken_fields rules given (datasets ++ dataset ∷ []) last junk next fs)
 
 abbrev pub in_stream : Option Refusal → Option Cause
 in_stream None = None
 in_stream (Some refusal) = Some (InStream refusal)
 
--- what is stored of a stream that comes after n messages, which were of these datasets, and after so many skipped octets
-abbrev pub taken_after : List Rule → List keys.Pair → Bool → List (List ℕ) → ℕ → ℕ → Stream → Taken
-taken_after rules given past datasets n junk s =
-    taken_messages rules given datasets (n + 1) (in_stream (refused past (n + length s.messages) s.end)) (junk + s.skipped) s.messages
+-- what is stored of these fields, which come after fields of these datasets and after so many skipped octets
+abbrev pub taken_of_fields : List Rule → List keys.Pair → List (List ℕ) → ℕ → FieldList → Taken
+taken_of_fields rules given datasets junk x = taken_fields rules given datasets (in_stream x.refusal) junk x.next x.fields
+
+-- what is stored of a stream that comes after n messages, whose fields were of these datasets, and after so many skipped octets
+abbrev pub taken_after : List Rule → List keys.Pair → Bool → List (List ℕ) → ℕ → ℕ → Frames → Taken
+taken_after rules given past datasets n junk s = taken_of_fields rules given datasets (junk + s.skipped) (fields_after past n s)
 
 -- What is stored of an input.
 abbrev pub taken : List Rule → List keys.Pair → List ℕ → Taken
-taken rules given input = of_input (λ past s. taken_after rules given past [] 0 0 s) input
+taken rules given input = of_frames (λ past s. taken_after rules given past [] 0 0 s) input
 
 -- what is stored of the messages that are whole in these octets
 abbrev pub taken_of : List Rule → List keys.Pair → List ℕ → List Stored
-taken_of rules given octets = (taken_after rules given false [] 0 0 (stream octets)).stored
+taken_of rules given octets = (taken_after rules given false [] 0 0 (frames octets)).stored
 
 -- the pairs of one dataset, in the order of the stream
 abbrev pub pairs_for : List Stored → List ℕ → List Pair

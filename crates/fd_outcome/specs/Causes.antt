@@ -34,6 +34,12 @@ pub data Cause : Type 0 where
   InRequest : (fault : requests.Fault) → Cause
   -- no rule admits the key
   NoRule : (key : List Pair) → Cause
+  -- a key that matches has a value that is a word of ranges, `to` or `by`, so that no request can name it
+  NoRequest : (key : List Pair) → Cause
+  -- more keys match than a request may have
+  TooManyKeys : Cause
+  -- the key has no place under the layer with this number, from 1
+  NoLayer : (layer : ℕ) (key : List Pair) → Cause
   -- a 2,049th dataset
   TooManyDatasets : Cause
   -- the dataset that is to be purged or wiped has no table
@@ -102,6 +108,9 @@ telling (InRequest fault) =
     if is_request_limit fault.kind then limited_so (request_wrong_text fault.kind)
     else refused_so (codes "request " ++ decimal fault.at ++ blank (request_wrong_text fault.kind))
 telling (NoRule key) = refused_so (codes "NoRule " ++ key_text key)
+telling (NoRequest key) = refused_so (codes "NoRequest " ++ key_text key)
+telling TooManyKeys = limited_so (codes "TooMany 262145")
+telling (NoLayer layer key) = refused_so (codes "Layer " ++ decimal layer ++ blank (key_text key))
 telling TooManyDatasets = limited_so (codes "TooMany 2049")
 telling NoDataset = refused_so (codes "NoDataset")
 telling (WriterTooGreat entry writer) = limited_so (codes "Writers " ++ decimal entry ++ blank (decimal writer))

@@ -12,6 +12,7 @@ use Rattle.fd_listing.specs.Lines.{line}
 use Rattle.fd_outcome.specs.Causes.{Cause, Broken, damaged_line, table_full}
 use Rattle.fd_outcome.specs.Store.{AreNames, IsFull, Grows, GrowsBy, Plants, Stands, Stays, table_at}
 use Rattle.fd_outcome.specs.Asking.{Asked, asked_of, datasets_of, rules_of}
+use Rattle.fd_outcome.specs.Layered.{Laid, laid_datasets, laid_of}
 use Rattle.fd_outcome.specs.Archiving.{Taken, taken, taken_of, pairs_for, datasets_in}
 use Rattle.fd_outcome.specs.Objects.{Object, Failed, Failures, IsCalm, failures}
 use Rattle.fd_outcome.specs.Reclaiming.{InDataset, LeavesPurged, LeavesWiped}
@@ -19,7 +20,7 @@ use Rattle.fd_outcome.specs.Trying.{trial_given, trial_rules, trial_schema}
 use Rattle.fd_outcome.specs.Outcome.{Outcome, Early, outcome, early, generated_messages, nothing_early}
 
 abbrev pub usage : List ℕ
-usage = line (codes "usage: fdb pick describe values generate create archive retrieve list axes stats session trial purge wipe split")
+usage = line (codes "usage: fdb pick describe values generate create archive retrieve list axes stats session trial purge wipe cubes split")
 
 abbrev pub input_failed : List ℕ
 input_failed = line (codes "input failed")
@@ -119,11 +120,15 @@ abbrev pub AmongAsked : Result (List Asked) Cause → List ℕ → Type 0
 AmongAsked (Ok asked) name = Contains (datasets_of asked) name
 AmongAsked (Err cause) name = ⊥
 
+abbrev pub AmongLaid : Result (List Laid) Cause → List ℕ → Type 0
+AmongLaid (Ok asked) name = Contains (laid_datasets asked) name
+AmongLaid (Err cause) name = ⊥
+
 abbrev pub AmongTaken : List keys.Pair → Result (List Rule) Cause → List ℕ → List ℕ → Type 0
 AmongTaken given (Ok rules) input name = Contains (datasets_in (taken rules given input).stored) name
 AmongTaken given (Err cause) input name = ⊥
 
--- the command opens the dataset: `retrieve` those of the keys, `archive` and `trial` those of the messages, the listings all,
+-- the command opens the dataset: `retrieve` those of the keys, and over layers those under them too, `archive` and `trial` those of the messages, the listings all,
 -- `purge` and `wipe` the one that they name.
 -- Of a session that is said with what it does.
 abbrev pub Opens : Command → Holdings → List (List ℕ) → List ℕ → List ℕ → Type 0
@@ -135,9 +140,11 @@ Opens (commands.Generate count) h names input name = ⊥
 Opens (commands.Create root) h names input name = ⊥
 Opens (commands.Archive root given workers) h names input name = AmongTaken given (rules_of h.schema) input name
 Opens (commands.Retrieve root workers) h names input name = AmongAsked (asked_of h input) name
+Opens (commands.RetrieveOver root layers workers) h names input name = AmongLaid (laid_of h layers input) name
 Opens (commands.List root) h names input name = Contains names name
 Opens (commands.Axes root) h names input name = Contains names name
 Opens (commands.Stats root) h names input name = Contains names name
+Opens (commands.Cubes root) h names input name = Contains names name
 Opens (commands.Session root) h names input name = ⊥
 Opens (commands.Purge root dataset) h names input name = name ≡ dataset
 Opens (commands.Wipe root dataset) h names input name = name ≡ dataset
@@ -153,9 +160,11 @@ UsesStore (commands.Generate count) = ⊥
 UsesStore (commands.Create root) = Unit {0}
 UsesStore (commands.Archive root given workers) = Unit {0}
 UsesStore (commands.Retrieve root workers) = Unit {0}
+UsesStore (commands.RetrieveOver root layers workers) = Unit {0}
 UsesStore (commands.List root) = Unit {0}
 UsesStore (commands.Axes root) = Unit {0}
 UsesStore (commands.Stats root) = Unit {0}
+UsesStore (commands.Cubes root) = Unit {0}
 UsesStore (commands.Session root) = Unit {0}
 UsesStore (commands.Purge root dataset) = Unit {0}
 UsesStore (commands.Wipe root dataset) = Unit {0}
@@ -171,9 +180,11 @@ StoresFields (commands.Generate count) = ⊥
 StoresFields (commands.Create root) = ⊥
 StoresFields (commands.Archive root given workers) = Unit {0}
 StoresFields (commands.Retrieve root workers) = ⊥
+StoresFields (commands.RetrieveOver root layers workers) = ⊥
 StoresFields (commands.List root) = ⊥
 StoresFields (commands.Axes root) = ⊥
 StoresFields (commands.Stats root) = ⊥
+StoresFields (commands.Cubes root) = ⊥
 StoresFields (commands.Session root) = Unit {0}
 StoresFields (commands.Purge root dataset) = ⊥
 StoresFields (commands.Wipe root dataset) = ⊥
@@ -190,9 +201,11 @@ IsBroken (commands.Generate count) h i name broken = Stands name (folder_at h na
 IsBroken (commands.Create root) h i name broken = Stands name (folder_at h name) broken
 IsBroken (commands.Archive root given workers) h i name broken = Stands name (folder_at h name) broken
 IsBroken (commands.Retrieve root workers) h i name broken = Stands name (folder_at h name) broken
+IsBroken (commands.RetrieveOver root layers workers) h i name broken = Stands name (folder_at h name) broken
 IsBroken (commands.List root) h i name broken = Stands name (folder_at h name) broken
 IsBroken (commands.Axes root) h i name broken = Stands name (folder_at h name) broken
 IsBroken (commands.Stats root) h i name broken = Stands name (folder_at h name) broken
+IsBroken (commands.Cubes root) h i name broken = Stands name (folder_at h name) broken
 IsBroken (commands.Session root) h i name broken = Stands name (folder_at h name) broken
 IsBroken (commands.Purge root dataset) h i name broken = Stands name (folder_at h name) broken
 IsBroken (commands.Wipe root dataset) h i name broken = Stands name (folder_at h name) broken
@@ -223,7 +236,7 @@ abbrev pub nothing_held : Holdings
 nothing_held = record { schema = None; folders = λ name. None }
 
 -- Where the input and the store tell, as far as the command asks them; the store before the command and after it. What a
--- session makes of them hangs on its lanes, and is said by itself.
+-- session makes of them hangs on its lanes, and what `cubes` makes of them on how it joins keys; both are said by themselves.
 abbrev pub WhereAsked : Command → Option (List ℕ) → Option Holdings → Option Holdings → (List ℕ → Holdings → Holdings → Type 0) → Type 0
 WhereAsked (commands.Pick wanted) input store after P = IfSome input (λ octets. P octets nothing_held nothing_held)
 WhereAsked commands.Describe input store after P = IfSome input (λ octets. P octets nothing_held nothing_held)
@@ -233,9 +246,11 @@ WhereAsked (commands.Generate count) input store after P = P [] nothing_held not
 WhereAsked (commands.Create root) input store after P = IfSome input (λ octets. IfSome store (λ h. IfSome after (P octets h)))
 WhereAsked (commands.Archive root given workers) input store after P = IfSome input (λ octets. IfSome store (λ h. IfSome after (P octets h)))
 WhereAsked (commands.Retrieve root workers) input store after P = IfSome input (λ octets. IfSome store (λ h. IfSome after (P octets h)))
+WhereAsked (commands.RetrieveOver root layers workers) input store after P = IfSome input (λ octets. IfSome store (λ h. IfSome after (P octets h)))
 WhereAsked (commands.List root) input store after P = IfSome input (λ octets. IfSome store (λ h. IfSome after (P octets h)))
 WhereAsked (commands.Axes root) input store after P = IfSome input (λ octets. IfSome store (λ h. IfSome after (P octets h)))
 WhereAsked (commands.Stats root) input store after P = IfSome store (λ h. IfSome after (P [] h))
+WhereAsked (commands.Cubes root) input store after P = Unit {0}
 WhereAsked (commands.Session root) input store after P = Unit {0}
 WhereAsked (commands.Purge root dataset) input store after P = IfSome store (λ h. IfSome after (P [] h))
 WhereAsked (commands.Wipe root dataset) input store after P = IfSome store (λ h. IfSome after (P [] h))
@@ -293,8 +308,10 @@ ReadsOut (commands.Values decimals) before after = IfSome before (λ octets. aft
 ReadsOut (commands.Create root) before after = IfSome before (λ octets. after ≡ Some [])
 ReadsOut (commands.Archive root given workers) before after = IfSome before (λ octets. after ≡ Some [])
 ReadsOut (commands.Retrieve root workers) before after = IfSome before (λ octets. after ≡ Some [])
+ReadsOut (commands.RetrieveOver root layers workers) before after = IfSome before (λ octets. after ≡ Some [])
 ReadsOut (commands.List root) before after = IfSome before (λ octets. after ≡ Some [])
 ReadsOut (commands.Axes root) before after = IfSome before (λ octets. after ≡ Some [])
+ReadsOut (commands.Cubes root) before after = IfSome before (λ octets. after ≡ Some [])
 
 -- the datasets that the command opens aren't damaged
 abbrev pub AreSound : Command → Holdings → List (List ℕ) → List ℕ → Type 0
@@ -388,9 +405,11 @@ Leaves (commands.Generate count) s calm full input left h i = i ≡ h
 Leaves (commands.Create root) s calm full input left h i = IfSome input (λ octets. LeavesSchema s octets h i)
 Leaves (commands.Archive root given workers) s calm full input left h i = IfSome input (λ octets. LeavesBy s calm full workers (rules_of h.schema) given octets left h i)
 Leaves (commands.Retrieve root workers) s calm full input left h i = Stays h i
+Leaves (commands.RetrieveOver root layers workers) s calm full input left h i = Stays h i
 Leaves (commands.List root) s calm full input left h i = Stays h i
 Leaves (commands.Axes root) s calm full input left h i = Stays h i
 Leaves (commands.Stats root) s calm full input left h i = Stays h i
+Leaves (commands.Cubes root) s calm full input left h i = Stays h i
 Leaves (commands.Session root) s calm full input left h i = Unit {0}
 Leaves (commands.Purge root dataset) s calm full input left h i = InDataset dataset (LeavesPurged s dataset) h i
 Leaves (commands.Wipe root dataset) s calm full input left h i = InDataset dataset (LeavesWiped s dataset) h i

@@ -10,9 +10,12 @@ pub mod Refusals
 pub mod Causes
 pub mod Store
 pub mod Asking
+pub mod Layered
 pub mod Archiving
 pub mod Trying
 pub mod Rows
+pub mod Matching
+pub mod Cubing
 pub mod Reclaiming
 pub mod Outcome
 pub mod Again

@@ -25,6 +25,7 @@ use Rattle.fd_outcome.specs.Listed.{Listed, listed}
 use Rattle.fd_outcome.specs.Splitting.{Split, octets_of, split_line, split_of}
 use Rattle.fd_outcome.specs.Store.{table_at, entries_in}
 use Rattle.fd_outcome.specs.Asking.{Answer, Asked, rules_of, partial_in, asked_of, answers, found_bytes, miss_lines, counts_line, count_missed, ◌then◌}
+use Rattle.fd_outcome.specs.Layered.{Laid, laid_answers, laid_of}
 use Rattle.fd_outcome.specs.Archiving.{Taken, taken, archived_line, datasets_in}
 use Rattle.fd_outcome.specs.Trying.{tally_of, trial_answers, trial_given, trial_line, trial_rules}
 use Rattle.fd_outcome.specs.Rows.{list_text, axes_text, stats_text}
@@ -121,6 +122,11 @@ abbrev pub retrieved : Holdings → Result (List Asked) Cause → Option Outcome
 retrieved h (Ok asked) = option_map answered (answers (table_at h) asked)
 retrieved h (Err cause) = Some (refused cause)
 
+-- The same of a request over layers.
+abbrev pub retrieved_over : Holdings → Result (List Laid) Cause → Option Outcome
+retrieved_over h (Ok asked) = option_map answered (laid_answers (table_at h) asked)
+retrieved_over h (Err cause) = Some (refused cause)
+
 abbrev pub both : Option (List ℕ) → Option (List ℕ) → Option (List ℕ)
 both (Some a) (Some b) = Some (a ++ b)
 both (Some a) None = None
@@ -165,7 +171,7 @@ reclaimed (Ok rules) text = option_map reported text
 reclaimed (Err cause) text = Some (refused cause)
 
 -- What the command makes of its input and of what the store holds, whose datasets have these names. Nothing is said where
--- a dataset that it reads is damaged.
+-- a dataset that it reads is damaged. What `session` and `cubes` make of them is said by itself, since it is no function of these alone.
 abbrev pub outcome : Command → Holdings → List (List ℕ) → List ℕ → Option Outcome
 outcome (commands.Pick wanted) h names input = Some (picked (found wanted input))
 outcome commands.Describe h names input = Some (told (listed listings.Descriptions input))
@@ -175,9 +181,11 @@ outcome (commands.Generate count) h names input = Some (generated count)
 outcome (commands.Create root) h names input = Some (created h.schema input)
 outcome (commands.Archive root given workers) h names input = Some (archived given (rules_of h.schema) input)
 outcome (commands.Retrieve root workers) h names input = retrieved h (asked_of h input)
+outcome (commands.RetrieveOver root layers workers) h names input = retrieved_over h (laid_of h layers input)
 outcome (commands.List root) h names input = printed_of list_text h names (rules_of h.schema then λ rules. partial_in input)
 outcome (commands.Axes root) h names input = printed_of axes_text h names (rules_of h.schema then λ rules. partial_in input)
 outcome (commands.Stats root) h names input = stats_printed h names (rules_of h.schema)
+outcome (commands.Cubes root) h names input = None
 outcome (commands.Session root) h names input = None
 outcome (commands.Purge root dataset) h names input = reclaimed (rules_of h.schema) (purge_told dataset (folder_at h dataset))
 outcome (commands.Wipe root dataset) h names input = reclaimed (rules_of h.schema) (wipe_told dataset (folder_at h dataset))
@@ -203,6 +211,10 @@ abbrev pub retrieved_early : Holdings → Result (List Asked) Cause → Early
 retrieved_early h (Ok asked) = answered_early (answers (table_at h) asked)
 retrieved_early h (Err cause) = nothing_early
 
+abbrev pub over_early : Holdings → Result (List Laid) Cause → Early
+over_early h (Ok asked) = answered_early (laid_answers (table_at h) asked)
+over_early h (Err cause) = nothing_early
+
 abbrev pub output_early : Option Outcome → Early
 output_early (Some o) = lines_early o.output
 output_early None = nothing_early
@@ -216,9 +228,11 @@ early (commands.Generate count) h names input = lines_early (generated_messages 
 early (commands.Create root) h names input = nothing_early
 early (commands.Archive root given workers) h names input = nothing_early
 early (commands.Retrieve root workers) h names input = retrieved_early h (asked_of h input)
+early (commands.RetrieveOver root layers workers) h names input = over_early h (laid_of h layers input)
 early (commands.List root) h names input = output_early (outcome (commands.List root) h names input)
 early (commands.Axes root) h names input = output_early (outcome (commands.Axes root) h names input)
 early (commands.Stats root) h names input = output_early (outcome (commands.Stats root) h names input)
+early (commands.Cubes root) h names input = nothing_early
 early (commands.Session root) h names input = nothing_early
 early (commands.Purge root dataset) h names input = nothing_early
 early (commands.Wipe root dataset) h names input = nothing_early

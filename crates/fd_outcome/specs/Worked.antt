@@ -16,7 +16,7 @@ use Rattle.fd_request.specs.Expansion.{Keyword, expand}
 use Rattle.fd_listing.specs.Lines.{line}
 use Rattle.fd_segment.specs.declared.fault.Damage.TheVariants as damages
 use Rattle.fd_entries.specs.Batches.{newest}
-use Rattle.fd_words.specs.declared.command.Command.TheVariants.{Create, Retrieve, List as List_, Axes, Split, Stats, Trial}
+use Rattle.fd_words.specs.declared.command.Command.TheVariants.{Create, Retrieve, RetrieveOver, List as List_, Axes, Split, Stats, Trial}
 use Rattle.fd_outcome.specs.declared.status.Status.TheVariants.{Done, Missed, Refused, Damaged}
 use Rattle.fd_outcome.specs.Causes.{Cause, BadTable, BadFile, damaged_line}
 use Rattle.fd_outcome.specs.Asking.{Asked, rules_of, request_in, partial_in, placed, ◌then◌}
@@ -53,6 +53,9 @@ schema_text = codes "[class, expver, date, time [centre, type, levtype [param, s
 
 abbrev pub request : List ℕ → List ℕ
 request level = codes "retrieve,class=od,expver=0001,date=20240101,time=00,centre=98,type=1,levtype=100,param=0.0.0,step=0,levelist=" ++ level
+
+abbrev pub other_request : List ℕ
+other_request = codes "retrieve,class=od,expver=0002,date=20240101,time=00,centre=98,type=1,levtype=100,param=0.0.0,step=0,levelist=100000"
 
 abbrev pub dataset : List ℕ
 dataset = codes "class=od,expver=0001,date=20240101,time=0000"
@@ -114,10 +117,13 @@ axis text = line (dataset ++ codes " centre=98,type=1,levtype=100 " ++ text)
 
 pub record Rows : Type 0 where
   -- `archive` of one field, of nothing, of the field twice with other values
-  pub taken_one : (rules then λ rs. Ok (taken rs given field)) ≡ Ok (record { stored = record { dataset = dataset; pair = pair field } ∷ []; refusal = None; junk = 0 })
+  pub taken_one : (rules then λ rs. Ok (taken rs given field)) ≡ Ok (record { stored = record { dataset = dataset; pair = pair field } ∷ []; refusal = None; junk = 0; next = 2 })
   pub archived_one : archived given rules field ≡ record { output = []; report = line (codes "archived 1 datasets 1 junk 0"); status = Done }
   pub archived_none : archived given rules [] ≡ record { output = []; report = line (codes "archived 0 datasets 0 junk 0"); status = Done }
   pub archived_two : archived given rules (field ++ other_field) ≡ record { output = []; report = line (codes "archived 2 datasets 1 junk 0"); status = Done }
+  -- of both fields of one message, and of a field and a message whose second field lacks a bit map
+  pub archived_fields : archived given rules (field_with round) ≡ record { output = []; report = line (codes "archived 2 datasets 1 junk 0"); status = Done }
+  pub archived_unmapped : archived given rules (field ++ field_with unmapped_round) ≡ record { output = []; report = line (codes "refused message 2 NoMap 2"); status = Refused }
   -- `split` of a message of two fields, of the field behind three octets, and of two fields of which the second lacks a bit map
   pub split_two : outcome Split nothing [] (field_with round) ≡ Some (record { output = field ++ field; report = line (codes "split 2 junk 0"); status = Done })
   pub split_one : outcome Split nothing [] (codes "GRI" ++ field) ≡ Some (record { output = field; report = line (codes "split 1 junk 3"); status = Done })
@@ -132,6 +138,13 @@ pub record Rows : Type 0 where
     output = [];
     report = line (codes "miss class=od,expver=0001,date=20240101,time=0000,centre=98,type=1,levtype=100,param=0.0.0,step=0,levelist=5") ++ line (codes "found 0 missed 1");
     status = Missed;
+  })
+  -- the same of another experiment over this one, and under a name that the key hasn't
+  pub retrieved_over : outcome (RetrieveOver [] (((codes "expver", codes "0001") ∷ []) ∷ []) 1) store names other_request ≡ Some (record { output = field; report = line (codes "found 1 missed 0"); status = Done })
+  pub no_layer : outcome (RetrieveOver [] (((codes "expver", codes "0001") ∷ []) ∷ ((codes "stream", codes "x") ∷ []) ∷ []) 1) store names other_request ≡ Some (record {
+    output = [];
+    report = line (codes "refused Layer 2 class=od,expver=0002,date=20240101,time=0000,centre=98,type=1,levtype=100,param=0.0.0,step=0,levelist=100000");
+    status = Refused;
   })
   -- the second of two pairs in one batch, and of two batches
   pub newest_in_batch : newest ((pair field ∷ pair other_field ∷ []) ∷ []) file_key ≡ Some other_field

@@ -6,22 +6,23 @@ ghost use Rattle.std.specs.Prelude.{◌≡◌, false, IfOk, List, ℕ, drop, map
 ghost use Rattle.std.specs.String.{string_bytes};
 ghost use Rattle.fd_words.specs.Texts.{texts};
 
+mod exit;
 #[cfg(test)]
 mod tests;
 mod top;
 
+use exit::{ended, ran};
 use fd_bytes::NoMemory;
 use fd_disk::{Renew, Store};
 use fd_disk_real::RealStore;
 use fd_io::{Gate, StdSink, StdSource};
-use fd_outcome::{Status, tell_no_memory};
+use fd_outcome::tell_no_memory;
 use std::alloc::Global;
 use std::env;
 use std::io::ErrorKind;
 use std::process::ExitCode;
 use std::sync::Wait;
 use std::thread::Threads;
-use top::fdb;
 
 /// A gate that holds nobody back.
 struct Open;
@@ -31,21 +32,21 @@ impl Gate for Open {
 }
 
 fn main(rt: HostRuntime) -> ExitCode {
-    ExitCode::from(run(rt, &rt).code())
+    run(rt, &rt)
 }
 
 /// Runs the command that the program's words ask for, over the store in the folder that they name. The second handle is the
 /// runtime again, as that of what may wait and start threads.
-fn run<R: Threads + Wait + Sync>(rt: HostRuntime, waits: &R) -> Status {
+fn run<R: Threads + Wait + Sync>(rt: HostRuntime, waits: &R) -> ExitCode {
     let mut report = StdSink::new(rt.stderr());
     let Ok(texts) = arguments(&rt) else {
-        return tell_no_memory(&mut report);
+        return ended(tell_no_memory(&mut report));
     };
     let Ok(words) = words_of(rt.alloc(), &texts) else {
-        return tell_no_memory(&mut report);
+        return ended(tell_no_memory(&mut report));
     };
     let Ok(mut store) = RealStore::new(rt.alloc(), rt) else {
-        return tell_no_memory(&mut report);
+        return ended(tell_no_memory(&mut report));
     };
     serve(rt, waits, &words, &mut store)
 }
@@ -57,7 +58,7 @@ fn serve<F: Send + Drop, S: Store<F>, R: Threads + Wait + Sync>(
     waits: &R,
     words: &[&str],
     store: &mut S,
-) -> Status
+) -> ExitCode
 where
     S::Folder: Renew<F>,
     requires home { (name : List ℕ) → S.out store.old name ≡ false }
@@ -66,7 +67,7 @@ where
     let mut input = StdSource::new(rt.stdin().lock());
     let mut output = StdSink::new(rt.stdout());
     let mut report = StdSink::new(rt.stderr());
-    fdb(
+    ran(
         waits,
         rt.alloc(),
         words,

@@ -10,12 +10,14 @@ ghost use Rattle.fd_outcome.specs.Causes.{table_full};
 ghost use Rattle.fd_outcome.specs.Objects.{object};
 ghost use Rattle.fd_outcome.specs.Ran.{Ran};
 ghost use Rattle.fd_archive.specs.Crashing.{OutlastsCrash};
+ghost use Rattle.fd_contents.specs.Cubing.{CubesRan, OfCubes};
 ghost use Rattle.fd_session.specs.Sessions.{OfSession, SessionRan};
 
 use fd_archive::archive;
-use fd_contents::{axes, list, stats};
+use fd_contents::{axes, cubes, list, stats};
 use fd_disk::{Folder, Renew, Sealed, Shelf, Store};
 use fd_io::{Gate, Sink, Source};
+use fd_layered::retrieve_over;
 use fd_outcome::{Listing, Status, tell, tell_no_memory};
 use fd_reclaim::{purge, wipe};
 use fd_retrieve::retrieve;
@@ -28,7 +30,7 @@ use std::sync::Wait;
 use std::thread::Threads;
 
 const USAGE: &str =
-    "usage: fdb pick describe values generate create archive retrieve list axes stats session trial purge wipe split\n";
+    "usage: fdb pick describe values generate create archive retrieve list axes stats session trial purge wipe cubes split\n";
 
 /// Runs the command that the words after the program's name ask for, over a store, an input, an output and a report, each
 /// of which may be real or an object in memory. The gate is passed by what runs in threads of its own. The status tells how
@@ -90,6 +92,10 @@ where
     // were listed, and what the store holds then.
     ensures session { IfSome (command_of (texts words.now)) (λ command. OfSession command (SessionRan F result (object (S.has store.old) (S.has store.new) (S.faults store.old) (S.faults store.new)) (object (I.left input.old) (I.left input.new) (I.faults input.old) (I.faults input.new)) (object (K.taken output.old) (K.taken output.new) (K.faults output.old) (K.faults output.new)) (object (E.taken report.old) (E.taken report.new) (E.faults report.old) (E.faults report.new)))) }
 
+    // The cubes that are printed: each key that matches is a key of exactly one of the lines, and the lines have no others; they
+    // stand in byte order, each is read as the request that its cube is, and no two of the cubes can be joined. Or why there are none.
+    ensures cubes { IfSome (command_of (texts words.now)) (λ command. OfCubes command (λ root. CubesRan root result (object (S.has store.old) (S.has store.new) (S.faults store.old) (S.faults store.new)) (object (I.left input.old) (I.left input.new) (I.faults input.old) (I.faults input.new)) (object (K.taken output.old) (K.taken output.new) (K.faults output.old) (K.faults output.new)) (object (E.taken report.old) (E.taken report.new) (E.faults report.old) (E.faults report.new)))) }
+
     // What an archive or a trial tells to be stored outlasts a crash: each store that it may leave has it. And whatever is told,
     // each dataset holds there what it held, and behind it few batches of the messages alone.
     ensures outlasts { IfSome (command_of (texts words.now)) (λ command. OutlastsCrash command result (object (S.has store.old) (S.has store.new) (S.faults store.old) (S.faults store.new)) (object (I.left input.old) (I.left input.new) (I.faults input.old) (I.faults input.new)) (object (E.taken report.old) (E.taken report.new) (E.faults report.old) (E.faults report.new))) }
@@ -132,6 +138,7 @@ where
     requires within { IsWithinLimits command.now }
     ensures ran { Ran command.now result (object (S.has store.old) (S.has store.new) (S.faults store.old) (S.faults store.new)) (object (I.left input.old) (I.left input.new) (I.faults input.old) (I.faults input.new)) (object (K.taken output.old) (K.taken output.new) (K.faults output.old) (K.faults output.new)) (object (E.taken report.old) (E.taken report.new) (E.faults report.old) (E.faults report.new)) }
     ensures session { OfSession command.now (SessionRan F result (object (S.has store.old) (S.has store.new) (S.faults store.old) (S.faults store.new)) (object (I.left input.old) (I.left input.new) (I.faults input.old) (I.faults input.new)) (object (K.taken output.old) (K.taken output.new) (K.faults output.old) (K.faults output.new)) (object (E.taken report.old) (E.taken report.new) (E.faults report.old) (E.faults report.new))) }
+    ensures cubes { OfCubes command.now (λ root. CubesRan root result (object (S.has store.old) (S.has store.new) (S.faults store.old) (S.faults store.new)) (object (I.left input.old) (I.left input.new) (I.faults input.old) (I.faults input.new)) (object (K.taken output.old) (K.taken output.new) (K.faults output.old) (K.faults output.new)) (object (E.taken report.old) (E.taken report.new) (E.faults report.old) (E.faults report.new))) }
     ensures outlasts { OutlastsCrash command.now result (object (S.has store.old) (S.has store.new) (S.faults store.old) (S.faults store.new)) (object (I.left input.old) (I.left input.new) (I.faults input.old) (I.faults input.new)) (object (E.taken report.old) (E.taken report.new) (E.faults report.old) (E.faults report.new)) }
     ensures home { (name : List ℕ) → S.out store.new name ≡ false }
 {
@@ -152,9 +159,15 @@ where
                 rt, alloc, root, *workers, store, input, output, report, gate,
             )
         }
+        Command::RetrieveOver(root, layers, workers) => {
+            retrieve_over(
+                rt, alloc, root, layers, *workers, store, input, output, report, gate,
+            )
+        }
         Command::List(root) => list(alloc, root, store, input, output, report),
         Command::Axes(root) => axes(alloc, root, store, input, output, report),
         Command::Stats(root) => stats(alloc, root, store, output, report),
+        Command::Cubes(root) => cubes(alloc, root, store, input, output, report),
         Command::Session(root) => session(rt, alloc, root, store, input, output, report, gate),
         Command::Trial(root, count, workers) => {
             trial(rt, alloc, root, *count, *workers, store, report, gate)

@@ -24,8 +24,8 @@ use Rattle.fd_outcome.specs.Told.{Told, ToldOrNoMemory}
 use Rattle.fd_outcome.proofs.AnyCommand.{Seen, told_of}
 use Rattle.fd_outcome.proofs.Endings.{CanStop, CanTell, ends_at_once, ends_with_line}
 use Rattle.fd_outcome.proofs.Exits.{apart, cause_told, is_disk_fault, is_input_fault, is_output_fault, is_whole, is_words, never_whole}
-use Rattle.fd_retrieve.specs.Stops.{ToldSome, seen_broken}
-use Rattle.fd_retrieve.proofs.RetrieveExits.{rose_later}
+use Rattle.fd_telling.specs.Stops.{ToldSome, seen_broken}
+use Rattle.fd_telling.proofs.StopLemmas.{rose_later}
 use Rattle.fd_reclaim.specs.declared.halt.Halt.{Halt}
 use Rattle.fd_reclaim.specs.declared.halt.Halt.TheVariants as halts
 use Rattle.fd_reclaim.specs.Halts.{LeavesHalted, OnDisk, Says, ToldHalt}

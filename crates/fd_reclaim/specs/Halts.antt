@@ -16,8 +16,8 @@ use Rattle.fd_outcome.specs.declared.stored.Unruled.{Unruled}
 use Rattle.fd_outcome.specs.declared.stored.Unruled.TheVariants as unruled
 use Rattle.fd_purge.specs.declared.fault.PurgeFault.{PurgeFault}
 use Rattle.fd_purge.specs.declared.fault.PurgeFault.TheVariants as faults
-use Rattle.fd_retrieve.specs.declared.stop.Broken.TheVariants as brokens
-use Rattle.fd_retrieve.specs.Stops.{ToldAs, ToldSome, seen_broken}
+use Rattle.fd_telling.specs.declared.stop.Broken.TheVariants as brokens
+use Rattle.fd_telling.specs.Stops.{ToldAs, ToldSome, seen_broken}
 use Rattle.fd_reclaim.specs.declared.halt.Halt.{Halt}
 use Rattle.fd_reclaim.specs.declared.halt.Halt.TheVariants as halts
 

@@ -4,8 +4,8 @@ ghost use Rattle.fd_reclaim.specs.Halts.{of_fault, of_unruled};
 
 use fd_outcome::Unruled;
 use fd_purge::PurgeFault;
-use fd_retrieve::Broken;
 use fd_schema::SchemaKind;
+use fd_telling::Broken;
 
 /// Why a dataset isn't purged or wiped.
 #[derive(Drop)]

@@ -11,7 +11,7 @@ use fd_disk::Store;
 use fd_io::Sink;
 use fd_outcome::{Status, tell, tell_disk_failed, tell_no_memory, tell_place};
 use fd_purge::Purged;
-use fd_retrieve::{tell_broken, tell_schema};
+use fd_telling::{tell_broken, tell_schema};
 use std::alloc::Global;
 
 /// Writes how many entries were dropped, and how many are kept.

@@ -128,11 +128,14 @@ next_differ ks i k lt is h =
 pub differ_more : (ks : List code_keyword.Keyword) (i : ℕ) (k : code_keyword.Keyword) → i < length ks → k ≡ get_or ks i k → Differ ks i → Differ ks (i + 1)
 differ_more ks i k lt is h = ap (λ (us : List Keyword). differ_after us (seen_keywords (drop (i + 1) ks))) (taken_more ks i k lt is) ∙ (next_differ ks i k lt is h).1
 
+pub name_absent : (ks : List code_keyword.Keyword) (i : ℕ) (k : code_keyword.Keyword) (key : List Pair) → i < length ks → k ≡ get_or ks i k → Differ ks i → Absent ks i key → text_of key (seen_keyword k).name ≡ None
+name_absent ks i k key lt is h absent = absent (seen_keyword k).name (not-true (has_name (seen_keywords (take i ks)) (seen_keyword k).name) (next_differ ks i k lt is h).0)
+
 -- the pair is put behind the others
 pub pair_behind : (ks : List code_keyword.Keyword) (i : ℕ) (k : code_keyword.Keyword) (key : List Pair) (text : List ℕ) → i < length ks → k ≡ get_or ks i k → Differ ks i → Absent ks i key
     → with_pair key (seen_keyword k).name text ≡ key ++ ((seen_keyword k).name, text) ∷ []
 pair_behind ks i k key text lt is h absent =
-    with_new_pair key (seen_keyword k).name text (absent (seen_keyword k).name (not-true (has_name (seen_keywords (take i ks)) (seen_keyword k).name) (next_differ ks i k lt is h).0))
+    with_new_pair key (seen_keyword k).name text (name_absent ks i k key lt is h absent)
 
 pub absent_more : (ks : List code_keyword.Keyword) (i : ℕ) (k : code_keyword.Keyword) (key : List Pair) (text : List ℕ) → i < length ks → k ≡ get_or ks i k → Absent ks i key → Absent ks (i + 1) (key ++ ((seen_keyword k).name, text) ∷ [])
 absent_more ks i k key text lt is absent name h =

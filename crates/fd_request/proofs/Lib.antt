@@ -11,3 +11,4 @@ pub mod Sizes
 pub mod Choices
 pub mod ReadAgain
 pub mod Members
+pub mod Spelling

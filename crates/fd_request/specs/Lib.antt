@@ -11,3 +11,4 @@ pub mod Requests
 pub mod Behind
 pub mod Matching
 pub mod FaultTexts
+pub mod Spelled

@@ -5,6 +5,7 @@ ghost use Rattle.fd_request.specs.Limits.{request_of};
 ghost use Rattle.fd_request.specs.Keywords.{seen_keywords, differ_after};
 ghost use Rattle.fd_request.specs.Reading.{GivesKeywords};
 ghost use Rattle.fd_request.specs.Requests.{IsPlace, IsFaultOf};
+ghost use Rattle.fd_request.specs.Spelled.{IsSpelled};
 
 use crate::fault::{Refusal, RequestFault, RequestKind};
 use crate::keyword::Keyword;
@@ -96,10 +97,12 @@ impl Request {
         self.count
     }
 
-    /// The key at a place, from 0. The last keyword is the fastest, and a value that comes again gives a key again.
+    /// The key at a place, from 0. The last keyword is the fastest, and a value that comes again gives a key again. Each of its
+    /// names comes once, and each text is a value.
     pub fn key(&self, alloc: Global, i: u32) -> Result<Key, NoMemory>
         requires { i < length (expand self.now) }
-        ensures { IfOk result (λ k. slice_get (expand self.now) i ≡ Some k) }
+        ensures key { IfOk result (λ k. slice_get (expand self.now) i ≡ Some k) }
+        ensures spelled { IfOk result IsSpelled }
     {
         key_at(alloc, &self.keywords, self.count, i)
     }
@@ -111,7 +114,8 @@ fn key_at(alloc: Global, keywords: &[Keyword], count: u32, number: u32) -> Resul
     requires differ { differ_after [] (seen_keywords keywords.now) ≡ true }
     requires few { length keywords.now ≤ 65537 }
     requires within { number < count }
-    ensures { IfOk result (λ k. slice_get (expand (seen_keywords keywords.now)) number ≡ Some k) }
+    ensures key { IfOk result (λ k. slice_get (expand (seen_keywords keywords.now)) number ≡ Some k) }
+    ensures spelled { IfOk result IsSpelled }
 {
     let mut key = Key::new(alloc)?;
     let mut block = u64::from(count);

@@ -7,18 +7,20 @@ use Rattle.fd_disk.specs.Folders.{Holdings, WhereTold, folder_at}
 use Rattle.fd_entries.specs.declared.batch.Pair.{Pair}
 use Rattle.fd_entries.specs.Batches.{newest}
 use Rattle.fd_schema.specs.Rules.{Texts, file_key}
+use Rattle.fd_retriever.specs.Answers.{IsAnswer}
+use Rattle.fd_retriever.specs.declared.fault.Got.TheVariants as gots
 use Rattle.fd_schema.specs.Reading.{seen_place}
 use Rattle.fd_schema.specs.declared.place.Place.{Place}
 use Rattle.fd_outcome.specs.Asking.{Tables, bytes_or_none, count_if, is_among}
 use Rattle.fd_outcome.specs.Store.{Stays, table_at}
 use Rattle.fd_outcome.specs.Trying.{tally_of}
 use Rattle.fd_retrieve.specs.declared.counting.Counted.{Counted}
-use Rattle.fd_retrieve.specs.declared.stop.Stop.{Stop}
-use Rattle.fd_retrieve.specs.declared.stop.Stop.TheVariants as stops
+use Rattle.fd_telling.specs.declared.stop.Stop.{Stop}
+use Rattle.fd_telling.specs.declared.stop.Stop.TheVariants as stops
 use Rattle.fd_retrieve.specs.Counting.{IsBrokenAmong, IsLength, IsOfKeys, IsLostIn, IsTally, all_found, finds, with_length}
 use Rattle.fd_retrieve.specs.Open.{IsOpenIn, Open, table_in}
 use Rattle.fd_retrieve.specs.Ready.{AreOpen, IsBrokenOf}
-use Rattle.fd_retrieve.specs.Stops.{NotRefused, OfDataset}
+use Rattle.fd_telling.specs.Stops.{NotRefused, OfDataset}
 use Rattle.fd_retrieve.specs.Tables.{AreTables, datasets_in}
 use Rattle.fd_retrieve.proofs.DatasetLemmas.{all_at, among_named, damage_stands}
 use Rattle.fd_retrieve.proofs.PrepareLemmas.{opens_in}
@@ -94,6 +96,14 @@ missed_more [] i x at = absurd (true≢false (sym (ap is_some at)))
 missed_more (y ∷ ys) zero x at = let e = ap (λ (z : Found). count_if z 0 1) (some_is y x at) in omega (arith, e)
 missed_more (y ∷ ys) (suc i) x at = let e = missed_more ys i x at in omega (arith, e)
 
+pub found_length : (bytes : Found) (n : ℕ) (a b : Option (List ℕ)) → IsAnswer bytes a b (gots.Found n) → IsLength bytes (Some n)
+found_length None n a b h = absurd h
+found_length (Some x) n a b h = ap (λ k. Some k) h.0
+
+pub missed_length : (bytes : Found) (a b : Option (List ℕ)) → IsAnswer bytes a b gots.Miss → IsLength bytes None
+missed_length None a b h = refl
+missed_length (Some x) a b h = absurd h
+
 one_counted : (r : Counted) (x : Found) (len : Option ℕ) → IsLength x len
     → ((with_length r len).found ≡ r.found + count_if x 1 0) × ((with_length r len).bytes ≡ r.bytes + length (bytes_or_none x)) × ((with_length r len).missed ≡ r.missed + count_if x 0 1)
 one_counted r None len is = rw is (omega arith, omega arith, omega arith)
@@ -134,6 +144,7 @@ module _ (h : Holdings) (ps : List Place) (names : List (List ℕ)) (os : List O
   broken_in (stops.Schema line kind) b = absurd b
   broken_in (stops.Request at kind) b = absurd b
   broken_in (stops.NoRule text) b = absurd b
+  broken_in (stops.NoLayer layer text) b = absurd b
   broken_in stops.TooMany b = absurd b
   broken_in (stops.Broken dataset broken) (n, o, key, d, there, named, file, bad) =
       let open_ = all_at (IsOpenIn h) os n o opens.each there in
@@ -147,6 +158,7 @@ not_refused stops.Missing h ds ok = absurd ok
 not_refused (stops.Schema line kind) h ds ok = absurd ok
 not_refused (stops.Request at kind) h ds ok = absurd ok
 not_refused (stops.NoRule text) h ds ok = absurd ok
+not_refused (stops.NoLayer layer text) h ds ok = absurd ok
 not_refused stops.TooMany h ds ok = tt
 not_refused (stops.Broken dataset broken) h ds ok = absurd ok
 not_refused stops.NoMemory h ds ok = tt
@@ -164,6 +176,7 @@ unopened_told stop (Some h) ps names tables b = elim stop as (λ s. IsBrokenOf s
   | stops.Schema line kind ↦ λ x. absurd x
   | stops.Request at kind ↦ λ x. absurd x
   | stops.NoRule text ↦ λ x. absurd x
+  | stops.NoLayer layer text ↦ λ x. absurd x
   | stops.TooMany ↦ λ x. absurd x
   | stops.Broken dataset broken ↦ λ x. (named_among h (datasets_in ps) names (string_bytes dataset) tables x.0, x.1)
   | stops.NoMemory ↦ λ x. tt
@@ -189,6 +202,7 @@ refused_keys stops.Missing ok = absurd ok
 refused_keys (stops.Schema line kind) ok = absurd ok
 refused_keys (stops.Request at kind) ok = absurd ok
 refused_keys (stops.NoRule text) ok = absurd ok
+refused_keys (stops.NoLayer layer text) ok = absurd ok
 refused_keys stops.TooMany ok = tt
 refused_keys (stops.Broken dataset broken) ok = absurd ok
 refused_keys stops.NoMemory ok = tt
@@ -200,6 +214,7 @@ dataset_keys stops.Missing ok = absurd ok
 dataset_keys (stops.Schema line kind) ok = absurd ok
 dataset_keys (stops.Request at kind) ok = absurd ok
 dataset_keys (stops.NoRule text) ok = absurd ok
+dataset_keys (stops.NoLayer layer text) ok = absurd ok
 dataset_keys stops.TooMany ok = absurd ok
 dataset_keys (stops.Broken dataset broken) ok = tt
 dataset_keys stops.NoMemory ok = tt
@@ -211,6 +226,7 @@ lost_keys os stops.Missing ok = absurd ok
 lost_keys os (stops.Schema line kind) ok = absurd ok
 lost_keys os (stops.Request at kind) ok = absurd ok
 lost_keys os (stops.NoRule text) ok = absurd ok
+lost_keys os (stops.NoLayer layer text) ok = absurd ok
 lost_keys os stops.TooMany ok = absurd ok
 lost_keys os (stops.Broken dataset broken) ok = tt
 lost_keys os stops.NoMemory ok = tt

@@ -1,4 +1,3 @@
-pub mod HexLemmas
 pub mod Staying
 pub mod Looking
 pub mod TableLemmas
@@ -12,5 +11,6 @@ pub mod LocatingLemmas
 pub mod CopiedLemmas
 pub mod PrepareLemmas
 pub mod CountingLemmas
+pub mod Plain
 pub mod RetrieveExits
 pub mod StopExits

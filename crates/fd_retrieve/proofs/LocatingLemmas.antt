@@ -23,9 +23,9 @@ use Rattle.fd_finding.specs.Spots.{IsAnswer, IsWithin, place_key}
 use Rattle.fd_outcome.specs.Asking.{Answer, answers, is_among}
 use Rattle.fd_ahead.specs.declared.located.Located.{Located}
 use Rattle.fd_retrieve.specs.Finding.{asked_of_all}
-use Rattle.fd_retrieve.specs.Located.{AreLocated, AreLocatedBy, AreNumbersOf, IsFilled, IsGroup, IsIn, IsLocated, IsLocatedBy, IsNumberOf, located_in}
+use Rattle.fd_retrieve.specs.Located.{AreAt, AreLocated, AreLocatedBy, AreNumbersOf, IsAt, IsFilled, IsGroup, IsIn, IsLocated, IsLocatedBy, IsNumberOf, located_in}
 use Rattle.fd_retrieve.specs.Open.{IsFirstNamed, Open, names_of, table_in}
-use Rattle.fd_retrieve.proofs.AnsweringLemmas.{there_is}
+use Rattle.fd_retrieve.proofs.AnsweringLemmas.{as_long, as_many, numbered, there_is}
 use Rattle.fd_retrieve.proofs.DatasetLemmas.{closed_table, get_within, tells_of}
 use Rattle.fd_retrieve.proofs.Staying.{some_is}
 
@@ -259,13 +259,27 @@ place_at now os ps located i same there lt =
 pub within_at : (now os : List Open) (located : List (Option Located)) (i : ℕ) → now ≡ os → ((k : ℕ) (d : Option Located) → k < length located → IfSome (get_or located k d) (IsIn os)) → i < length located → (d : Option Located) → IfSome (get_or located i d) (IsIn now)
 within_at now os located i same within lt d = subst (λ (x : List Open). IfSome (get_or located i d) (IsIn x)) (sym same) (within i d lt)
 
--- the same of equal lists
-pub located_as : (os same : List Open) (ps alike : List Place) (ls like : List (Option Located)) → os ≡ same → ps ≡ alike → like ≡ ls → AreLocated os ps ls → AreLocated same alike like
-located_as os same ps alike ls like e f h there = subst (λ x. AreLocated x alike like) e (subst (λ x. AreLocated os x like) f (subst (AreLocated os ps) (sym h) there))
+-- what is located of a key are the newest bytes of its dataset
+pub bytes_at : (os : List Open) (place : Texts) (located : Option Located) (t : List (List Pair)) → IsLocated os place located → table_in os place.dataset ≡ Some t → IsAt os (newest t (file_key place)) located
+bytes_at os place None t there told = there t told
+bytes_at os place (Some l) t there told =
+    let n = there.newest_at t told in
+    record { dataset = there.dataset; at = there.at; segment = n.segment; numbered = n.numbered; fields = n.fields; told = n.told; is = n.bytes }
 
--- what is asked of datasets, of the same ones that were lent
-pub lent_answers : (os lent : List Open) (ks : List (List keys.Pair)) (ps : List Place) (xs : List Answer) → lent ≡ os → answers (table_in os) (asked_of_all ks (map seen_place ps)) ≡ Some xs → answers (table_in lent) (asked_of_all ks (map seen_place ps)) ≡ Some xs
-lent_answers os lent ks ps xs is e = subst (λ x. answers (table_in x) (asked_of_all ks (map seen_place ps)) ≡ Some xs) (sym is) e
+-- the answers of keys that are located
+pub answers_at : (os : List Open) (ks : List (List keys.Pair)) (ps : List Place) (located : List (Option Located)) (xs : List Answer) → length ps ≡ length ks → AreLocated os ps located → answers (table_in os) (asked_of_all ks (map seen_place ps)) ≡ Some xs → AreAt os ks xs located
+answers_at os ks ps located xs many there e = record {
+  long = as_many (table_in os) ks (map seen_place ps) xs e (as_long ps ∙ many);
+  each = λ k key at.
+      let p = place_at os os ps located k refl there (let lt = get_within ks k key at in omega (arith, lt, many)) in
+      let n = numbered (table_in os) ks (map seen_place ps) xs e k key p.0 at p.1 in
+      (newest n.table (file_key p.0), n.there, λ d. bytes_at os p.0 (get_or located k d) n.table (p.2 d) n.told);
+}
+
+-- the same of what was lent
+pub lent_at : (os lent : List Open) (ks : List (List keys.Pair)) (ps same : List Place) (located : List (Option Located)) (o : Option (List Answer)) → lent ≡ os → same ≡ ps → length ps ≡ length ks → AreLocated lent same located → o ≡ answers (table_in os) (asked_of_all ks (map seen_place ps)) → (xs : List Answer) → o ≡ Some xs → AreAt os ks xs located
+lent_at os lent ks ps same located o is alike many there e xs told =
+    answers_at os ks ps located xs many (subst (λ (q : List Place). AreLocated os q located) alike (subst (λ (l : List Open). AreLocated l same located) is there)) (sym e ∙ told)
 
 -- what a search found, of the dataset whose segments they are, for the places that were asked for
 pub found_answers : (o : Open) (ss : List Standing) (group asked : List Place) (found : List (Option Spot)) → ss ≡ o.shown → asked ≡ group → ((t : List (List Pair)) → Tells (map listing ss) t → AllZip (IsAnswer ss t) (map place_key asked) found)

@@ -12,14 +12,15 @@ use Rattle.fd_schema.specs.Rules.{Rule}
 use Rattle.fd_schema.specs.declared.place.Place.{Place}
 use Rattle.fd_request.specs.Expansion.{Keyword, expand}
 use Rattle.fd_outcome.specs.Asking.{Asked, asked_of, count_distinct, datasets_of, is_among, placed, request_in, rules_of, within_datasets, ◌then◌}
-use Rattle.fd_outcome.specs.Causes.{Cause, SchemaMissing}
+use Rattle.fd_outcome.specs.Causes.{Cause, SchemaMissing, TooManyDatasets}
 use Rattle.fd_outcome.specs.Ends.{AmongAsked}
 use Rattle.fd_outcome.specs.Store.{Stays, has_table, table_at}
-use Rattle.fd_retrieve.specs.declared.stop.Stop.{Stop}
-use Rattle.fd_retrieve.specs.declared.stop.Stop.TheVariants as stops
+use Rattle.fd_telling.specs.declared.stop.Stop.{Stop}
+use Rattle.fd_telling.specs.declared.stop.Stop.TheVariants as stops
 use Rattle.fd_retrieve.specs.Open.{IsOpenIn, Open, table_in}
 use Rattle.fd_retrieve.specs.Ready.{AreOpen, IsBrokenOf, IsReady, MayOpen, asked_at, placed_of}
-use Rattle.fd_retrieve.specs.Stops.{IsOfRequest, LacksRule, NotRefused, OnRequest, OnTooMany, Says, seen_broken}
+use Rattle.fd_telling.specs.Stops.{IsOfRequest, IsRefused, LacksRule, NotRefused, OnRequest, OnTooMany, Says, seen_broken}
+use Rattle.fd_telling.proofs.StopLemmas.{many_says, on_many, request_stop, says_of}
 use Rattle.fd_retrieve.specs.Tables.{AreTables, MayAdd, datasets_in}
 use Rattle.fd_retrieve.proofs.OpenLemmas.{get_or_map}
 use Rattle.fd_retrieve.proofs.Staying.{open_before, same_tables, stands_before}
@@ -66,17 +67,6 @@ many : (old mid : Option Holdings) (ds rest names : List (List ℕ)) (d : List �
 many None mid ds rest names d stays so_far full = tt
 many (Some h) None ds rest names d stays so_far full = absurd stays
 many (Some h) (Some i) ds rest names d stays so_far full = too_many h ds rest names d so_far full.0 full.1 (sym (same_tables h i stays d) ∙ full.2)
-
-on_many : {F : Type 0} (stop : Stop F) (P Q : Type 0) → (P → Q) → OnTooMany stop P → OnTooMany stop Q
-on_many (stops.Disk f) P Q f2 p = tt
-on_many stops.Input P Q f2 p = tt
-on_many stops.Missing P Q f2 p = tt
-on_many (stops.Schema line kind) P Q f2 p = tt
-on_many (stops.Request at kind) P Q f2 p = tt
-on_many (stops.NoRule text) P Q f2 p = tt
-on_many stops.TooMany P Q f2 p = f2 p
-on_many (stops.Broken dataset broken) P Q f2 p = tt
-on_many stops.NoMemory P Q f2 p = tt
 
 pub many_told : {F : Type 0} (stop : Stop F) (old mid : Option Holdings) (ds rest names all : List (List ℕ)) (d : List ℕ) → WhereTold old mid Stays → IfSome old (λ h. AreTables h ds names) → all ≡ (ds ++ d ∷ []) ++ rest
     → OnTooMany stop (IfSome mid (λ h. (length names ≡ 2048) × (is_among names d ≡ false) × (has_table h d ≡ true))) → OnTooMany stop (IfSome old (λ h. 2048 < count_distinct (filter (has_table h) all)))
@@ -126,6 +116,7 @@ broken_in stops.Missing h i few names stays more b = absurd b
 broken_in (stops.Schema line kind) h i few names stays more b = absurd b
 broken_in (stops.Request at kind) h i few names stays more b = absurd b
 broken_in (stops.NoRule text) h i few names stays more b = absurd b
+broken_in (stops.NoLayer layer text) h i few names stays more b = absurd b
 broken_in stops.TooMany h i few names stays more b = absurd b
 broken_in (stops.Broken dataset broken) h i few names stays more b = (more (string_bytes dataset) b.0, stands_before (string_bytes dataset) (folder_at h (string_bytes dataset)) (folder_at i (string_bytes dataset)) (seen_broken broken) (stays.folders (string_bytes dataset)) b.1)
 broken_in stops.NoMemory h i few names stays more b = tt
@@ -145,23 +136,15 @@ missing_says None left none = tt
 missing_says (Some h) None none = tt
 missing_says (Some h) (Some octets) none = rules_stop h octets SchemaMissing (ap rules_of none)
 
-request_stop : {F : Type 0} (stop : Stop F) (h : Holdings) (octets : List ℕ) (rules : List Rule) → rules_of h.schema ≡ Ok rules → OnRequest stop (request_in octets) → IsOfRequest stop (placed_of h octets)
-request_stop (stops.Disk f) h octets rules is on = absurd on
-request_stop stops.Input h octets rules is on = tt
-request_stop stops.Missing h octets rules is on = absurd on
-request_stop (stops.Schema line kind) h octets rules is on = absurd on
-request_stop (stops.Request at kind) h octets rules is on =
-    ap (λ (r : Result (List Rule) Cause). r then λ rules. (request_in octets then λ keywords. placed rules (expand keywords))) is ∙ ap (λ (r : Result (List Keyword) Cause). r then λ keywords. placed rules (expand keywords)) on
-request_stop (stops.NoRule text) h octets rules is on = absurd on
-request_stop stops.TooMany h octets rules is on = absurd on
-request_stop (stops.Broken dataset broken) h octets rules is on = absurd on
-request_stop stops.NoMemory h octets rules is on = tt
-
 pub request_says : {F : Type 0} (stop : Stop F) (has : Option Holdings) (left : Option (List ℕ)) (rules : List Rule) → IfSome has (λ h. rules_of h.schema ≡ Ok rules) → IfSome left (λ octets. OnRequest stop (request_in octets))
-    → IfSome has (λ h. IfSome left (λ octets. IsOfRequest stop (placed_of h octets)))
+    → IfSome has (λ h. IfSome left (λ octets. IsOfRequest stop (IsRefused (placed_of h octets))))
 request_says stop None left rules is on = tt
 request_says stop (Some h) None rules is on = tt
-request_says stop (Some h) (Some octets) rules is on = request_stop stop h octets rules is on
+request_says stop (Some h) (Some octets) rules is on = request_stop stop (request_in octets) (IsRefused (placed_of h octets)) (λ cause e. refused_so h octets rules cause is e) on
+  where
+    refused_so : (h : Holdings) (octets : List ℕ) (rules : List Rule) (cause : Cause) → rules_of h.schema ≡ Ok rules → request_in octets ≡ Err cause → placed_of h octets ≡ Err cause
+    refused_so h octets rules cause is e =
+        ap (λ (r : Result (List Rule) Cause). r then λ rules. (request_in octets then λ keywords. placed rules (expand keywords))) is ∙ ap (λ (r : Result (List Keyword) Cause). r then λ keywords. placed rules (expand keywords)) e
 
 placed_is : (h : Holdings) (octets : List ℕ) (rules : List Rule) (ks : List Keyword) → rules_of h.schema ≡ Ok rules → request_in octets ≡ Ok ks → placed_of h octets ≡ placed rules (expand ks)
 placed_is h octets rules ks is read =
@@ -173,19 +156,20 @@ placed_told None left rules ks P r is read places = tt
 placed_told (Some h) None rules ks P r is read places = tt
 placed_told (Some h) (Some octets) rules ks P r is read places = placed_is h octets rules ks is read.0 ∙ places
 
-lacks_of : {F : Type 0} (stop : Stop F) (r q : Result (List Asked) Cause) → q ≡ r → LacksRule stop r → IsOfRequest stop q
+lacks_of : {F : Type 0} (stop : Stop F) (r q : Result (List Asked) Cause) → q ≡ r → LacksRule stop r → IsOfRequest stop (IsRefused q)
 lacks_of (stops.Disk f) r q e l = absurd l
 lacks_of stops.Input r q e l = absurd l
 lacks_of stops.Missing r q e l = absurd l
 lacks_of (stops.Schema line kind) r q e l = absurd l
 lacks_of (stops.Request at kind) r q e l = absurd l
 lacks_of (stops.NoRule text) r q e l = (l.0, e ∙ l.1, l.2)
+lacks_of (stops.NoLayer layer text) r q e l = absurd l
 lacks_of stops.TooMany r q e l = absurd l
 lacks_of (stops.Broken dataset broken) r q e l = absurd l
 lacks_of stops.NoMemory r q e l = tt
 
 pub places_say : {F : Type 0} (stop : Stop F) (has : Option Holdings) (left : Option (List ℕ)) (rules : List Rule) (ks : List Keyword) (P : Type 0) → IfSome has (λ h. rules_of h.schema ≡ Ok rules) → IfSome left (λ octets. (request_in octets ≡ Ok ks) × P)
-    → LacksRule stop (placed rules (expand ks)) → IfSome has (λ h. IfSome left (λ octets. IsOfRequest stop (placed_of h octets)))
+    → LacksRule stop (placed rules (expand ks)) → IfSome has (λ h. IfSome left (λ octets. IsOfRequest stop (IsRefused (placed_of h octets))))
 places_say stop None left rules ks P is read l = tt
 places_say stop (Some h) None rules ks P is read l = tt
 places_say stop (Some h) (Some octets) rules ks P is read l = lacks_of stop (placed rules (expand ks)) (placed_of h octets) (placed_is h octets rules ks is read.0) l
@@ -195,21 +179,10 @@ places_say stop (Some h) (Some octets) rules ks P is read l = lacks_of stop (pla
 asked_stop : (h : Holdings) (octets : List ℕ) (cause : Cause) → placed_of h octets ≡ Err cause → asked_of h octets ≡ Err cause
 asked_stop h octets cause is = asked_is h octets ∙ ap (λ (r : Result (List Asked) Cause). r then λ asked. within_datasets h asked) is
 
-says_of : {F : Type 0} (stop : Stop F) (h : Holdings) (octets : List ℕ) → IsOfRequest stop (placed_of h octets) → Says stop h (asked_of h octets)
-says_of (stops.Disk f) h octets s = tt
-says_of stops.Input h octets s = tt
-says_of stops.Missing h octets s = asked_stop h octets _ s
-says_of (stops.Schema line kind) h octets s = (s.0, s.1, asked_stop h octets _ s.2, s.3)
-says_of (stops.Request at kind) h octets s = asked_stop h octets _ s
-says_of (stops.NoRule text) h octets s = (s.0, asked_stop h octets _ s.1, s.2)
-says_of stops.TooMany h octets s = absurd s
-says_of (stops.Broken dataset broken) h octets s = absurd s
-says_of stops.NoMemory h octets s = tt
-
-pub request_told : {F : Type 0} (stop : Stop F) (has : Option Holdings) (left : Option (List ℕ)) → IfSome has (λ h. IfSome left (λ octets. IsOfRequest stop (placed_of h octets))) → IfSome has (λ h. IfSome left (λ octets. Says stop h (asked_of h octets)))
+pub request_told : {F : Type 0} (stop : Stop F) (has : Option Holdings) (left : Option (List ℕ)) → IfSome has (λ h. IfSome left (λ octets. IsOfRequest stop (IsRefused (placed_of h octets)))) → IfSome has (λ h. IfSome left (λ octets. Says stop h (IsRefused (asked_of h octets)) (AmongAsked (asked_of h octets))))
 request_told stop None left s = tt
 request_told stop (Some h) None s = tt
-request_told stop (Some h) (Some octets) s = says_of stop h octets s
+request_told stop (Some h) (Some octets) s = says_of stop h (IsRefused (placed_of h octets)) (IsRefused (asked_of h octets)) (AmongAsked (asked_of h octets)) (asked_stop h octets) s
 
 module _ (h : Holdings) (octets : List ℕ) (ks : List Keyword) (ps : List Place) (long : length ps ≡ length (expand ks)) (is : placed_of h octets ≡ Ok (asked_at ks ps)) where
   datasets_are : datasets_of (asked_at ks ps) ≡ datasets_in ps
@@ -218,32 +191,15 @@ module _ (h : Holdings) (octets : List ℕ) (ks : List Keyword) (ps : List Place
   asked_by : (r : Result (List Asked) Cause) → within_datasets h (asked_at ks ps) ≡ r → asked_of h octets ≡ r
   asked_by r e = asked_is h octets ∙ ap (λ (q : Result (List Asked) Cause). q then λ asked. within_datasets h asked) is ∙ e
 
-  many_says : {F : Type 0} (stop : Stop F) → NotRefused stop → OnTooMany stop (2048 < count_distinct (filter (has_table h) (datasets_in ps))) → Says stop h (asked_of h octets)
-  many_says (stops.Disk f) ok on = tt
-  many_says stops.Input ok on = absurd ok
-  many_says stops.Missing ok on = absurd ok
-  many_says (stops.Schema line kind) ok on = absurd ok
-  many_says (stops.Request at kind) ok on = absurd ok
-  many_says (stops.NoRule text) ok on = absurd ok
-  many_says stops.TooMany ok on = asked_by _ (beyond h (asked_at ks ps) (datasets_in ps) datasets_are on)
-  many_says (stops.Broken dataset broken) ok on = absurd ok
-  many_says stops.NoMemory ok on = tt
+  beyond_so : 2048 < count_distinct (filter (has_table h) (datasets_in ps)) → asked_of h octets ≡ Err TooManyDatasets
+  beyond_so on = asked_by _ (beyond h (asked_at ks ps) (datasets_in ps) datasets_are on)
 
   module _ (names : List (List ℕ)) (tables : AreTables h (datasets_in ps) names) (few : length names ≤ 2048) where
     asked_so : asked_of h octets ≡ Ok (asked_at ks ps)
     asked_so = asked_by _ (within h (asked_at ks ps) (datasets_in ps) names datasets_are tables few)
 
-    broken_says : {F : Type 0} (stop : Stop F) → IsBrokenOf stop h names → Says stop h (asked_of h octets)
-    broken_says (stops.Disk f) b = tt
-    broken_says stops.Input b = absurd b
-    broken_says stops.Missing b = absurd b
-    broken_says (stops.Schema line kind) b = absurd b
-    broken_says (stops.Request at kind) b = absurd b
-    broken_says (stops.NoRule text) b = absurd b
-    broken_says stops.TooMany b = absurd b
-    broken_says (stops.Broken dataset broken) b =
-        (subst (λ r. AmongAsked r (string_bytes dataset)) (sym asked_so) (subst (λ ds. Contains ds (string_bytes dataset)) (sym datasets_are) (contains_among (datasets_in ps) (string_bytes dataset) (named_among h (datasets_in ps) names (string_bytes dataset) tables b.0))), b.1)
-    broken_says stops.NoMemory b = tt
+    among_so : (name : List ℕ) → is_among names name ≡ true → AmongAsked (asked_of h octets) name
+    among_so name is = subst (λ r. AmongAsked r name) (sym asked_so) (subst (λ ds. Contains ds name) (sym datasets_are) (contains_among (datasets_in ps) name (named_among h (datasets_in ps) names name tables is)))
 
     ready_of : (os : List Open) → AreOpen h names os → IsReady h octets ks ps os
     ready_of os opens = record {
@@ -253,20 +209,32 @@ module _ (h : Holdings) (octets : List ℕ) (ks : List Keyword) (ps : List Place
       among = λ n there. named_among h (datasets_in ps) names n tables (opens.from n there);
     }
 
-on_some : {F : Type 0} (stop : Stop F) (h : Holdings) (P : Holdings → Type 0) → OnTooMany stop (IfSome (Some h) P) → OnTooMany stop (P h)
-on_some stop h P on = on_many stop (IfSome (Some h) P) (P h) (λ p. p) on
+-- one of the datasets that are opened is broken
+pub broken_says : {F : Type 0} (stop : Stop F) (h : Holdings) (names : List (List ℕ)) (P : Cause → Type 0) (A : List ℕ → Type 0) → ((name : List ℕ) → is_among names name ≡ true → A name) → IsBrokenOf stop h names → Says stop h P A
+broken_says (stops.Disk f) h names P A to b = tt
+broken_says stops.Input h names P A to b = absurd b
+broken_says stops.Missing h names P A to b = absurd b
+broken_says (stops.Schema line kind) h names P A to b = absurd b
+broken_says (stops.Request at kind) h names P A to b = absurd b
+broken_says (stops.NoRule text) h names P A to b = absurd b
+broken_says (stops.NoLayer layer text) h names P A to b = absurd b
+broken_says stops.TooMany h names P A to b = absurd b
+broken_says (stops.Broken dataset broken) h names P A to b = (to (string_bytes dataset) b.0, b.1)
+broken_says stops.NoMemory h names P A to b = tt
 
 pub many_told_says : {F : Type 0} (stop : Stop F) (has : Option Holdings) (left : Option (List ℕ)) (ks : List Keyword) (ps : List Place) → length ps ≡ length (expand ks) → IfSome has (λ h. IfSome left (λ octets. placed_of h octets ≡ Ok (asked_at ks ps)))
-    → NotRefused stop → OnTooMany stop (IfSome has (λ h. 2048 < count_distinct (filter (has_table h) (datasets_in ps)))) → IfSome has (λ h. IfSome left (λ octets. Says stop h (asked_of h octets)))
+    → NotRefused stop → OnTooMany stop (IfSome has (λ h. 2048 < count_distinct (filter (has_table h) (datasets_in ps)))) → IfSome has (λ h. IfSome left (λ octets. Says stop h (IsRefused (asked_of h octets)) (AmongAsked (asked_of h octets))))
 many_told_says stop None left ks ps long is ok on = tt
 many_told_says stop (Some h) None ks ps long is ok on = tt
-many_told_says stop (Some h) (Some octets) ks ps long is ok on = many_says h octets ks ps long is stop ok (on_some stop h (λ k. 2048 < count_distinct (filter (has_table k) (datasets_in ps))) on)
+many_told_says stop (Some h) (Some octets) ks ps long is ok on =
+    many_says stop h _ (IsRefused (asked_of h octets)) (AmongAsked (asked_of h octets)) (beyond_so h octets ks ps long is) ok on
 
 pub broken_told_says : {F : Type 0} (stop : Stop F) (has : Option Holdings) (left : Option (List ℕ)) (ks : List Keyword) (ps : List Place) (names : List (List ℕ)) → length ps ≡ length (expand ks) → IfSome has (λ h. IfSome left (λ octets. placed_of h octets ≡ Ok (asked_at ks ps)))
-    → IfSome has (λ h. AreTables h (datasets_in ps) names) → length names ≤ 2048 → IfSome has (λ h. IsBrokenOf stop h names) → IfSome has (λ h. IfSome left (λ octets. Says stop h (asked_of h octets)))
+    → IfSome has (λ h. AreTables h (datasets_in ps) names) → length names ≤ 2048 → IfSome has (λ h. IsBrokenOf stop h names) → IfSome has (λ h. IfSome left (λ octets. Says stop h (IsRefused (asked_of h octets)) (AmongAsked (asked_of h octets))))
 broken_told_says stop None left ks ps names long is tables few b = tt
 broken_told_says stop (Some h) None ks ps names long is tables few b = tt
-broken_told_says stop (Some h) (Some octets) ks ps names long is tables few b = broken_says h octets ks ps long is names tables few stop b
+broken_told_says stop (Some h) (Some octets) ks ps names long is tables few b =
+    broken_says stop h names (IsRefused (asked_of h octets)) (AmongAsked (asked_of h octets)) (among_so h octets ks ps long is names tables few) b
 
 pub opens_in : (h i : Holdings) (names : List (List ℕ)) (os : List Open) → Stays h i → AreOpen i names os → AreOpen h names os
 opens_in h i names os stays opens = record {

@@ -23,11 +23,11 @@ use Rattle.fd_outcome.specs.Causes.{Cause, NoRule, TooManyDatasets}
 use Rattle.fd_outcome.specs.Store.{Stands, has_table, table_at}
 use Rattle.fd_recovery.specs.declared.fault.OpenFault.{OpenFault}
 use Rattle.fd_recovery.specs.declared.fault.OpenFault.TheVariants as faults
-use Rattle.fd_retrieve.specs.declared.stop.Broken.{Broken}
-use Rattle.fd_retrieve.specs.declared.stop.Broken.TheVariants as brokens
-use Rattle.fd_retrieve.specs.declared.stop.Stop.{Stop}
-use Rattle.fd_retrieve.specs.declared.stop.Stop.TheVariants as stops
-use Rattle.fd_retrieve.specs.Stops.{LacksPlace, LacksRule, seen_broken}
+use Rattle.fd_telling.specs.declared.stop.Broken.{Broken}
+use Rattle.fd_telling.specs.declared.stop.Broken.TheVariants as brokens
+use Rattle.fd_telling.specs.declared.stop.Stop.{Stop}
+use Rattle.fd_telling.specs.declared.stop.Stop.TheVariants as stops
+use Rattle.fd_telling.specs.Stops.{LacksPlace, LacksRule, seen_broken}
 use Rattle.fd_retrieve.proofs.AnsweringLemmas.{there_is}
 use Rattle.fd_retrieve.specs.Finding.{asked_of_all}
 use Rattle.fd_retrieve.specs.Open.{IsOpenIn, Open, StandsAsSaid, names_of, table_in, table_of}
@@ -73,6 +73,7 @@ lacks_rule (stops.NoRule text) rules ks ps i so_far long within lacks =
     let k = there_is ks i within in
     let l = lacks k.0 k.1 in
     (k.0, none_placed rules ks ps k.0 so_far (subst (λ n. slice_get ks n ≡ Some k.0) (sym long) k.1) l.0, l.1)
+lacks_rule (stops.NoLayer layer text) rules ks ps i so_far long within lacks = let k = there_is ks i within in lacks k.0 k.1
 lacks_rule stops.TooMany rules ks ps i so_far long within lacks = let k = there_is ks i within in lacks k.0 k.1
 lacks_rule (stops.Broken dataset broken) rules ks ps i so_far long within lacks = let k = there_is ks i within in lacks k.0 k.1
 lacks_rule stops.NoMemory rules ks ps i so_far long within lacks = tt
@@ -93,6 +94,7 @@ unopened_broken {F = F} (Some h) name fault stop stands is = go fault stop stand
     as_said (stops.Schema line kind) b stands is = absurd is
     as_said (stops.Request at kind) b stands is = absurd is
     as_said (stops.NoRule text) b stands is = absurd is
+    as_said (stops.NoLayer layer text) b stands is = absurd is
     as_said stops.TooMany b stands is = absurd is
     as_said (stops.Broken dataset c) b stands is =
         subst (λ n. (is_among (name ∷ []) n ≡ true) × Stands n (folder_at h n) (seen_broken c)) (sym is.0) (self, subst (λ x. Stands name (folder_at h name) (seen_broken x)) (sym is.1) stands)

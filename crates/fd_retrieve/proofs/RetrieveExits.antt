@@ -4,33 +4,31 @@ use Rattle.std.specs.Prelude.{◌⊎◌, IfSome, option_map, nat_lt, if◌then�
 use Rattle.fd_bytes.specs.Causes.{Rose}
 use Rattle.fd_io.specs.Streams.{Takes}
 use Rattle.fd_disk.specs.Folders.{Holdings, WhereTold}
-use Rattle.fd_words.specs.declared.command.Command.TheVariants.{Retrieve}
+use Rattle.fd_key.specs.Pairs as keys
+use Rattle.fd_words.specs.declared.command.Command.{Command}
 use Rattle.fd_outcome.specs.declared.status.Status.{Status}
 use Rattle.fd_outcome.specs.declared.status.Status.TheVariants.{Done, Missed, Words, Refused, InputFault, OutputFault, DiskFault, NoMemory, Damaged, Limit}
-use Rattle.fd_outcome.specs.Asking.{Answer, Asked, answers, count_found, count_missed, counts_line, found_bytes, miss_lines}
-use Rattle.fd_outcome.specs.Ends.{Calm, Ends, Troubles, disk_failed, no_memory, output_failed, troubles}
+use Rattle.fd_outcome.specs.Asking.{Answer, count_found, count_missed, counts_line, found_bytes, miss_lines}
+use Rattle.fd_outcome.specs.Ends.{Calm, Ends, IsBroken, Leaves, ReadsOut, Troubles, UsesStore, disk_failed, no_memory, output_failed, troubles}
 use Rattle.fd_outcome.specs.Objects.{Failed, Failures, IsCalm, Object, failures, object}
-use Rattle.fd_outcome.specs.Outcome.{answered, answered_early, early, nothing_early, outcome, retrieved, retrieved_early}
+use Rattle.fd_outcome.specs.Outcome.{answered, answered_early, early, nothing_early, outcome}
 use Rattle.fd_outcome.specs.Ran.{Ran}
-use Rattle.fd_outcome.specs.Store.{AreNames, Stays}
+use Rattle.fd_outcome.specs.Store.{Stands, Stays}
 use Rattle.fd_outcome.specs.Told.{Told, ToldOrNoMemory}
 use Rattle.fd_outcome.proofs.Endings.{CanStop, CanTell, Reached, ends_early, ends_on_the_way, ends_told, ends_unwritten, nothing_of, takes_both}
-use Rattle.fd_outcome.proofs.Exits.{apart, either_of, is_disk_fault, is_input_fault, is_output_fault, is_whole, is_words, neither, rose_of}
-use Rattle.fd_schema.specs.declared.place.Place.{Place}
-use Rattle.fd_request.specs.Expansion.{Keyword, expand}
+use Rattle.fd_outcome.proofs.AnyCommand.{Seen, ran_of, told_of}
+use Rattle.fd_outcome.proofs.Exits.{apart, is_disk_fault, is_input_fault, is_output_fault, is_whole, is_words}
 use Rattle.fd_retrieve.specs.Finding.{IsAnswered, IsAnsweredInPart, TookSome}
-use Rattle.fd_retrieve.specs.Open.{Open, table_in}
-use Rattle.fd_retrieve.specs.Ready.{Begins, IsReady, asked_at}
-use Rattle.std.specs.Prelude.{Contains, slice_get}
+use Rattle.fd_retrieve.specs.Commands.{Begins, IsReadyFor, retrieving}
+use Rattle.std.specs.Prelude.{slice_get}
 use Rattle.fd_disk.specs.Folders.{folder_at}
 use Rattle.fd_segment.specs.declared.fault.Damage.{Damage}
-use Rattle.fd_outcome.specs.Causes.{BadFile, damaged_line}
-use Rattle.fd_outcome.specs.Ends.{AmongAsked}
-use Rattle.fd_retrieve.specs.Open.{IsDamaged, IsDamagedAt, IsOpenIn}
-use Rattle.fd_retrieve.specs.Tables.{datasets_in}
+use Rattle.fd_outcome.specs.Causes as causes
+use Rattle.fd_outcome.specs.Causes.{BadFile, damaged_line, table_full}
+use Rattle.fd_retrieve.specs.Open.{IsDamaged, IsDamagedAt, IsOpenIn, Open}
 use Rattle.fd_retrieve.specs.Telling.{counts_status, counts_text}
+use Rattle.fd_telling.proofs.StopLemmas.{rose_later}
 use Rattle.fd_retrieve.proofs.DatasetLemmas.{all_at, among_named, damage_stands}
-use Rattle.fd_retrieve.proofs.ReadyLemmas.{contains_among, datasets_at}
 
 take_whole : {A : Type 0} (xs : List A) → take (length xs) xs ≡ xs
 take_whole [] = refl
@@ -105,56 +103,69 @@ pub untold_ends : (f : Failures) (tr : Troubles) (a b c d : Option (List ℕ)) (
 untold_ends f tr a b c d None failed part = inr failed
 untold_ends f tr a b c d (Some xs) failed part = let p = part xs refl in ends_on_the_way f a b c d (answered_early (Some xs)) tr (Some (answered xs)) failed p.output p.report
 
--- ---- what such a run has done
+-- ---- a command that answers a request
 
-module _ (root : List ℕ) (workers : ℕ) (store : Object Holdings) (input output report : Object (List ℕ)) (result : Status) where
-  abbrev pub Fs : Failures
-  Fs = failures store input output report
+module _ (root : List ℕ) (over : Option (List (List keys.Pair))) (workers : ℕ) where
+  abbrev Cmd : Command
+  Cmd = retrieving root over workers
 
-  pub ran_of : ((octets : List ℕ) (h i : Holdings) (names : List (List ℕ)) → input.before ≡ Some octets → store.before ≡ Some h
-      → Ends Fs result (outcome (Retrieve root workers) h names octets) (early (Retrieve root workers) h names octets) (troubles (Retrieve root workers) Fs h i names octets) output.before output.now report.before report.now)
-      → ¬ (result ≡ Words) → (result ≡ InputFault → Failed input) → (result ≡ OutputFault → Failed output ⊎ Failed report) → (result ≡ DiskFault → Failed store)
-      → Calm (Retrieve root workers) result input output report → WhereTold store.before store.now Stays → (((result ≡ Done) ⊎ (result ≡ Missed)) → IfSome input.before (λ octets. input.now ≡ Some [])) → Ran (Retrieve root workers) result store input output report
-  ran_of ends words input_fault output_fault disk_fault calm stays read = record {
-    ends = go input.before store.before store.now refl refl;
-    store_is = stays;
-    words = words;
-    to_end = read;
-    calm = calm;
-    input_fault = input_fault;
-    output_fault = output_fault;
-    disk_fault = disk_fault;
-  }
+  pub uses : UsesStore Cmd
+  uses = go over
     where
-      go : (i : Option (List ℕ)) (k k' : Option Holdings) → input.before ≡ i → store.before ≡ k
-          → IfSome i (λ octets. IfSome k (λ h. IfSome k' (λ j. (names : List (List ℕ)) → AreNames h names → Ends Fs result (outcome (Retrieve root workers) h names octets) (early (Retrieve root workers) h names octets) (troubles (Retrieve root workers) Fs h j names octets) output.before output.now report.before report.now)))
-      go None k k' e f = tt
-      go (Some octets) None k' e f = tt
-      go (Some octets) (Some h) None e f = tt
-      go (Some octets) (Some h) (Some j) e f = λ names an. ends octets h j names e f
+      go : (o : Option (List (List keys.Pair))) → UsesStore (retrieving root o workers)
+      go None = tt
+      go (Some layers) = tt
 
-  module _ (s : Status) (text : List ℕ) (mid : Option (List ℕ)) (m n : ℕ) (told : Told s text result mid report.now m n) (reported : Rose m n → Failed report)
-      (words : is_words s ≡ false) (output_no : is_output_fault s ≡ false) (input_fault : s ≡ InputFault → Failed input) (disk : s ≡ DiskFault → Failed store)
-      (calm : Calm (Retrieve root workers) s input output report) (stays : WhereTold store.before store.now Stays) (read : ((s ≡ Done) ⊎ (s ≡ Missed)) → IfSome input.before (λ octets. input.now ≡ Some [])) where
-    -- a run that tells such a status
-    pub told_of : ((octets : List ℕ) (h i : Holdings) (names : List (List ℕ)) → input.before ≡ Some octets → store.before ≡ Some h
-        → Ends Fs result (outcome (Retrieve root workers) h names octets) (early (Retrieve root workers) h names octets) (troubles (Retrieve root workers) Fs h i names octets) output.before output.now report.before report.now)
-        → Ran (Retrieve root workers) result store input output report
-    told_of ends =
-        let e = either_of s result text mid report.now m n told in
-        ran_of ends (neither s result Words e (apart is_words s Words words refl) (apart is_words OutputFault Words refl refl))
-        (λ x. input_fault (elim e as (λ _. s ≡ InputFault) [ inl is ↦ sym is ∙ x | inr is ↦ absurd (apart is_input_fault OutputFault InputFault refl refl (sym is ∙ x)) ]))
-        (λ x. inr (reported (rose_of s result text mid report.now m n (apart is_output_fault s OutputFault output_no refl) told x)))
-        (λ x. disk (elim e as (λ _. s ≡ DiskFault) [ inl is ↦ sym is ∙ x | inr is ↦ absurd (apart is_disk_fault OutputFault DiskFault refl refl (sym is ∙ x)) ]))
-        (elim e as (λ _. Calm (Retrieve root workers) result input output report) [ inl is ↦ subst (λ y. Calm (Retrieve root workers) y input output report) (sym is) calm | inr is ↦ subst (λ y. Calm (Retrieve root workers) y input output report) (sym is) tt ])
-        stays
-        (λ w. read (elim w as (λ _. (s ≡ Done) ⊎ (s ≡ Missed)) [
-          | inl x ↦ inl (elim e as (λ _. s ≡ Done) [ inl y ↦ sym y ∙ x | inr y ↦ absurd (apart is_whole OutputFault Done refl refl (sym y ∙ x)) ])
-          | inr x ↦ inr (elim e as (λ _. s ≡ Missed) [ inl y ↦ sym y ∙ x | inr y ↦ absurd (apart is_whole OutputFault Missed refl refl (sym y ∙ x)) ])
-        ]))
+  seen : (input : Option (List ℕ)) (octets : List ℕ) → Seen Cmd input octets → input ≡ Some octets
+  seen input octets = go over
+    where
+      go : (o : Option (List (List keys.Pair))) → Seen (retrieving root o workers) input octets → input ≡ Some octets
+      go None e = e
+      go (Some layers) e = e
 
-pub rose_later : (m k n : ℕ) → m ≤ k → Rose k n → Rose m n
-rose_later m k n le rose = λ lt. let later = rose lt in omega (arith, le, later)
+  reads : (before after : Option (List ℕ)) → IfSome before (λ octets. after ≡ Some []) → ReadsOut Cmd before after
+  reads before after = go over
+    where
+      go : (o : Option (List (List keys.Pair))) → IfSome before (λ octets. after ≡ Some []) → ReadsOut (retrieving root o workers) before after
+      go None e = e
+      go (Some layers) e = e
+
+  pub broken_is : (h i : Holdings) (name : List ℕ) (broken : causes.Broken) → Stands name (folder_at h name) broken → IsBroken Cmd h i name broken
+  broken_is h i name broken = go over
+    where
+      go : (o : Option (List (List keys.Pair))) → Stands name (folder_at h name) broken → IsBroken (retrieving root o workers) h i name broken
+      go None e = e
+      go (Some layers) e = e
+
+  leaves : (s : Status) (calm full : Type 0) (input left : Option (List ℕ)) (before now : Option Holdings) → WhereTold before now Stays → WhereTold before now (Leaves Cmd s calm full input left)
+  leaves s calm full input left before now = go over
+    where
+      go : (o : Option (List (List keys.Pair))) → WhereTold before now Stays → WhereTold before now (Leaves (retrieving root o workers) s calm full input left)
+      go None e = e
+      go (Some layers) e = e
+
+  module _ (store : Object Holdings) (input output report : Object (List ℕ)) (result : Status) (stays : WhereTold store.before store.now Stays) where
+    abbrev pub Fs : Failures
+    Fs = failures store input output report
+
+    -- how it ends, wherever the input and the store tell
+    abbrev pub EndsSo : Type 0
+    EndsSo = (octets : List ℕ) (h i : Holdings) (names : List (List ℕ)) → input.before ≡ Some octets → store.before ≡ Some h
+        → Ends Fs result (outcome Cmd h names octets) (early Cmd h names octets) (troubles Cmd Fs h i names octets) output.before output.now report.before report.now
+
+    pub ran_by : EndsSo → ¬ (result ≡ Words) → (result ≡ InputFault → Failed input) → (result ≡ OutputFault → Failed output ⊎ Failed report) → (result ≡ DiskFault → Failed store)
+        → Calm Cmd result input output report → (((result ≡ Done) ⊎ (result ≡ Missed)) → IfSome input.before (λ octets. input.now ≡ Some [])) → Ran Cmd result store input output report
+    ran_by ends words input_fault output_fault disk_fault calm read =
+        ran_of Cmd uses store input output report result (λ octets h i names d e f an. ends octets h i names (seen input.before octets d) e) words input_fault output_fault disk_fault calm
+        (leaves result (¬ (Failed store)) (Takes report.before report.now table_full) input.before input.now store.before store.now stays) (λ w. reads input.before input.now (read w))
+
+    -- it tells such a status with its line
+    pub told_by : (s : Status) (text : List ℕ) (mid : Option (List ℕ)) (m n : ℕ) (told : Told s text result mid report.now m n) (reported : Rose m n → Failed report) (words : is_words s ≡ false) (output_no : is_output_fault s ≡ false)
+        (input_fault : s ≡ InputFault → Failed input) (disk : s ≡ DiskFault → Failed store) (calm : Calm Cmd s input output report) (read : ((s ≡ Done) ⊎ (s ≡ Missed)) → IfSome input.before (λ octets. input.now ≡ Some [])) → EndsSo → Ran Cmd result store input output report
+    told_by s text mid m n told reported words output_no input_fault disk calm read ends =
+        told_of Cmd uses store input output report result s text mid m n told reported words output_no input_fault disk (λ t. calm)
+        (leaves result (¬ (Failed store)) (Takes report.before report.now table_full) input.before input.now store.before store.now stays) (λ w. reads input.before input.now (read w))
+        (λ octets h i names d e f an. ends octets h i names (seen input.before octets d) e)
 
 whole_part : (xs : List Answer) (a b c d : Option (List ℕ)) (found missed : ℕ) → IsAnswered xs (length xs) a b c d found missed → IsAnsweredInPart xs a b c d
 whole_part xs a b c d found missed w =
@@ -164,47 +175,47 @@ whole_part xs a b c d found missed w =
       report = (miss_lines xs, [], sym (append-nil (miss_lines xs)), subst (λ l. Takes c d (miss_lines l)) all w.report);
     }
 
--- ---- the exits of a request that was prepared
+-- ---- the exits of a request that stands ready
 
-module _ (root : List ℕ) (workers : ℕ) (before first now : Option Holdings) (sm sk sn : ℕ) (input output report : Object (List ℕ)) (ks : List Keyword) (ps : List Place) (os : List Open)
-    (begins : Begins before first sm sk input ks ps os) (same : now ≡ first) (mid : Option (List ℕ)) (k : ℕ) (result : Status) (sooner : report.faults_before ≤ k) where
-  abbrev asked : List Asked
-  asked = asked_at ks ps
+module _ (root : List ℕ) (over : Option (List (List keys.Pair))) (workers : ℕ) (before first now : Option Holdings) (sm sk sn : ℕ) (input output report : Object (List ℕ)) (os : List Open) (o : Option (List Answer))
+    (begins : Begins (retrieving root over workers) before first sm sk input os o) (same : now ≡ first) (mid : Option (List ℕ)) (k : ℕ) (result : Status) (sooner : report.faults_before ≤ k) where
+  abbrev One : Command
+  One = retrieving root over workers
 
   abbrev pub Part : Type 0
-  Part = (xs : List Answer) → answers (table_in os) asked ≡ Some xs → IsAnsweredInPart xs output.before output.now report.before mid
+  Part = (xs : List Answer) → o ≡ Some xs → IsAnsweredInPart xs output.before output.now report.before mid
 
   abbrev Store_ : Object Holdings
   Store_ = object before now sm sn
 
   abbrev pub Out : Type 0
-  Out = Ran (Retrieve root workers) result Store_ input output report
+  Out = Ran One result Store_ input output report
 
-  ready_at : (octets : List ℕ) (h : Holdings) → input.before ≡ Some octets → before ≡ Some h → IsReady h octets ks ps os
-  ready_at octets h e f = subst (λ i. IfSome i (λ octets. IsReady h octets ks ps os)) e (subst (λ b. IfSome b (λ h. IfSome input.before (λ octets. IsReady h octets ks ps os))) f begins.ready)
+  ready_at : (octets : List ℕ) (h : Holdings) → input.before ≡ Some octets → before ≡ Some h → IsReadyFor One h octets os o
+  ready_at octets h e f = subst (λ i. IfSome i (λ octets. IsReadyFor One h octets os o)) e (subst (λ b. IfSome b (λ h. IfSome input.before (λ octets. IsReadyFor One h octets os o))) f begins.ready)
 
-  abbrev EndsAs : Holdings → Holdings → List (List ℕ) → List ℕ → Option (List Answer) → Type 0
-  EndsAs h i names octets o = Ends (failures Store_ input output report) result (option_map answered o) (answered_early o) (troubles (Retrieve root workers) (failures Store_ input output report) h i names octets) output.before output.now report.before report.now
+  abbrev Fs_ : Failures
+  Fs_ = failures Store_ input output report
 
-  ends_at : (octets : List ℕ) (h i : Holdings) (names : List (List ℕ)) → IsReady h octets ks ps os → EndsAs h i names octets (answers (table_in os) asked)
-      → Ends (failures Store_ input output report) result (outcome (Retrieve root workers) h names octets) (early (Retrieve root workers) h names octets) (troubles (Retrieve root workers) (failures Store_ input output report) h i names octets) output.before output.now report.before report.now
+  ends_at : (octets : List ℕ) (h i : Holdings) (names : List (List ℕ)) → IsReadyFor One h octets os o → Ends Fs_ result (option_map answered o) (answered_early o) (troubles One Fs_ h i names octets) output.before output.now report.before report.now
+      → Ends Fs_ result (outcome One h names octets) (early One h names octets) (troubles One Fs_ h i names octets) output.before output.now report.before report.now
   ends_at octets h i names ready e =
-      subst (λ r. Ends (failures Store_ input output report) result (retrieved h r) (retrieved_early h r) (troubles (Retrieve root workers) (failures Store_ input output report) h i names octets) output.before output.now report.before report.now) (sym ready.asked)
-      (subst (EndsAs h i names octets) ready.answered e)
+      subst (λ x. Ends Fs_ result x (early One h names octets) (troubles One Fs_ h i names octets) output.before output.now report.before report.now) (sym (ready.outcome_is names))
+      (subst (λ x. Ends Fs_ result (option_map answered o) x (troubles One Fs_ h i names octets) output.before output.now report.before report.now) (sym (ready.early_is names)) e)
 
   stays_now : WhereTold before now Stays
   stays_now = subst (λ o. WhereTold before o Stays) (sym same) begins.stays
 
   abbrev pub CanHalt : Status → List ℕ → Type 0
-  CanHalt s text = (octets : List ℕ) (h i : Holdings) (names : List (List ℕ)) → input.before ≡ Some octets → before ≡ Some h → CanStop (failures Store_ input output report) (troubles (Retrieve root workers) (failures Store_ input output report) h i names octets) s text
+  CanHalt s text = (octets : List ℕ) (h i : Holdings) (names : List (List ℕ)) → input.before ≡ Some octets → before ≡ Some h → CanStop Fs_ (troubles One Fs_ h i names octets) s text
 
   -- it stops on the way
-  pub halt_ran : (s : Status) (text : List ℕ) → Told s text result mid report.now k report.faults_now → is_words s ≡ false → is_output_fault s ≡ false → is_input_fault s ≡ false → is_whole s ≡ false → (s ≡ DiskFault → Failed Store_) → Calm (Retrieve root workers) s input output report
+  pub halt_ran : (s : Status) (text : List ℕ) → Told s text result mid report.now k report.faults_now → is_words s ≡ false → is_output_fault s ≡ false → is_input_fault s ≡ false → is_whole s ≡ false → (s ≡ DiskFault → Failed Store_) → Calm One s input output report
       → CanHalt s text → Part → TookSome report.before mid → Out
   halt_ran s text told words output_no input_no whole disk calm can part some =
-      told_of root workers Store_ input output report result s text mid k report.faults_now told (rose_later report.faults_before k report.faults_now sooner) words output_no (λ e. absurd (apart is_input_fault s InputFault input_no refl e)) disk calm stays_now (λ w. begins.read)
+      told_by root over workers Store_ input output report result stays_now s text mid k report.faults_now told (rose_later report.faults_before k report.faults_now sooner) words output_no (λ e. absurd (apart is_input_fault s InputFault input_no refl e)) disk calm (λ w. begins.read)
       (λ octets h i names e f. ends_at octets h i names (ready_at octets h e f)
-      (stop_ends (failures Store_ input output report) (troubles (Retrieve root workers) (failures Store_ input output report) h i names octets) output.before output.now report.before mid report.now (answers (table_in os) asked) s result text k report.faults_now
+      (stop_ends Fs_ (troubles One Fs_ h i names octets) output.before output.now report.before mid report.now o s result text k report.faults_now
       (can octets h i names e f) part some (rose_later report.faults_before k report.faults_now sooner) told))
 
   -- memory runs out
@@ -213,30 +224,30 @@ module _ (root : List ℕ) (workers : ℕ) (before first now : Option Holdings) 
 
   -- a call of the store fails
   pub disk_ran : Told DiskFault disk_failed result mid report.now k report.faults_now → Rose sm sn → Part → TookSome report.before mid → Out
-  disk_ran told rose part some = halt_ran DiskFault disk_failed told refl refl refl refl (λ e. rose) tt (λ octets h i names e f. (tt, rose, refl)) part some
+  disk_ran told rose part some = halt_ran DiskFault disk_failed told refl refl refl refl (λ e. rose) tt (λ octets h i names e f. (uses root over workers, rose, refl)) part some
 
   -- the output fails
   pub unwritten_ran : Told OutputFault output_failed result mid report.now k report.faults_now → Failed output → Part → TookSome report.before mid → Out
   unwritten_ran told failed part some =
       let is : result ≡ OutputFault = elim told.told as (λ _. result ≡ OutputFault) [ inl x ↦ x.status | inr x ↦ x.status ] in
-      ran_of root workers Store_ input output report result
+      ran_by root over workers Store_ input output report result stays_now
       (λ octets h i names e f. ends_at octets h i names (ready_at octets h e f)
-      (unwritten_ends (failures Store_ input output report) (troubles (Retrieve root workers) (failures Store_ input output report) h i names octets) output.before output.now report.before mid report.now (answers (table_in os) asked) result k report.faults_now
+      (unwritten_ends Fs_ (troubles One Fs_ h i names octets) output.before output.now report.before mid report.now o result k report.faults_now
       failed part some (rose_later report.faults_before k report.faults_now sooner) told))
       (λ e. apart is_words OutputFault Words refl refl (sym is ∙ e)) (λ e. absurd (apart is_input_fault OutputFault InputFault refl refl (sym is ∙ e))) (λ e. inl failed) (λ e. absurd (apart is_disk_fault OutputFault DiskFault refl refl (sym is ∙ e)))
-      (subst (λ y. Calm (Retrieve root workers) y input output report) (sym is) tt) stays_now (λ w. begins.read)
+      (subst (λ y. Calm One y input output report) (sym is) tt) (λ w. begins.read)
 
   -- it tells how many were found and missed
   pub counted_ran : (found missed : ℕ) → ToldOrNoMemory (counts_status missed) (counts_text found missed) result mid report.now k report.faults_now → IsCalm output
-      → ((xs : List Answer) → answers (table_in os) asked ≡ Some xs → IsAnswered xs (length xs) output.before output.now report.before mid found missed) → TookSome report.before mid → Out
+      → ((xs : List Answer) → o ≡ Some xs → IsAnswered xs (length xs) output.before output.now report.before mid found missed) → TookSome report.before mid → Out
   counted_ran found missed told calm whole some = elim told as (λ _. Out) [
     | inl t ↦
-        told_of root workers Store_ input output report result (counts_status missed) (counts_text found missed) mid k report.faults_now t (rose_later report.faults_before k report.faults_now sooner)
+        told_by root over workers Store_ input output report result stays_now (counts_status missed) (counts_text found missed) mid k report.faults_now t (rose_later report.faults_before k report.faults_now sooner)
         (either (λ s. is_words s ≡ false) refl refl (nat_lt 0 missed)) (either (λ s. is_output_fault s ≡ false) refl refl (nat_lt 0 missed)) (either (λ s. s ≡ InputFault → Failed input) (λ e. absurd (apart is_input_fault Missed InputFault refl refl e)) (λ e. absurd (apart is_input_fault Done InputFault refl refl e)) (nat_lt 0 missed))
         (either (λ s. s ≡ DiskFault → Failed Store_) (λ e. absurd (apart is_disk_fault Missed DiskFault refl refl e)) (λ e. absurd (apart is_disk_fault Done DiskFault refl refl e)) (nat_lt 0 missed))
-        (either (λ s. Calm (Retrieve root workers) s input output report) (begins.calm, calm) (begins.calm, calm) (nat_lt 0 missed)) stays_now (λ w. begins.read)
+        (either (λ s. Calm One s input output report) (begins.calm, calm) (begins.calm, calm) (nat_lt 0 missed)) (λ w. begins.read)
         (λ octets h i names e f. ends_at octets h i names (ready_at octets h e f)
-        (count_ends (failures Store_ input output report) (troubles (Retrieve root workers) (failures Store_ input output report) h i names octets) output.before output.now report.before mid report.now (answers (table_in os) asked) result found missed k report.faults_now
+        (count_ends Fs_ (troubles One Fs_ h i names octets) output.before output.now report.before mid report.now o result found missed k report.faults_now
         whole (rose_later report.faults_before k report.faults_now sooner) t))
     | inr t ↦ starved_ran t (λ xs e. whole_part xs output.before output.now report.before mid found missed (whole xs e)) some
   ]
@@ -247,37 +258,36 @@ module _ (root : List ℕ) (workers : ℕ) (before first now : Option Holdings) 
 
   -- the report fails at the line of a miss
   pub untold_ran : result ≡ OutputFault → mid ≡ report.now → Rose report.faults_before report.faults_now → Part → Out
-  untold_ran is end rose part = ran_of root workers Store_ input output report result
+  untold_ran is end rose part = ran_by root over workers Store_ input output report result stays_now
       (λ octets h i names e f. ends_at octets h i names (ready_at octets h e f)
-      (subst (λ y. Ends (failures Store_ input output report) y (option_map answered (answers (table_in os) asked)) (answered_early (answers (table_in os) asked)) (troubles (Retrieve root workers) (failures Store_ input output report) h i names octets) output.before output.now report.before report.now) (sym is)
-      (untold_ends (failures Store_ input output report) (troubles (Retrieve root workers) (failures Store_ input output report) h i names octets) output.before output.now report.before report.now (answers (table_in os) asked) rose
+      (subst (λ y. Ends Fs_ y (option_map answered o) (answered_early o) (troubles One Fs_ h i names octets) output.before output.now report.before report.now) (sym is)
+      (untold_ends Fs_ (troubles One Fs_ h i names octets) output.before output.now report.before report.now o rose
       (λ xs q. subst (λ d. IsAnsweredInPart xs output.before output.now report.before d) end (part xs q)))))
       (λ e. apart is_words OutputFault Words refl refl (sym is ∙ e)) (λ e. absurd (apart is_input_fault OutputFault InputFault refl refl (sym is ∙ e))) (λ e. inr rose) (λ e. absurd (apart is_disk_fault OutputFault DiskFault refl refl (sym is ∙ e)))
-      (subst (λ y. Calm (Retrieve root workers) y input output report) (sym is) tt) stays_now (λ w. begins.read)
+      (subst (λ y. Calm One y input output report) (sym is) tt) (λ w. begins.read)
 
   -- ---- a damage is told
 
-  pub damaged_ran : (long : length ps ≡ length (expand ks)) (os_now : List Open) (number : ℕ) (o : Open) (d : Damage) → os_now ≡ os → slice_get os_now number ≡ Some o → IsDamagedAt os_now number d
-      → ToldOrNoMemory Damaged (damaged_line o.name (BadFile d)) result mid report.now k report.faults_now → Part → TookSome report.before mid → Out
-  damaged_ran long os_now number o d os_is at bad told part some = elim told as (λ _. Out) [
+  pub damaged_ran : (number : ℕ) (one : Open) (d : Damage) → slice_get os number ≡ Some one → IsDamagedAt os number d
+      → ToldOrNoMemory Damaged (damaged_line one.name (BadFile d)) result mid report.now k report.faults_now → Part → TookSome report.before mid → Out
+  damaged_ran number one d at bad told part some = elim told as (λ _. Out) [
     | inl t ↦ stands t
     | inr t ↦ starved_ran t part some
   ]
     where
-      one : bad.dataset ≡ o
-      one = cc (bad.at, at)
+      same_one : bad.dataset ≡ one
+      same_one = cc (bad.at, at)
 
-      stands : Told Damaged (damaged_line o.name (BadFile d)) result mid report.now k report.faults_now → Out
+      stands : Told Damaged (damaged_line one.name (BadFile d)) result mid report.now k report.faults_now → Out
       stands t =
-          let inside = subst (λ l. slice_get l number ≡ Some o) os_is at in
-          halt_ran Damaged (damaged_line o.name (BadFile d)) t refl refl refl refl (λ e. absurd (apart is_disk_fault Damaged DiskFault refl refl e)) tt
+          halt_ran Damaged (damaged_line one.name (BadFile d)) t refl refl refl refl (λ e. absurd (apart is_disk_fault Damaged DiskFault refl refl e)) tt
           (λ octets h i names e f.
           let r = ready_at octets h e f in
-          let open_ = all_at (IsOpenIn h) os number o r.each inside in (
-            o.name,
+          let open_ = all_at (IsOpenIn h) os number one r.each at in (
+            one.name,
             BadFile d,
-            subst (λ q. AmongAsked q o.name) (sym r.asked) (subst (λ ds. Contains ds o.name) (sym (datasets_at (expand ks) ps long)) (contains_among (datasets_in ps) o.name (r.among o.name (among_named os number o inside)))),
-            damage_stands (folder_at h o.name) o bad.key d open_.listed (subst (λ (x : Open). IsDamaged x.shown bad.key d) one bad.stands),
+            r.opens names one.name (among_named os number one at),
+            broken_is root over workers h i one.name (BadFile d) (damage_stands (folder_at h one.name) one bad.key d open_.listed (subst (λ (x : Open). IsDamaged x.shown bad.key d) same_one bad.stands)),
             refl,
           ))
           part some
@@ -285,7 +295,3 @@ module _ (root : List ℕ) (workers : ℕ) (before first now : Option Holdings) 
 -- nothing was written and told yet
 pub part_none : (xs : List Answer) (a c : Option (List ℕ)) → IsAnsweredInPart xs a a c c
 part_none xs a c = record { output = nothing_of a (found_bytes xs); report = nothing_of c (miss_lines xs) }
-
--- the answers of the same places
-pub moved : (os : List Open) (ks : List Keyword) (p q : List Place) → p ≡ q → (xs : List Answer) → answers (table_in os) (asked_at ks q) ≡ Some xs → answers (table_in os) (asked_at ks p) ≡ Some xs
-moved os ks p q same xs e = subst (λ ps. answers (table_in os) (asked_at ks ps) ≡ Some xs) (sym same) e

@@ -7,9 +7,9 @@ use Rattle.fd_segment.specs.declared.fault.Damage.{Damage}
 use Rattle.fd_outcome.specs.Asking.{Tables}
 use Rattle.fd_outcome.specs.Trying.{Tally}
 use Rattle.fd_retrieve.specs.declared.counting.Counted.{Counted}
-use Rattle.fd_retrieve.specs.declared.stop.Broken.TheVariants as brokens
-use Rattle.fd_retrieve.specs.declared.stop.Stop.{Stop}
-use Rattle.fd_retrieve.specs.declared.stop.Stop.TheVariants as stops
+use Rattle.fd_telling.specs.declared.stop.Broken.TheVariants as brokens
+use Rattle.fd_telling.specs.declared.stop.Stop.{Stop}
+use Rattle.fd_telling.specs.declared.stop.Stop.TheVariants as stops
 use Rattle.fd_retrieve.specs.Open.{IsDamaged, Open}
 use Rattle.fd_retrieve.specs.Ready.{IsBrokenOf}
 

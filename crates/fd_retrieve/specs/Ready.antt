@@ -1,22 +1,21 @@
 -- What stands ready for the answer of a request.
-use Rattle.std.specs.Prelude.{◌≡◌, ◌⊎◌, ◌≤◌, ℕ, IfSome, true, false, List, [], ◌∷◌, ◌++◌, map, All, Option, Some, Result, Ok, string_bytes}
-use Rattle.fd_disk.specs.Folders.{Holdings, WhereTold, folder_at}
+use Rattle.std.specs.Prelude.{◌≡◌, ◌⊎◌, ℕ, true, false, List, ◌∷◌, ◌++◌, [], map, All, Result, Ok, string_bytes}
+use Rattle.fd_disk.specs.Folders.{Holdings, folder_at}
 use Rattle.fd_schema.specs.declared.place.Place.{Place}
 use Rattle.fd_schema.specs.Reading.{seen_place}
 use Rattle.fd_request.specs.Expansion.{Keyword, expand}
 use Rattle.fd_outcome.specs.Asking.{Asked, answers, asked_of, is_among, placed, request_in, rules_of, ◌then◌}
 use Rattle.fd_outcome.specs.Causes.{Cause}
-use Rattle.fd_outcome.specs.Objects.{IsCalm, Object}
-use Rattle.fd_outcome.specs.Store.{Stands, Stays, has_table, table_at}
+use Rattle.fd_outcome.specs.Store.{Stands, has_table, table_at}
 use Rattle.fd_recovery.specs.declared.fault.OpenFault.{OpenFault}
 use Rattle.fd_recovery.specs.declared.fault.OpenFault.TheVariants as faults
-use Rattle.fd_retrieve.specs.declared.stop.Broken.{Broken}
-use Rattle.fd_retrieve.specs.declared.stop.Broken.TheVariants as brokens
-use Rattle.fd_retrieve.specs.declared.stop.Stop.{Stop}
-use Rattle.fd_retrieve.specs.declared.stop.Stop.TheVariants as stops
+use Rattle.fd_telling.specs.declared.stop.Broken.{Broken}
+use Rattle.fd_telling.specs.declared.stop.Broken.TheVariants as brokens
+use Rattle.fd_telling.specs.declared.stop.Stop.{Stop}
+use Rattle.fd_telling.specs.declared.stop.Stop.TheVariants as stops
 use Rattle.fd_retrieve.specs.Finding.{asked_of_all}
 use Rattle.fd_retrieve.specs.Open.{IsOpenIn, Open, names_of, table_in}
-use Rattle.fd_retrieve.specs.Stops.{seen_broken}
+use Rattle.fd_telling.specs.Stops.{seen_broken}
 use Rattle.fd_retrieve.specs.Tables.{datasets_in}
 
 -- the keys that are asked for, with their places, or why there are none; how many datasets they have isn't looked at
@@ -45,6 +44,7 @@ IsBrokenAs name broken stops.Missing = ⊥
 IsBrokenAs name broken (stops.Schema line kind) = ⊥
 IsBrokenAs name broken (stops.Request at kind) = ⊥
 IsBrokenAs name broken (stops.NoRule text) = ⊥
+IsBrokenAs name broken (stops.NoLayer layer text) = ⊥
 IsBrokenAs name broken stops.TooMany = ⊥
 IsBrokenAs name broken (stops.Broken dataset b) = (string_bytes dataset ≡ name) × (b ≡ broken)
 IsBrokenAs name broken stops.NoMemory = Unit {0}
@@ -57,6 +57,7 @@ IsBrokenOf stops.Missing h names = ⊥
 IsBrokenOf (stops.Schema line kind) h names = ⊥
 IsBrokenOf (stops.Request at kind) h names = ⊥
 IsBrokenOf (stops.NoRule text) h names = ⊥
+IsBrokenOf (stops.NoLayer layer text) h names = ⊥
 IsBrokenOf stops.TooMany h names = ⊥
 IsBrokenOf (stops.Broken dataset broken) h names = (is_among names (string_bytes dataset) ≡ true) × Stands (string_bytes dataset) (folder_at h (string_bytes dataset)) (seen_broken broken)
 IsBrokenOf stops.NoMemory h names = Unit {0}
@@ -75,12 +76,3 @@ pub record IsReady (h : Holdings) (input : List ℕ) (keywords : List Keyword) (
   pub answered : answers (table_in os) (asked_at keywords places) ≡ answers (table_at h) (asked_at keywords places)
   pub each : All (IsOpenIn h) os
   pub among : (n : List ℕ) → is_among (names_of os) n ≡ true → is_among (datasets_in places) n ≡ true
-
--- A request stands ready, which was made so out of a store and an input: all of the input was read without a fault, and
--- the store, whose count of faults was m and is n, stays.
-pub record Begins (before now : Option Holdings) (m n : ℕ) (input : Object (List ℕ)) (keywords : List Keyword) (places : List Place) (os : List Open) : Type 0 where
-  pub ready : IfSome before (λ h. IfSome input.before (λ octets. IsReady h octets keywords places os))
-  pub stays : WhereTold before now Stays
-  pub later : m ≤ n
-  pub calm : IsCalm input
-  pub read : IfSome input.before (λ octets. input.now ≡ Some [])

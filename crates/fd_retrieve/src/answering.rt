@@ -1,19 +1,16 @@
 // The answer of a request, key by key.
-ghost use Rattle.std.specs.Prelude.{◌≡◌, ◌≤◌, ◌<◌, ◌+◌, ◌-◌, ◌^◌, ◌++◌, List, codes, Some, length, slice_get, IfOk, IfErr, IfSome, OnOk};
+ghost use Rattle.std.specs.Prelude.{◌≡◌, ◌≤◌, ◌<◌, ◌+◌, ◌-◌, ◌^◌, ◌++◌, List, ℕ, Option, codes, Some, length, slice_get, IfOk, IfErr, IfSome, OnOk};
 ghost use Rattle.fd_bytes.specs.Causes.{Rose};
 ghost use Rattle.fd_io.specs.Streams.{Takes, TakesFront};
 ghost use Rattle.fd_key.specs.Pairs as keys;
 ghost use Rattle.fd_key.specs.Pairs.{key_text};
 ghost use Rattle.fd_listing.specs.Lines.{line};
 ghost use Rattle.fd_request.specs.Expansion.{expand};
-ghost use Rattle.fd_entries.specs.declared.batch.Pair.{Pair};
-ghost use Rattle.fd_entries.specs.Batches.{newest};
-ghost use Rattle.fd_schema.specs.Rules.{Texts, file_key};
 ghost use Rattle.fd_outcome.specs.Objects.{object};
 ghost use Rattle.fd_ahead.specs.Places.{AreIn};
 ghost use Rattle.fd_ahead.specs.Reading.{IsStock};
-ghost use Rattle.fd_retrieve.specs.Open.{IsDamagedAt, table_in};
-ghost use Rattle.fd_retrieve.specs.Located.{IsIn, IsLocated};
+ghost use Rattle.fd_retrieve.specs.Open.{IsDamagedAt};
+ghost use Rattle.fd_retrieve.specs.Located.{IsAt, IsIn};
 ghost use Rattle.fd_retrieve.specs.Finding.{IsOne, IsOneInPart, OnDamaged, OnUnwritten, TookSome, one_if};
 ghost use Rattle.fd_retrieve.specs.Rounds.{IsRound};
 
@@ -100,10 +97,10 @@ where
     requires within { IfSome located (IsIn opened.now) }
     requires stock { IsStock opened.now stock.old }
     ensures stock { IsStock opened.now stock.new }
-    ensures one { IfOk result (λ is_found. (place : Texts) (key : List keys.Pair) (t : List (List Pair)) → IsLocated opened.now place located → slice_get (expand request.now) number ≡ Some key → table_in opened.now place.dataset ≡ Some t
-        → IsOne (newest t (file_key place)) key is_found (K.taken output.old) (K.taken output.new) (E.taken report.old) (E.taken report.new)) }
-    ensures halted { IfErr result (λ e. (place : Texts) (key : List keys.Pair) (t : List (List Pair)) → IsLocated opened.now place located → slice_get (expand request.now) number ≡ Some key → table_in opened.now place.dataset ≡ Some t
-        → IsOneInPart (newest t (file_key place)) key (K.taken output.old) (K.taken output.new) (E.taken report.old) (E.taken report.new)) }
+    ensures one { IfOk result (λ is_found. (bytes : Option (List ℕ)) (key : List keys.Pair) → IsAt opened.now bytes located → slice_get (expand request.now) number ≡ Some key
+        → IsOne bytes key is_found (K.taken output.old) (K.taken output.new) (E.taken report.old) (E.taken report.new)) }
+    ensures halted { IfErr result (λ e. (bytes : Option (List ℕ)) (key : List keys.Pair) → IsAt opened.now bytes located → slice_get (expand request.now) number ≡ Some key
+        → IsOneInPart bytes key (K.taken output.old) (K.taken output.new) (E.taken report.old) (E.taken report.new)) }
     ensures output { K.faults output.old ≤ K.faults output.new }
     ensures calm { OnOk result (K.faults output.new ≡ K.faults output.old) }
     ensures report { E.faults report.old ≤ E.faults report.new }

@@ -7,20 +7,20 @@ ghost use Rattle.fd_schema.specs.Rules.{place_from};
 ghost use Rattle.fd_request.specs.Expansion.{expand};
 ghost use Rattle.fd_outcome.specs.Asking.{placed, request_in};
 ghost use Rattle.fd_retrieve.specs.Finding.{asked_of_all};
-ghost use Rattle.fd_retrieve.specs.Stops.{LacksPlace, LacksRule, OnInput, OnRefusal, OnRequest};
+ghost use Rattle.fd_telling.specs.Stops.{LacksPlace, LacksRule, OnInput, OnRefusal, OnRequest};
 
-use crate::stop::Stop;
 use fd_io::Source;
 use fd_outcome::{Unread, read_front};
 use fd_request::{Request, RequestFault};
 use fd_schema::{Place, PlaceFault, Schema};
+use fd_telling::Stop;
 use std::alloc::Global;
 
 /// How many octets of the input are read at most.
 const MOST: u64 = 68_719_476_736;
 
 /// The request that the input is.
-pub(crate) fn request_of<F, X: Drop, I: Source<X>>(
+pub fn request_of<F, X: Drop, I: Source<X>>(
     alloc: Global,
     input: &mut I,
 ) -> Result<Request, Stop<F>>

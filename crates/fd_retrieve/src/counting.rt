@@ -1,9 +1,6 @@
 // How many keys are found.
 ghost use Rattle.std.specs.Prelude.{◌≡◌, ◌≤◌, ◌<◌, List, ℕ, Option, Some, None, false, length, map, filter, IfOk, IfErr, IfSome, slice_index_or};
 ghost use Rattle.fd_disk.specs.Folders.{WhereTold};
-ghost use Rattle.fd_entries.specs.declared.batch.Pair.{Pair};
-ghost use Rattle.fd_entries.specs.Batches.{newest};
-ghost use Rattle.fd_schema.specs.Rules.{Texts, file_key};
 ghost use Rattle.fd_schema.specs.Reading.{seen_place};
 ghost use Rattle.fd_schema.specs.declared.place.Place.{Place};
 ghost use Rattle.fd_outcome.specs.Asking.{count_distinct};
@@ -12,16 +9,15 @@ ghost use Rattle.fd_outcome.specs.Trying.{tally_of};
 ghost use Rattle.fd_ahead.specs.Places.{AreIn};
 ghost use Rattle.fd_ahead.specs.Reading.{IsStock};
 ghost use Rattle.fd_retrieve.specs.Open.{IsDamagedAt, table_in};
-ghost use Rattle.fd_retrieve.specs.Located.{AreLocated, IsIn, IsLocated, OnLost};
+ghost use Rattle.fd_retrieve.specs.Located.{AreLocated, IsAt, IsIn, OnLost};
 ghost use Rattle.fd_retrieve.specs.Looking.{IsLookedThrough};
 ghost use Rattle.fd_retrieve.specs.Counting.{IsBrokenAmong, IsLength, IsOfKeys, IsLostIn, IsTally, finds, with_length};
-ghost use Rattle.fd_retrieve.specs.Stops.{OnTooMany};
+ghost use Rattle.fd_telling.specs.Stops.{OnTooMany};
 ghost use Rattle.fd_retrieve.specs.Tables.{datasets_in};
 
 use crate::datasets::write_found;
 use crate::locating::{Lost, locate};
 use crate::preparing::open_all;
-use crate::stop::{Broken, Stop};
 use crate::tables::tables_of;
 use fd_ahead::{Located, Opened, ReadStock, Stock};
 use fd_bytes::NoMemory;
@@ -30,6 +26,7 @@ use fd_io::{Gate, Sink};
 use fd_retriever::{FetchFault, Got};
 use fd_schema::Place;
 use fd_segment::Damage;
+use fd_telling::{Broken, Stop};
 use std::alloc::Global;
 use std::sync::Wait;
 use std::thread::Threads;
@@ -157,7 +154,7 @@ where
     requires within { IfSome located (IsIn opened.now) }
     requires stock { IsStock opened.now stock.old }
     ensures stock { IsStock opened.now stock.new }
-    ensures one { IfOk result (λ o. (place : Texts) (t : List (List Pair)) → IsLocated opened.now place located → table_in opened.now place.dataset ≡ Some t → IsLength (newest t (file_key place)) o) }
+    ensures one { IfOk result (λ o. (bytes : Option (List ℕ)) → IsAt opened.now bytes located → IsLength bytes o) }
     ensures damaged { IfErr result (λ e. OnLost e (IsDamagedAt opened.now)) }
 {
     match write_found(alloc, opened, located, stock, &mut Unkept) {

@@ -1,14 +1,11 @@
 // The datasets that were opened, in which fields are found.
-ghost use Rattle.std.specs.Prelude.{◌≡◌, ◌≤◌, ◌<◌, List, ℕ, Some, false, IfOk, IfErr, IfSome, OnOk, MatchOption};
-ghost use Rattle.fd_entries.specs.declared.batch.Pair.{Pair};
+ghost use Rattle.std.specs.Prelude.{◌≡◌, ◌≤◌, ◌<◌, List, ℕ, Option, Some, false, IfOk, IfErr, IfSome, OnOk, MatchOption};
 ghost use Rattle.fd_bytes.specs.Causes.{Rose};
-ghost use Rattle.fd_entries.specs.Batches.{newest};
-ghost use Rattle.fd_schema.specs.Rules.{Texts, file_key};
 ghost use Rattle.fd_retriever.specs.Answers.{IsAnswer, OnDamaged, OnWrite, TookFront};
 ghost use Rattle.fd_ahead.specs.Reading.{IsStock};
 ghost use Rattle.fd_outcome.specs.Asking.{is_among};
-ghost use Rattle.fd_retrieve.specs.Open.{IsDamagedAt, IsFirstNamed, names_of, table_in};
-ghost use Rattle.fd_retrieve.specs.Located.{IsIn, IsLocated};
+ghost use Rattle.fd_retrieve.specs.Open.{IsDamagedAt, IsFirstNamed, names_of};
+ghost use Rattle.fd_retrieve.specs.Located.{IsAt, IsIn};
 
 use fd_ahead::{Located, Opened, ReadStock};
 use fd_disk::Sealed;
@@ -28,8 +25,8 @@ where
     requires within { IfSome located (IsIn opened.now) }
     requires stock { IsStock opened.now stock.old }
     ensures stock { IsStock opened.now stock.new }
-    ensures answer { IfOk result (λ got. (place : Texts) (t : List (List Pair)) → IsLocated opened.now place located → table_in opened.now place.dataset ≡ Some t → IsAnswer (newest t (file_key place)) (K.taken sink.old) (K.taken sink.new) got) }
-    ensures err { IfErr result (λ e. (place : Texts) (t : List (List Pair)) → IsLocated opened.now place located → table_in opened.now place.dataset ≡ Some t → TookFront (newest t (file_key place)) (K.taken sink.old) (K.taken sink.new)) }
+    ensures answer { IfOk result (λ got. (bytes : Option (List ℕ)) → IsAt opened.now bytes located → IsAnswer bytes (K.taken sink.old) (K.taken sink.new) got) }
+    ensures err { IfErr result (λ e. (bytes : Option (List ℕ)) → IsAt opened.now bytes located → TookFront bytes (K.taken sink.old) (K.taken sink.new)) }
     ensures damaged { IfErr result (λ e. OnDamaged e (λ d. (l : Located) × (located ≡ Some l) × IsDamagedAt opened.now l.number d)) }
     ensures count { K.faults sink.old ≤ K.faults sink.new }
     ensures calm { OnOk result (K.faults sink.new ≡ K.faults sink.old) }

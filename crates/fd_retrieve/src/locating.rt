@@ -18,7 +18,7 @@ use std::thread::Threads;
 
 /// Why keys aren't located.
 #[derive(Drop)]
-pub(crate) enum Lost<F> {
+pub enum Lost<F> {
     /// A call of the store failed.
     Disk(F),
     /// This is damaged in the dataset with this number.
@@ -28,7 +28,7 @@ pub(crate) enum Lost<F> {
 }
 
 /// Finds where the newest bytes of each place's key stand, all keys of one dataset at once, by so many workers.
-pub(crate) fn locate<F: Send + Drop, Z: Sealed<F>, G: Gate, R: Threads + Wait + Sync>(
+pub fn locate<F: Send + Drop, Z: Sealed<F>, G: Gate, R: Threads + Wait + Sync>(
     rt: &R,
     alloc: Global,
     opened: &[Opened<F, Z>],

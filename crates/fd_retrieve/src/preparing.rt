@@ -6,14 +6,14 @@ ghost use Rattle.fd_schema.specs.Seen.{texts};
 ghost use Rattle.fd_recovery.specs.Causes.{NotTooMany};
 ghost use Rattle.fd_request.specs.Expansion.{expand};
 ghost use Rattle.fd_outcome.specs.Asking.{asked_of};
+ghost use Rattle.fd_outcome.specs.Ends.{AmongAsked};
 ghost use Rattle.fd_outcome.specs.Store.{Stays};
 ghost use Rattle.fd_retrieve.specs.Looking.{IsLookedThrough};
 ghost use Rattle.fd_retrieve.specs.Ready.{AreOpen, IsBrokenOf, IsReady, IsUnopened, MayOpen, asked_at, placed_of};
-ghost use Rattle.fd_retrieve.specs.Stops.{IsOfRequest, OfDataset, OnInput, OnRefusal, Says};
+ghost use Rattle.fd_telling.specs.Stops.{IsOfRequest, IsRefused, OfDataset, OnInput, OnRefusal, Says};
 
 use crate::asking::{places_of, request_of};
 use crate::opened::open;
-use crate::stop::{Broken, Stop};
 use crate::tables::tables_of;
 use fd_ahead::Opened;
 use fd_disk::{Folder, Sealed, Store};
@@ -22,6 +22,7 @@ use fd_outcome::{Unruled, stored_schema};
 use fd_recovery::OpenFault;
 use fd_request::Request;
 use fd_schema::Place;
+use fd_telling::{Broken, Stop};
 use std::alloc::Global;
 
 /// A request, the places of its keys, and the datasets of the places that have tables.
@@ -44,7 +45,7 @@ where
     ensures prepared { IfOk result (λ r. IfSome (S.has store.old) (λ h. IfSome (I.left input.old) (λ octets. IsReady h octets r.request r.places.items r.opened.items))) }
     ensures count { IfOk result (λ r. length r.places.items ≡ length (expand r.request)) }
     ensures read { OnOk result (IfSome (I.left input.old) (λ octets. I.left input.new ≡ Some [])) }
-    ensures says { IfErr result (λ e. IfSome (S.has store.old) (λ h. IfSome (I.left input.old) (λ octets. Says e h (asked_of h octets)))) }
+    ensures says { IfErr result (λ e. IfSome (S.has store.old) (λ h. IfSome (I.left input.old) (λ octets. Says e h (IsRefused (asked_of h octets)) (AmongAsked (asked_of h octets))))) }
     ensures input { IfErr result (λ e. OnInput e (Rose (I.faults input.old) (I.faults input.new))) }
     ensures calm { OnOk result (I.faults input.new ≡ I.faults input.old) }
     ensures calm_err { IfErr result (λ e. OnRefusal e (I.faults input.new ≡ I.faults input.old)) }
@@ -80,7 +81,7 @@ fn placed<F: Send, X: Drop, S: Store<F>, I: Source<X>>(
     ensures placed { IfOk result (λ r. IfSome (S.has store.old) (λ h. IfSome (I.left input.old) (λ octets. placed_of h octets ≡ Ok (asked_at r.0 r.1.items)))) }
     ensures count { IfOk result (λ r. length r.1.items ≡ length (expand r.0)) }
     ensures read { OnOk result (IfSome (I.left input.old) (λ octets. I.left input.new ≡ Some [])) }
-    ensures says { IfErr result (λ e. IfSome (S.has store.old) (λ h. IfSome (I.left input.old) (λ octets. IsOfRequest e (placed_of h octets)))) }
+    ensures says { IfErr result (λ e. IfSome (S.has store.old) (λ h. IfSome (I.left input.old) (λ octets. IsOfRequest e (IsRefused (placed_of h octets))))) }
     ensures input { IfErr result (λ e. OnInput e (Rose (I.faults input.old) (I.faults input.new))) }
     ensures calm { OnOk result (I.faults input.new ≡ I.faults input.old) }
     ensures calm_err { IfErr result (λ e. OnRefusal e (I.faults input.new ≡ I.faults input.old)) }
@@ -106,7 +107,7 @@ fn placed<F: Send, X: Drop, S: Store<F>, I: Source<X>>(
 }
 
 /// Opens the datasets of these names, and gives each back.
-pub(crate) fn open_all<F: Send + Drop, S: Store<F>>(
+pub fn open_all<F: Send + Drop, S: Store<F>>(
     alloc: Global,
     store: &mut S,
     names: &[String],

@@ -1,5 +1,5 @@
 // `retrieve`.
-ghost use Rattle.std.specs.Prelude.{◌≡◌, ◌≤◌, List, ℕ, Option, false, length};
+ghost use Rattle.std.specs.Prelude.{◌≡◌, ◌≤◌, List, ℕ, Option, Some, false, length, IfErr, IfOk};
 ghost use Rattle.fd_disk.specs.Folders.{Holdings};
 ghost use Rattle.fd_request.specs.Expansion.{expand};
 ghost use Rattle.fd_words.specs.declared.command.Command.TheVariants.{Retrieve};
@@ -7,20 +7,26 @@ ghost use Rattle.fd_outcome.specs.Causes.{BadFile, damaged_line};
 ghost use Rattle.fd_outcome.specs.Objects.{Object, object};
 ghost use Rattle.fd_outcome.specs.Ran.{Ran};
 ghost use Rattle.fd_outcome.specs.Told.{ToldOrNoMemory};
-ghost use Rattle.fd_retrieve.specs.Ready.{Begins};
+ghost use Rattle.fd_key.specs.Pairs.{Pair};
+ghost use Rattle.fd_outcome.specs.Asking.{Answer, answers};
+ghost use Rattle.fd_ahead.specs.Places.{AreIn};
+ghost use Rattle.fd_retrieve.specs.Commands.{Begins, retrieving};
+ghost use Rattle.fd_retrieve.specs.Located.{AreAt, OnLost};
+ghost use Rattle.fd_retrieve.specs.Open.{IsDamagedAt, table_in};
+ghost use Rattle.fd_retrieve.specs.Ready.{asked_at};
 ghost use Rattle.fd_retrieve.specs.Telling.{counts_status, counts_text};
 
 use crate::answering::Halt;
 use crate::locating::{Lost, locate};
 use crate::preparing::{Ready, prepared};
 use crate::rounds::answer_all;
-use crate::stop::Broken;
-use crate::telling::{tell_broken, tell_stop};
-use fd_ahead::Opened;
+use fd_ahead::{Located, Opened};
 use fd_disk::{Folder, Sealed, Store};
 use fd_io::{Gate, Sink, Source};
 use fd_outcome::{Status, tell, tell_disk_failed, tell_no_memory, tell_output_failed};
+use fd_request::Request;
 use fd_segment::Damage;
+use fd_telling::{Broken, tell_broken, tell_stop};
 use fd_words::Root;
 use std::alloc::Global;
 use std::sync::Wait;
@@ -86,9 +92,8 @@ fn answered<
 where
     requires workers { (1 ≤ workers) × (workers ≤ 8) }
     requires count { length ready.places.items ≡ length (expand ready.request) }
-    ensures ran { (root : List ℕ) (before : Option Holdings) (faults : ℕ) (input : Object (List ℕ)) → Begins before (S.has store.old) faults (S.faults store.old) input ready.request ready.places.items ready.opened.items
+    ensures ran { (root : List ℕ) (before : Option Holdings) (faults : ℕ) (input : Object (List ℕ)) → Begins (Retrieve root workers) before (S.has store.old) faults (S.faults store.old) input ready.opened.items (answers (table_in ready.opened.items) (asked_at ready.request ready.places.items))
         → Ran (Retrieve root workers) result (object before (S.has store.new) faults (S.faults store.new)) input (object (K.taken output.old) (K.taken output.new) (K.faults output.old) (K.faults output.new)) (object (E.taken report.old) (E.taken report.new) (E.faults report.old) (E.faults report.new)) }
-    ensures has { S.has store.new ≡ S.has store.old }
     ensures out { S.out store.new ≡ S.out store.old }
 {
     let Ready {
@@ -96,7 +101,45 @@ where
         places,
         opened,
     } = ready;
-    let located = match locate(rt, alloc, &opened, &places, workers, gate) {
+    let located = locate(rt, alloc, &opened, &places, workers, gate);
+    answer_located(
+        rt, alloc, store, &request, &opened, located, workers, output, report,
+    )
+}
+
+/// Answers a request whose keys are located in datasets that are open, or tells why they aren't: writes what is found for each
+/// key, in the order of the request, and tells each key that has none, and how many were found and missed. So many threads
+/// read and check the fields ahead of the one that is written.
+pub fn answer_located<
+    F: Send + Drop,
+    X: Drop,
+    S: Store<F>,
+    Z: Sealed<F>,
+    K: Sink<X>,
+    E: Sink<X>,
+    R: Threads + Sync,
+>(
+    rt: &R,
+    alloc: Global,
+    store: &mut S,
+    request: &Request,
+    opened: &[Opened<F, Z>],
+    located: Result<Vec<Option<Located>>, Lost<F>>,
+    workers: u32,
+    output: &mut K,
+    report: &mut E,
+) -> Status
+where
+    requires count { IfOk located (λ v. length v.items ≡ length (expand request.now)) }
+    requires within { IfOk located (λ v. AreIn opened.now v.items) }
+    requires damaged { IfErr located (λ e. OnLost e (IsDamagedAt opened.now)) }
+    // The command is `retrieve`, or `retrieve` over layers; what stands where the keys are located are its answers.
+    ensures ran { (root : List ℕ) (over : Option (List (List Pair))) (before : Option Holdings) (faults : ℕ) (input : Object (List ℕ)) (o : Option (List Answer)) → Begins (retrieving root over workers) before (S.has store.old) faults (S.faults store.old) input opened.now o
+        → IfOk located (λ v. (xs : List Answer) → o ≡ Some xs → AreAt opened.now (expand request.now) xs v.items)
+        → Ran (retrieving root over workers) result (object before (S.has store.new) faults (S.faults store.new)) input (object (K.taken output.old) (K.taken output.new) (K.faults output.old) (K.faults output.new)) (object (E.taken report.old) (E.taken report.new) (E.faults report.old) (E.faults report.new)) }
+    ensures out { S.out store.new ≡ S.out store.old }
+{
+    let located = match located {
         Ok(located) => located,
         Err(Lost::Disk(fault)) => {
             store.note(fault);
@@ -108,7 +151,7 @@ where
         Err(Lost::NoMemory) => return tell_no_memory(report),
     };
     match answer_all(
-        rt, alloc, &request, &opened, &located, workers, output, report,
+        rt, alloc, request, opened, &located, workers, output, report,
     ) {
         Ok((found, missed)) => tell_counts(alloc, report, found, missed),
         Err(Halt::Disk(fault)) => {

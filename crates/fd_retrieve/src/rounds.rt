@@ -1,16 +1,14 @@
 // The answer of a request, in rounds.
-ghost use Rattle.std.specs.Prelude.{◌≡◌, ◌≤◌, ◌<◌, ◌^◌, All, List, Option, Some, map, length, IfOk, IfErr, OnOk};
+ghost use Rattle.std.specs.Prelude.{◌≡◌, ◌≤◌, ◌<◌, ◌^◌, All, List, length, IfOk, IfErr, OnOk};
 ghost use Rattle.fd_bytes.specs.Causes.{Rose};
-ghost use Rattle.fd_schema.specs.Reading.{seen_place};
-ghost use Rattle.fd_schema.specs.declared.place.Place.{Place};
 ghost use Rattle.fd_request.specs.Expansion.{expand};
-ghost use Rattle.fd_outcome.specs.Asking.{Answer, answers};
+ghost use Rattle.fd_outcome.specs.Asking.{Answer};
 ghost use Rattle.fd_outcome.specs.Objects.{object};
 ghost use Rattle.fd_ahead.specs.Places.{AreIn, Open};
 ghost use Rattle.fd_ahead.specs.Reading.{IsJob, IsStock};
-ghost use Rattle.fd_retrieve.specs.Open.{IsDamagedAt, table_in};
-ghost use Rattle.fd_retrieve.specs.Located.{AreLocated};
-ghost use Rattle.fd_retrieve.specs.Finding.{IsAnswered, IsAnsweredInPart, OnDamaged, OnUnwritten, TookSome, asked_of_all};
+ghost use Rattle.fd_retrieve.specs.Open.{IsDamagedAt};
+ghost use Rattle.fd_retrieve.specs.Located.{AreAt};
+ghost use Rattle.fd_retrieve.specs.Finding.{IsAnswered, IsAnsweredInPart, OnDamaged, OnUnwritten, TookSome};
 ghost use Rattle.fd_retrieve.specs.Rounds.{IsRound};
 
 use crate::answering::{Halt, answer_some};
@@ -96,9 +94,9 @@ where
     requires within { AreIn opened.now located.now }
     requires jobs { All (IsJob opened.now) jobs.old }
     requires stock { IsStock opened.now stock.old }
-    ensures answered { IfOk result (λ r. (places : List Place) (xs : List Answer) → AreLocated opened.now places located.now → answers (table_in opened.now) (asked_of_all (expand request.now) (map seen_place places)) ≡ Some xs
+    ensures answered { IfOk result (λ r. (xs : List Answer) → AreAt opened.now (expand request.now) xs located.now
         → IsAnswered xs (length xs) (K.taken output.old) (K.taken output.new) (E.taken report.old) (E.taken report.new) r.0 r.1) }
-    ensures halted { IfErr result (λ e. (places : List Place) (xs : List Answer) → AreLocated opened.now places located.now → answers (table_in opened.now) (asked_of_all (expand request.now) (map seen_place places)) ≡ Some xs
+    ensures halted { IfErr result (λ e. (xs : List Answer) → AreAt opened.now (expand request.now) xs located.now
         → IsAnsweredInPart xs (K.taken output.old) (K.taken output.new) (E.taken report.old) (E.taken report.new)) }
     ensures output { K.faults output.old ≤ K.faults output.new }
     ensures calm { OnOk result (K.faults output.new ≡ K.faults output.old) }
@@ -148,9 +146,9 @@ pub(crate) fn answer_all<
 where
     requires count { length located.now ≡ length (expand request.now) }
     requires within { AreIn opened.now located.now }
-    ensures answered { IfOk result (λ r. (places : List Place) (xs : List Answer) → AreLocated opened.now places located.now → answers (table_in opened.now) (asked_of_all (expand request.now) (map seen_place places)) ≡ Some xs
+    ensures answered { IfOk result (λ r. (xs : List Answer) → AreAt opened.now (expand request.now) xs located.now
         → IsAnswered xs (length xs) (K.taken output.old) (K.taken output.new) (E.taken report.old) (E.taken report.new) r.0 r.1) }
-    ensures halted { IfErr result (λ e. (places : List Place) (xs : List Answer) → AreLocated opened.now places located.now → answers (table_in opened.now) (asked_of_all (expand request.now) (map seen_place places)) ≡ Some xs
+    ensures halted { IfErr result (λ e. (xs : List Answer) → AreAt opened.now (expand request.now) xs located.now
         → IsAnsweredInPart xs (K.taken output.old) (K.taken output.new) (E.taken report.old) (E.taken report.new)) }
     ensures output { K.faults output.old ≤ K.faults output.new }
     ensures calm { OnOk result (K.faults output.new ≡ K.faults output.old) }

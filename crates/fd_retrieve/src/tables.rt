@@ -6,12 +6,12 @@ ghost use Rattle.fd_schema.specs.Reading.{seen_place};
 ghost use Rattle.fd_schema.specs.Seen.{texts};
 ghost use Rattle.fd_outcome.specs.Store.{Stays, has_table};
 ghost use Rattle.fd_retrieve.specs.Looking.{IsLookedThrough};
-ghost use Rattle.fd_retrieve.specs.Stops.{NotRefused, OnTooMany};
+ghost use Rattle.fd_telling.specs.Stops.{NotRefused, OnTooMany};
 ghost use Rattle.fd_retrieve.specs.Tables.{AreTables, MayAdd, datasets_in};
 
-use crate::stop::Stop;
 use fd_disk::{Down, Folder, Store};
 use fd_schema::Place;
+use fd_telling::Stop;
 use std::alloc::Global;
 
 /// How many datasets may be opened.
@@ -19,7 +19,7 @@ const MOST: usize = 2048;
 
 /// The datasets of the places that have a table, each once, in the order in which they are first met. `TooMany` comes
 /// exactly where they are more than may be opened.
-pub(crate) fn tables_of<F: Send, S: Store<F>>(
+pub fn tables_of<F: Send, S: Store<F>>(
     alloc: Global,
     store: &mut S,
     places: &[Place],

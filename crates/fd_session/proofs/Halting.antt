@@ -37,7 +37,7 @@ use Rattle.fd_outcome.specs.Refusals.{refusal_line, refusal_status}
 use Rattle.fd_outcome.specs.Store.{Stands}
 use Rattle.fd_outcome.specs.Told.{ToldOrNoMemory}
 use Rattle.fd_outcome.specs.Unruled.{IsUnruled}
-use Rattle.fd_retrieve.specs.Stops.{ToldSome}
+use Rattle.fd_telling.specs.Stops.{ToldSome}
 use Rattle.fd_lanes.specs.declared.end.End.{End}
 use Rattle.fd_play.specs.Plays.{HoldsSame, IsUnopened, Played}
 use Rattle.fd_session.specs.Inputs.{IsInput, IsRefusedBehind}

@@ -12,9 +12,9 @@ use fd_io::Sink;
 use fd_lanes::{End, Ends, Transcript};
 use fd_listing::TextFault;
 use fd_outcome::{Status, tell, tell_disk_failed, tell_no_memory, tell_output_failed};
-use fd_retrieve::{Broken, tell_broken};
 use fd_script::Script;
 use fd_segment::Damage;
+use fd_telling::{Broken, tell_broken};
 use fd_transcript::{tell_transcript, write_found};
 use std::alloc::Global;
 

@@ -25,9 +25,9 @@ use fd_outcome::{
 };
 use fd_play::play;
 use fd_recovery::OpenFault;
-use fd_retrieve::{Broken, tell_broken, tell_schema};
 use fd_schema::{Place, Schema};
 use fd_script::ScriptFault;
+use fd_telling::{Broken, tell_broken, tell_schema};
 use fd_words::Root;
 use std::alloc::Global;
 use std::sync::Wait;

@@ -1,4 +1,5 @@
 pub mod Names
+pub mod Opened
 pub mod Reading
 pub mod Sheets
 pub mod Dealt

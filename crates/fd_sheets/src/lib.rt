@@ -1,12 +1,13 @@
-//! The messages of an input that are whole in what came of it, each with its place by a schema and its digest, which a reader takes while
-//! others are stored. The places and the digests are looked for by several threads side by side. By its place each message goes to one of
-//! several workers.
+//! The fields of the messages that are whole in what came of an input, each with its place by a schema and its digest, which a reader takes
+//! while others are stored. The places and the digests are looked for by several threads side by side. By its place each field goes to one
+//! of several workers.
 #![tactic(auto)]
 
 mod beside;
 mod buffers;
 mod dealing;
 mod names;
+mod opened;
 mod reader;
 mod rounds;
 mod sheets;

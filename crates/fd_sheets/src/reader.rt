@@ -1,15 +1,16 @@
-//! What reads an input ahead: its messages, with their places, up to where they have to be dealt before more is read.
+//! What reads an input ahead: its fields, with their places, up to where they have to be dealt before more is read.
 ghost use Rattle.std.specs.Prelude.{◌≡◌, ◌<◌, ◌≤◌, All, Ok, Err, [], IfOk, IfErr, OnOk, true, false};
 ghost use Rattle.fd_bytes.specs.Causes.{Rose};
 ghost use Rattle.fd_sections.specs.Splitting.{finished, start};
 ghost use Rattle.fd_sections.specs.Stream.{first};
-ghost use Rattle.fd_sections.specs.Joining.{IsWaiting};
+ghost use Rattle.fd_outcome.specs.Positions.{IsIdle, at_message};
 ghost use Rattle.fd_schema.specs.Grammar.{IsSchema};
 ghost use Rattle.fd_sheets.specs.Names.{IsKnown};
 ghost use Rattle.fd_sheets.specs.Reading.{HasRead, HasTaken, IsFed, IsStop, ReadOn, is_end, is_unread};
 
 use crate::buffers::Buffers;
 use crate::names::Names;
+use crate::opened::Opened;
 use crate::rounds::Rounds;
 use crate::sheets::{Sheet, Unsplit, find_digests, look_up_all, take_sheets};
 use fd_bytes::{Bytes, NoMemory};
@@ -25,9 +26,9 @@ use std::thread::Threads;
 /// Where a reader stops for a while.
 #[derive(Clone, Copy)]
 pub enum Reach {
-    /// So many messages were read that they are handed on.
+    /// So many fields were read that they are handed on.
     Full,
-    /// No more is read before a message was dealt that has no place, or whose dataset isn't known yet.
+    /// No more is read before a field was dealt that has no place, or whose dataset isn't known yet.
     Dealing,
     /// The input is at its end.
     End,
@@ -45,7 +46,7 @@ impl Reach {
         }
     }
 
-    /// So many messages were read that they are handed on.
+    /// So many fields were read that they are handed on.
     pub fn is_full(&self) -> bool {
         match self {
             Reach::Full => true,
@@ -62,59 +63,66 @@ pub enum Stop<X> {
     Input(X),
     /// What comes next is no GRIB 2 message.
     Message(BadAt),
+    /// The field of this number of the message of this number, which comes next and has several, lacks a bit map.
+    NoMap { number: u64, field: u32 },
     /// The input is longer than an input may be.
     InputLimit,
     /// An allocation was refused.
     NoMemory,
 }
 
-/// Messages that were read, and why the reader stopped behind them.
+/// Fields that were read, and why the reader stopped behind them.
 #[derive(Drop)]
 pub struct Batch<X> {
     pub sheets: Vec<Sheet>,
     pub end: Result<Reach, Stop<X>>,
 }
 
-/// What reads an input: it splits its messages off, and finds their places.
+/// What reads an input: it splits its messages into their fields, and finds the places of these.
 #[derive(Drop)]
 pub struct Reader {
     splitter: Splitter,
+    opened: Opened,
     piece: Vec<u8>,
     total: u64,
+    fields: u64,
     rounds: Rounds,
     buffers: Buffers,
 }
 
-// Why no message comes, as a reader tells it.
+// Why no field comes, as a reader tells it.
 fn stopped<X>(end: Unsplit) -> Stop<X>
     ensures { IsStop end result }
 {
     match end {
         Unsplit::Message(at) => Stop::Message(at),
+        Unsplit::NoMap { number, field } => Stop::NoMap { number, field },
         Unsplit::NoMemory => Stop::NoMemory,
     }
 }
 
 impl Model for Reader {
-    ghost use Rattle.std.specs.Prelude.{◌≡◌, ◌≤◌, vec_len};
-    ghost use Rattle.fd_sections.specs.Progress.{Progress};
+    ghost use Rattle.std.specs.Prelude.{◌≡◌, ◌≤◌, ◌<◌, ◌+◌, ◌*◌, length, vec_len};
+    ghost use Rattle.fd_outcome.specs.Positions.{Position};
 
-    ghost Value = { Progress };
+    ghost Value = { Position };
 
-    ghost view = { λ r. r.splitter };
+    ghost view = { λ r. record { split = r.splitter; rest = r.opened; count = r.fields } };
 
-    ghost invariant = { λ r. (r.splitter.fed ≡ r.total) × (r.total ≤ 68719476736) × (vec_len r.piece ≡ 65536) };
+    ghost invariant = { λ r. (r.splitter.fed ≡ r.total) × (r.total ≤ 68719476736) × (vec_len r.piece ≡ 65536) × (16 * r.fields + (length r.splitter.rest + 16 * length r.opened) ≤ r.total) × (0 < length r.opened → 1 ≤ r.splitter.given) };
 }
 
 impl Reader {
     /// Nothing was read.
     pub fn new(alloc: Global) -> Result<Reader, NoMemory>
-        ensures { IfOk result (λ r. r ≡ start) }
+        ensures { IfOk result (λ r. r ≡ at_message start 0) }
     {
         Ok(Reader {
             splitter: Splitter::new(alloc)?,
+            opened: Opened::new(alloc),
             piece: new_buffer(alloc)?,
             total: 0,
+            fields: 0,
             rounds: Rounds::new(),
             buffers: Buffers::new(alloc),
         })
@@ -127,13 +135,13 @@ impl Reader {
         self.buffers.keep(bytes);
     }
 
-    /// Ends the input: how many messages were read and how many octets skipped, or which message is cut.
+    /// Ends the input: how many fields were read and how many octets skipped, or which message is cut.
     pub fn finish(self) -> Result<(u64, u64), Truncated>
-        requires { IsWaiting self }
-        ensures ok { IfOk result (λ r. (r.0 ≡ self.given) × (Ok r.1 ≡ finished self (first self.rest))) }
-        ensures err { IfErr result (λ t. Err t ≡ finished self (first self.rest)) }
+        requires { IsIdle self }
+        ensures ok { IfOk result (λ r. (r.0 ≡ self.count) × (Ok r.1 ≡ finished self.split (first self.split.rest))) }
+        ensures err { IfErr result (λ t. Err t ≡ finished self.split (first self.split.rest)) }
     {
-        let fields = self.splitter.given();
+        let fields = self.fields;
         match self.splitter.finish() {
             Ok(junk) => Ok((fields, junk)),
             Err(cut) => Err(cut),
@@ -142,9 +150,9 @@ impl Reader {
 
     // Reads a piece, where the input isn't at its end.
     fn read<X, I: Source<X>>(&mut self, input: &mut I) -> Result<bool, Stop<X>>
-        requires waits { IsWaiting self.old }
+        requires waits { IsIdle self.old }
         ensures fed { IsFed self.old self.new (I.left input.old) (I.left input.new) result }
-        ensures few { self.new.fed ≤ 68719476736 }
+        ensures few { self.new.split.fed ≤ 68719476736 }
         ensures calm { OnOk result (I.faults input.new ≡ I.faults input.old) }
         ensures read { IfErr result (λ e. is_unread e ≡ true → Rose (I.faults input.old) (I.faults input.new)) }
         ensures quiet { IfErr result (λ e. is_unread e ≡ false → I.faults input.new ≡ I.faults input.old) }
@@ -168,7 +176,7 @@ impl Reader {
         Ok(true)
     }
 
-    // Takes the messages that are whole, with their places, and tells whether something is to be done before more is read.
+    // Takes the fields that are whole, with their places, and tells whether something is to be done before more is read.
     fn take<X, R: Threads + Sync>(
         &mut self,
         rt: &R,
@@ -181,17 +189,19 @@ impl Reader {
     ) -> Result<Option<Reach>, Stop<X>>
         requires schema { IsSchema schema.now }
         requires workers { 0 < workers }
-        ensures few { self.old.fed ≤ 68719476736 }
+        ensures few { self.old.split.fed ≤ 68719476736 }
         ensures takes { HasTaken schema.now given.now names.now.texts.items self.old self.new sheets.old.items sheets.new.items result }
     {
         let mut fresh = Vec::new(alloc);
         let taken = take_sheets(
             alloc,
             &mut self.splitter,
+            &mut self.opened,
             &mut self.buffers,
             &mut self.rounds,
             &mut fresh,
         );
+        self.fields += fresh.len() as u64;
         look_up_all(rt, alloc, schema, given, workers, &mut fresh);
         let are_known = names.know_all(&fresh);
         match sheets.append(&mut fresh) {
@@ -211,7 +221,7 @@ impl Reader {
         }
     }
 
-    // Takes messages and reads on, until something is to be done before more is read.
+    // Takes fields and reads on, until something is to be done before more is read.
     fn fill<X, I: Source<X>, R: Threads + Sync>(
         &mut self,
         rt: &R,
@@ -249,9 +259,9 @@ impl Reader {
     }
 }
 
-/// Reads messages with their places and their digests, which so many threads look for. It stops behind 1,024 messages or 4 MiB, and
-/// where a message has no place, or its dataset isn't one of these: so where a read fails, each message that was read before has a
-/// place in one of these datasets. (What is lent for writing comes last, as a closure wants it.)
+/// Reads fields with their places and their digests, which so many threads look for. It stops behind 1,024 fields or 4 MiB, also where
+/// others of the same message are still to come, and where a field has no place, or its dataset isn't one of these: so where a read
+/// fails, each field that was read before has a place in one of these datasets. (What is lent for writing comes last, as a closure wants it.)
 pub fn read_on<X, I: Source<X>, R: Threads + Sync>(
     rt: &R,
     alloc: Global,

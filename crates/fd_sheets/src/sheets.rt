@@ -1,15 +1,20 @@
-//! Sheets: the messages that are whole in what was read, each with the place that was looked for.
-ghost use Rattle.std.specs.Prelude.{◌≡◌, ◌<◌, ◌≤◌, ℕ, All, [], length, slice_index_or};
-ghost use Rattle.fd_sections.specs.Parts.{IsWhole, sections_of};
+//! Sheets: the fields of the messages that are whole in what was read, each with the place that was looked for.
+ghost use Rattle.std.specs.Prelude.{◌≡◌, ◌<◌, ◌≤◌, ◌+◌, ◌*◌, ℕ, All, [], length, slice_index_or, false};
+ghost use Rattle.fd_sections.specs.Parts.{sections_of};
+ghost use Rattle.fd_split.specs.Reading.{reading_fields};
 ghost use Rattle.fd_schema.specs.Grammar.{IsSchema};
-ghost use Rattle.fd_sheets.specs.Sheets.{FoundAs, IsLookedUp, IsReadable, Next, Took};
+ghost use Rattle.fd_sheets.specs.Opened.{Repeats};
+ghost use Rattle.fd_sheets.specs.Sheets.{FoundAs, IsLookedUp, IsOpen, IsReadable, IsUnsplit, Next, Shrinks, Took, TookMessage, TookOne, standing};
 
 use crate::buffers::Buffers;
+use crate::opened::{Opened, put_sheet};
 use crate::rounds::Rounds;
+use fd_bytes::NoMemory;
 use fd_key::{Given, KeyFault, key_of};
 use fd_schema::{Place, PlaceFault, Schema};
-use fd_sections::{BadAt, Message, Splitter, message};
+use fd_sections::{Bad, BadAt, Message, Splitter, message};
 use fd_segment::Field;
+use fd_split::SplitFault;
 use std::alloc::Global;
 use std::thread;
 use std::thread::Threads;
@@ -17,8 +22,8 @@ use std::thread::Threads;
 /// From how many sheets on their places are looked for in several threads.
 const ENOUGH_SHEETS: usize = 64;
 
-/// A message of the input, with its number and that of its round, from 1, and its place, once that was looked for. Its bytes have their
-/// digest before they are handed on.
+/// A field of the input, as a message of its own, with the number of its message and that of its round, from 1, and its place, once that
+/// was looked for. Its bytes have their digest before they are handed on.
 #[derive(Drop)]
 pub struct Sheet {
     pub number: u64,
@@ -27,7 +32,7 @@ pub struct Sheet {
     pub found: Option<Result<Place, Unplaced>>,
 }
 
-/// Why a message has no place.
+/// Why a field has no place.
 #[derive(Drop)]
 pub enum Unplaced {
     /// It has no key, for this reason.
@@ -38,77 +43,190 @@ pub enum Unplaced {
     NoMemory,
 }
 
-/// Why no message comes.
+/// Why no field comes.
 #[derive(Drop)]
 pub(crate) enum Unsplit {
     /// What comes is no GRIB 2 message.
     Message(BadAt),
+    /// A field of this message lacks a bit map.
+    NoMap { number: u64, field: u32 },
     /// An allocation was refused.
     NoMemory,
 }
 
-// The next message, if one is whole.
-fn next_sheet(
-    alloc: Global,
-    splitter: &mut Splitter,
-    buffers: &mut Buffers,
-    rounds: &mut Rounds,
-) -> Result<Option<Sheet>, Unsplit>
-    requires fed { splitter.old.fed ≤ 68719476736 }
-    ensures next { Next splitter.old splitter.new result }
-    ensures fed { splitter.new.fed ≡ splitter.old.fed }
+// Why message n isn't split into its fields.
+fn why_unsplit(number: u64, fault: SplitFault) -> Unsplit
+    ensures { IsUnsplit number fault result }
 {
-    let number = splitter.given() + 1;
-    match splitter.next() {
-        Ok(None) => Ok(None),
-        Ok(Some(message)) => match buffers.copied(alloc, message.bytes()) {
-            Ok(bytes) => {
-                let round = rounds.number();
-                rounds.count(message.bytes().len() as u64);
-                Ok(Some(Sheet {
-                    number,
-                    round,
-                    bytes: Field::new(bytes),
-                    found: None,
-                }))
-            }
-            Err(_) => Err(Unsplit::NoMemory),
-        },
-        Err(at) => Err(Unsplit::Message(at)),
+    match fault {
+        SplitFault::Bad(bad) => Unsplit::Message(BadAt { number, bad }),
+        SplitFault::NoMap { field } => Unsplit::NoMap { number, field },
+        SplitFault::NoMemory => Unsplit::NoMemory,
     }
 }
 
-/// Takes the messages that are whole, as many as are handed on at once, and tells whether there are so many; or why none comes behind
-/// them.
-pub(crate) fn take_sheets(
+// Takes a message of a single field, whose octets are these.
+fn take_single(
     alloc: Global,
-    splitter: &mut Splitter,
+    number: u64,
+    octets: &[u8],
     buffers: &mut Buffers,
     rounds: &mut Rounds,
     sheets: &mut Vec<Sheet>,
-) -> Result<bool, Unsplit>
-    requires fed { splitter.old.fed ≤ 68719476736 }
-    requires none { sheets.old.items ≡ [] }
-    ensures took { Took splitter.old splitter.new sheets.new.items result }
-    ensures fed { splitter.new.fed ≡ splitter.old.fed }
+) -> Result<(), NoMemory>
+    ensures { TookOne number octets.now sheets.old.items sheets.new.items result }
 {
-    'messages: loop {
-        match next_sheet(alloc, splitter, buffers, rounds) {
-            Ok(Some(sheet)) => match sheets.push(sheet) {
-                Ok(()) => {
-                    if rounds.is_full() {
-                        return Ok(true);
-                    }
-                }
-                Err(_) => return Err(Unsplit::NoMemory),
-            },
-            Ok(None) => return Ok(false),
-            Err(fault) => return Err(fault),
+    let bytes = buffers.copied(alloc, octets)?;
+    put_sheet(number, bytes, rounds, sheets)
+}
+
+// Opens a message of several fields, whose octets are these, and takes fields of it.
+fn take_opened(
+    alloc: Global,
+    number: u64,
+    octets: &[u8],
+    opened: &mut Opened,
+    rounds: &mut Rounds,
+    sheets: &mut Vec<Sheet>,
+) -> Result<(), Unsplit>
+    requires idle { opened.old ≡ [] }
+    ensures took { TookMessage number (reading_fields octets.now) opened.new sheets.old.items sheets.new.items result }
+    ensures room { 16 * length sheets.new.items + 16 * length opened.new ≤ 16 * length sheets.old.items + length octets.now }
+{
+    match Opened::of(alloc, octets) {
+        Ok(message) => *opened = message,
+        Err(fault) => return Err(why_unsplit(number, fault)),
+    }
+    match opened.take(alloc, number, rounds, sheets) {
+        Ok(()) => Ok(()),
+        Err(_) => Err(Unsplit::NoMemory),
+    }
+}
+
+// It is no message since its sections are repeated.
+fn is_repeated(bad: Bad) -> bool
+    ensures { result ≡ false → Repeats bad → ⊥ }
+{
+    match bad {
+        Bad::MultiField { section: _ } => true,
+        _ => false,
+    }
+}
+
+// Takes fields of the message with these octets: its single one as it came.
+fn take_message(
+    alloc: Global,
+    number: u64,
+    octets: &[u8],
+    opened: &mut Opened,
+    buffers: &mut Buffers,
+    rounds: &mut Rounds,
+    sheets: &mut Vec<Sheet>,
+) -> Result<(), Unsplit>
+    requires idle { opened.old ≡ [] }
+    requires limit { length octets.now ≤ 134217728 }
+    requires some { 16 ≤ length octets.now }
+    ensures took { TookMessage number (reading_fields octets.now) opened.new sheets.old.items sheets.new.items result }
+    ensures room { 16 * length sheets.new.items + 16 * length opened.new ≤ 16 * length sheets.old.items + length octets.now }
+{
+    match message(octets) {
+        Ok(_) => match take_single(alloc, number, octets, buffers, rounds, sheets) {
+            Ok(()) => Ok(()),
+            Err(_) => Err(Unsplit::NoMemory),
+        },
+        Err(bad) => {
+            if is_repeated(bad) {
+                take_opened(alloc, number, octets, opened, rounds, sheets)
+            } else {
+                Err(Unsplit::Message(BadAt { number, bad }))
+            }
         }
     }
 }
 
-// The place of a message.
+// Takes fields of the next message, if one is whole, and tells whether one was.
+fn next_message(
+    alloc: Global,
+    splitter: &mut Splitter,
+    opened: &mut Opened,
+    buffers: &mut Buffers,
+    rounds: &mut Rounds,
+    sheets: &mut Vec<Sheet>,
+) -> Result<bool, Unsplit>
+    requires idle { opened.old ≡ [] }
+    ensures next { (n : ℕ) → Next (standing splitter.old [] n) splitter.new opened.new sheets.old.items sheets.new.items result }
+    ensures room { Shrinks splitter.old [] sheets.old.items splitter.new opened.new sheets.new.items }
+    ensures is_open { IsOpen splitter.new opened.new }
+    ensures fed { splitter.new.fed ≡ splitter.old.fed }
+{
+    let number = splitter.given() + 1;
+    match splitter.next_frame() {
+        Ok(None) => Ok(false),
+        Ok(Some(octets)) => {
+            match take_message(alloc, number, octets, opened, buffers, rounds, sheets) {
+                Ok(()) => Ok(true),
+                Err(end) => Err(end),
+            }
+        }
+        Err(at) => Err(Unsplit::Message(at)),
+    }
+}
+
+// Takes fields that are to come of the message that is open, or else of the next one, if one is whole, and tells whether it took some.
+fn take_more(
+    alloc: Global,
+    splitter: &mut Splitter,
+    opened: &mut Opened,
+    buffers: &mut Buffers,
+    rounds: &mut Rounds,
+    sheets: &mut Vec<Sheet>,
+) -> Result<bool, Unsplit>
+    requires is_open { IsOpen splitter.old opened.old }
+    ensures next { (n : ℕ) → Next (standing splitter.old opened.old n) splitter.new opened.new sheets.old.items sheets.new.items result }
+    ensures room { Shrinks splitter.old opened.old sheets.old.items splitter.new opened.new sheets.new.items }
+    ensures is_open { IsOpen splitter.new opened.new }
+    ensures fed { splitter.new.fed ≡ splitter.old.fed }
+{
+    if opened.has_more() {
+        return match opened.take(alloc, splitter.given(), rounds, sheets) {
+            Ok(()) => Ok(true),
+            Err(_) => Err(Unsplit::NoMemory),
+        };
+    }
+    next_message(alloc, splitter, opened, buffers, rounds, sheets)
+}
+
+/// Takes the fields of the messages that are whole, as many as are handed on at once, and tells whether there are so many; or why none
+/// comes behind them. Those of a message that are more than are handed on at once are still to come.
+pub(crate) fn take_sheets(
+    alloc: Global,
+    splitter: &mut Splitter,
+    opened: &mut Opened,
+    buffers: &mut Buffers,
+    rounds: &mut Rounds,
+    sheets: &mut Vec<Sheet>,
+) -> Result<bool, Unsplit>
+    requires is_open { IsOpen splitter.old opened.old }
+    requires none { sheets.old.items ≡ [] }
+    ensures took { (n : ℕ) → Took (standing splitter.old opened.old n) splitter.new opened.new sheets.new.items result }
+    ensures room { Shrinks splitter.old opened.old sheets.old.items splitter.new opened.new sheets.new.items }
+    ensures is_open { IsOpen splitter.new opened.new }
+    ensures fed { splitter.new.fed ≡ splitter.old.fed }
+{
+    'fields: loop {
+        match take_more(alloc, splitter, opened, buffers, rounds, sheets) {
+            Ok(true) => {
+                if rounds.is_full() {
+                    return Ok(true);
+                }
+            }
+            Ok(false) => return Ok(false),
+            Err(end) => return Err(end),
+        }
+    }
+}
+
+// The place of a field.
 fn placed(
     alloc: Global,
     schema: &Schema,

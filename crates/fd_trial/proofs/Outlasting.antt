@@ -18,7 +18,7 @@ use Rattle.fd_outcome.specs.Told.{Told, ToldOrNoMemory}
 use Rattle.fd_outcome.specs.Trying.{trial_given, trial_rules, trial_schema}
 use Rattle.fd_outcome.proofs.Exits.{is_whole}
 use Rattle.fd_retrieve.specs.Looking.{IsLookedThrough}
-use Rattle.fd_retrieve.specs.Stops.{ToldSome}
+use Rattle.fd_telling.specs.Stops.{ToldSome}
 use Rattle.fd_bulk.specs.Archived.{IsFront}
 use Rattle.fd_bulk.specs.declared.bulk.Bulk.{Bulk}
 use Rattle.fd_bulk.specs.declared.bulk.BulkFault.{BulkFault}
@@ -77,7 +77,7 @@ module _ (workers count : ℕ) (rules : List Rule) (mid : Option Holdings) where
   asked_outlasts result j now left b w looks =
       through mid j now (Firm T.stored) IsLookedThrough (OutlastsTrial result workers count (Ok rules))
       (λ m k i x l. ((λ e. firm_looked workers m k i l T.stored x.0 x.1.0), firmly_looked workers m k i l (pairs_for T.stored) (grows_of workers T.stored m k x.0) x.1.1))
-      (subst (λ ss. WhereTold mid j (Firm ss)) (sym (ap (λ (t : Taken). t.stored) w.taken_is))
+      (subst (λ ss. WhereTold mid j (Firm ss)) (sym w.taken_is.stored)
       (both_told mid j (GrowsBy workers (pairs_for w.all)) (λ m k. IsFirm workers w.all m k × GrowsFirmly workers (pairs_for w.all) m k) (Firm w.all) (λ m k p q. (p, q)) w.grows
       (both_told mid j (IsFirm workers w.all) (GrowsFirmly workers (pairs_for w.all)) (λ m k. IsFirm workers w.all m k × GrowsFirmly workers (pairs_for w.all) m k) (λ m k p q. (p, q)) w.firm w.firmly)))
       looks
@@ -94,6 +94,7 @@ module _ (workers count : ℕ) (rules : List Rule) (mid : Option Holdings) where
       kept_firmly : (fault : BulkFault X) → InputKept workers rules trial_given (Some (generated_messages count)) left mid now (Err fault) → WhereTold mid now (GrowsFirmly workers (pairs_for T.stored))
       kept_firmly (faults.Input f) w = front_firmly w.all w.read.front w.firmly
       kept_firmly (faults.Message at) w = refused_firmly (faults.Message at) w
+      kept_firmly (faults.NoMap number field) w = refused_firmly (faults.NoMap number field) w
       kept_firmly (faults.Cut t) w = refused_firmly (faults.Cut t) w
       kept_firmly (faults.Key number fault) w = refused_firmly (faults.Key number fault) w
       kept_firmly (faults.NoRule number text) w = refused_firmly (faults.NoRule number text) w
@@ -136,6 +137,7 @@ module _ (result : Status) (c d : Option (List ℕ)) (m n : ℕ) where
   unstored_undone : {X : Type 0} (fault : BulkFault X) → ToldUnstored fault result c d m n → result ≡ Done → ⊥
   unstored_undone (faults.Input f) told = undone statuses.NoMemory _ refl told
   unstored_undone (faults.Message at) told = refusal_undone told.0 told.2
+  unstored_undone (faults.NoMap number field) told = refusal_undone (refusals.NoMap number field) told
   unstored_undone (faults.Cut t) told = refusal_undone (refusals.Cut t) told
   unstored_undone (faults.Key number fault) told = refusal_undone (refusals.Key number fault) told
   unstored_undone (faults.NoRule number text) told = or_undone statuses.Refused _ refl told

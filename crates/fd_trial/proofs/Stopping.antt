@@ -24,12 +24,13 @@ use Rattle.fd_outcome.specs.Store.{Grows, GrowsBy, IsFull, Stands, Stays}
 use Rattle.fd_outcome.specs.Told.{ToldOrNoMemory}
 use Rattle.fd_outcome.specs.Trying.{trial_given, trial_rules}
 use Rattle.fd_retrieve.specs.Counting.{IsBrokenAmong, IsOfKeys}
-use Rattle.fd_retrieve.specs.declared.stop.Stop.{Stop}
-use Rattle.fd_retrieve.specs.declared.stop.Stop.TheVariants as stops
-use Rattle.fd_retrieve.specs.Stops.{OnDisk, seen_broken}
+use Rattle.fd_telling.specs.declared.stop.Stop.{Stop}
+use Rattle.fd_telling.specs.declared.stop.Stop.TheVariants as stops
+use Rattle.fd_telling.specs.Stops.{OnDisk, seen_broken}
 use Rattle.fd_retrieve.specs.Tables as tables
 use Rattle.fd_bulk.specs.Archived as bulk
-use Rattle.fd_bulk.specs.Archived.{IsFront, refusal_at}
+use Rattle.fd_bulk.specs.Archived.{IsFront}
+use Rattle.fd_outcome.specs.Fields.{refusal_at}
 use Rattle.fd_bulk.specs.declared.bulk.Bulk.{Bulk}
 use Rattle.fd_bulk.specs.declared.bulk.BulkFault.{BulkFault}
 use Rattle.fd_bulk.specs.declared.bulk.BulkFault.TheVariants as faults
@@ -63,6 +64,7 @@ module _ (root : List ℕ) (count workers : ℕ) (start mid now : Option Holding
   asked_stop few places placed long begins stays (stops.Schema number kind) told of broken rose = absurd of
   asked_stop few places placed long begins stays (stops.Request at kind) told of broken rose = absurd of
   asked_stop few places placed long begins stays (stops.NoRule text) told of broken rose = absurd of
+  asked_stop few places placed long begins stays (stops.NoLayer layer text) told of broken rose = absurd of
 
   -- ---- when messages are stored
 
@@ -133,8 +135,9 @@ module _ (root : List ℕ) (count workers : ℕ) (start mid now : Option Holding
       starved_ran root count workers start now sm sn left l a k report result rules
       (since _ planted (where_told mid now _ _ (λ m j g. front_grown w.all w.read.front m j (grows_of workers w.all m j g)) w.grows)) told
   kept_ran (faults.Message at) after planted w told rose =
-      let same : refusal_at (length w.all + 1) at.bad ≡ told.0 = some_refusal _ told.0 (sym (bad_told (length w.all) at.bad) ∙ told.1 false (length w.all) w.numbered) in
+      let same : refusal_at (w.messages + 1) at.bad ≡ told.0 = some_refusal _ told.0 (sym (bad_told w.messages at.bad) ∙ told.1 false w.messages w.numbered) in
       refused_ran (faults.Message at) after planted w (λ cause is. as_cause cause (causes.InStream told.0) (is ∙ ap (λ (n : ℕ). causes.InStream (refusal_at n at.bad)) w.numbered ∙ ap causes.InStream same) told.2)
+  kept_ran (faults.NoMap number field) after planted w told rose = refused_ran (faults.NoMap number field) after planted w (λ cause is. as_cause cause _ is told)
   kept_ran (faults.Cut t) after planted w told rose = refused_ran (faults.Cut t) after planted w (λ cause is. as_cause cause _ is told)
   kept_ran (faults.Key number fault) after planted w told rose = refused_ran (faults.Key number fault) after planted w (λ cause is. as_cause cause _ is told)
   kept_ran (faults.NoRule number text) after planted w told rose =
@@ -153,15 +156,16 @@ module _ (root : List ℕ) (count workers : ℕ) (start mid now : Option Holding
 -- all messages are stored
 pub kept_whole : (count workers : ℕ) (rules : List Rule) (start mid now : Option Holdings) (b : Bulk) (after : Option (List ℕ)) → WhereTold start mid (λ h m. IsPlanted h m × (trial_rules h.schema ≡ Ok rules)) → WholeKept workers rules trial_given (Some (generated_messages count)) after mid now b → Begins workers rules count start now
 kept_whole count workers rules start mid now b after planted w = record {
-  none = ap (λ (t : Taken). t.refusal) w.taken_is;
+  none = w.taken_is.refusal;
   tried = through start mid now _ _ _ (λ h m i x y. record { middle = m; planted = x.0; ruled = x.1; grows = y }) planted
-      (subst (λ ss. WhereTold mid now (GrowsBy workers (pairs_for ss))) (sym (ap (λ (t : Taken). t.stored) w.taken_is)) w.grows);
+      (subst (λ ss. WhereTold mid now (GrowsBy workers (pairs_for ss))) (sym w.taken_is.stored) w.grows);
 }
 
 -- a call of the store failed, counted from before
 pub on_disk : {X : Type 0} (fault : BulkFault X) (P Q : Type 0) → (P → Q) → bulk.OnDisk (Err fault) P → bulk.OnDisk (Err fault) Q
 on_disk (faults.Input f) P Q to p = tt
 on_disk (faults.Message at) P Q to p = tt
+on_disk (faults.NoMap number field) P Q to p = tt
 on_disk (faults.Cut t) P Q to p = tt
 on_disk (faults.Key number fault) P Q to p = tt
 on_disk (faults.NoRule number text) P Q to p = tt

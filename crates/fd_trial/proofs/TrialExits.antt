@@ -31,7 +31,7 @@ use Rattle.fd_outcome.proofs.Exits.{apart, by_cause, cause_told, is_disk_fault, 
 use Rattle.fd_outcome.proofs.Leaving.{grows_none}
 use Rattle.fd_outcome.proofs.Rows as rows
 use Rattle.fd_outcome.proofs.Starved.{within}
-use Rattle.fd_retrieve.specs.Stops.{ToldSome}
+use Rattle.fd_telling.specs.Stops.{ToldSome}
 use Rattle.fd_retrieve.proofs.Staying.{same_at, stands_before}
 use Rattle.fd_trial.specs.Ruling.{IsLeft}
 use Rattle.fd_trial.proofs.Finding.{broken_before}
@@ -41,7 +41,7 @@ use Rattle.fd_trial.proofs.Finding.{broken_before}
 pub never_unruled : (c : Cause) → trial_rules None ≡ Err c → ⊥
 never_unruled c e = go worked.rules (sym rows.every.planted_rules ∙ e) rows.every.taken_one
   where
-    go : (r : Result (List Rule) Cause) → r ≡ Err c → (r then λ rs. Ok (taken rs worked.given worked.field)) ≡ Ok (record { stored = record { dataset = worked.dataset; pair = worked.pair worked.field } ∷ []; refusal = None; junk = 0 }) → ⊥
+    go : (r : Result (List Rule) Cause) → r ≡ Err c → (r then λ rs. Ok (taken rs worked.given worked.field)) ≡ Ok (record { stored = record { dataset = worked.dataset; pair = worked.pair worked.field } ∷ []; refusal = None; junk = 0; next = 2 }) → ⊥
     go (Ok rs) is h = absurd cc
     go (Err d) is h = absurd cc
 

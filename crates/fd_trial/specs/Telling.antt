@@ -7,9 +7,9 @@ use Rattle.fd_outcome.specs.declared.status.Status.TheVariants.{NoMemory}
 use Rattle.fd_bulk.specs.declared.bulk.BulkFault.{BulkFault}
 use Rattle.fd_bulk.specs.declared.bulk.BulkFault.TheVariants as faults
 use Rattle.fd_archive.specs.Telling.{ToldFault}
-use Rattle.fd_retrieve.specs.declared.stop.Stop.{Stop}
-use Rattle.fd_retrieve.specs.declared.stop.Stop.TheVariants as stops
-use Rattle.fd_retrieve.specs.Stops.{ToldStop}
+use Rattle.fd_telling.specs.declared.stop.Stop.{Stop}
+use Rattle.fd_telling.specs.declared.stop.Stop.TheVariants as stops
+use Rattle.fd_telling.specs.Stops.{ToldStop}
 
 -- a message that can't be made is want of memory
 abbrev pub ToldUnstored : {X : Type 0} → BulkFault X → Status → Option (List ℕ) → Option (List ℕ) → ℕ → ℕ → Type 0

@@ -86,7 +86,7 @@ archive_is = record { met = refl; found = refl; name_is = refl; other = refl; le
 trial_is : IsCommand (codes "trial") (codes "workers" ∷ []) (shape_named (codes "trial"))
 trial_is = record { met = refl; found = refl; name_is = refl; other = refl; leaf = record { shape = refl; help = refl; subcommand = refl } }
 
-retrieve_is : IsCommand (codes "retrieve") (codes "workers" ∷ []) (shape_named (codes "retrieve"))
+retrieve_is : IsCommand (codes "retrieve") (codes "workers" ∷ (codes "over" ∷ [])) (shape_named (codes "retrieve"))
 retrieve_is = record { met = refl; found = refl; name_is = refl; other = refl; leaf = record { shape = refl; help = refl; subcommand = refl } }
 
 list_is : IsCommand (codes "list") [] (shape_named (codes "list"))
@@ -98,6 +98,9 @@ axes_is = record { met = refl; found = refl; name_is = refl; other = refl; leaf 
 stats_is : IsCommand (codes "stats") [] (shape_named (codes "stats"))
 stats_is = record { met = refl; found = refl; name_is = refl; other = refl; leaf = record { shape = refl; help = refl; subcommand = refl } }
 
+cubes_is : IsCommand (codes "cubes") [] (shape_named (codes "cubes"))
+cubes_is = record { met = refl; found = refl; name_is = refl; other = refl; leaf = record { shape = refl; help = refl; subcommand = refl } }
+
 purge_is : IsCommand (codes "purge") [] (shape_named (codes "purge"))
 purge_is = record { met = refl; found = refl; name_is = refl; other = refl; leaf = record { shape = refl; help = refl; subcommand = refl } }
 
@@ -108,7 +111,7 @@ session_is : IsCommand (codes "session") [] (shape_named (codes "session"))
 session_is = record { met = refl; found = refl; name_is = refl; other = refl; leaf = record { shape = refl; help = refl; subcommand = refl } }
 
 all_are : AreCommands leaves
-all_are = (pick_is, (describe_is, (values_is, (generate_is, (split_is, (create_is, (retrieve_is, (archive_is, (trial_is, (list_is, (axes_is, (stats_is, (session_is, (purge_is, (wipe_is, tt)))))))))))))))
+all_are = (pick_is, (describe_is, (values_is, (generate_is, (split_is, (create_is, (retrieve_is, (archive_is, (trial_is, (list_is, (axes_is, (stats_is, (cubes_is, (session_is, (purge_is, (wipe_is, tt))))))))))))))))
 
 -- a name among them is that of one, with its options
 abbrev Named : List Leaf → Text → Type 0

@@ -15,9 +15,9 @@ use Rattle.std.specs.Str.{bytes_eq}
 use Rattle.fd_words.specs.Reading.{Text, Said, reading, has_dash, double_dash, AreClean, Tells, alone_of, is_name}
 use Rattle.std.specs.Prelude.{codes}
 use Rattle.fd_key.specs.Pairs.{Pair}
-use Rattle.fd_words.specs.declared.command.Command.TheVariants.{Retrieve}
+use Rattle.fd_words.specs.declared.command.Command.{Command}
 use Rattle.fd_words.specs.Saying.{said, Means}
-use Rattle.fd_words.specs.Words.{archive_of, rooted, command_said, trial_of, values_of, workers_in}
+use Rattle.fd_words.specs.Words.{archive_of, rooted, command_said, retrieve_of, root_of, trial_of, values_of, workers_in}
 use Rattle.fd_words.proofs.CommandLemmas.{IsCommand, command_passes, command_refuses, command_tells, named, nameless}
 use Rattle.fd_words.proofs.LeafLemmas.{bytes_same}
 use Rattle.fd_words.proofs.UnknownLemmas.{no_words, unknown_command}
@@ -102,11 +102,17 @@ archive_rooted name h given workers root = subst (λ n. rooted n given workers r
 
 -- ---- `retrieve`
 
-pub retrieve_named : (name : Text) → bytes_eq name (codes "retrieve") ≡ true → is_name (options_of name) (codes "workers") ≡ true
-retrieve_named name h = subst (λ n. is_name (options_of n) (codes "workers") ≡ true) (sym (bytes_same name (codes "retrieve") h)) refl
+pub retrieve_counts : (name : Text) → bytes_eq name (codes "retrieve") ≡ true → is_name (options_of name) (codes "workers") ≡ true
+retrieve_counts name h = subst (λ n. is_name (options_of n) (codes "workers") ≡ true) (sym (bytes_same name (codes "retrieve") h)) refl
 
-pub retrieve_rooted : (name : Text) → bytes_eq name (codes "retrieve") ≡ true → (given : Option (List Pair)) (workers : Option ℕ) (root : Text) → rooted name given workers root ≡ option_map (Retrieve root) workers
-retrieve_rooted name h given workers root = subst (λ n. rooted n given workers root ≡ option_map (Retrieve root) workers) (sym (bytes_same name (codes "retrieve") h)) refl
+pub retrieve_lays : (name : Text) → bytes_eq name (codes "retrieve") ≡ true → is_name (options_of name) (codes "over") ≡ true
+retrieve_lays name h = subst (λ n. is_name (options_of n) (codes "over") ≡ true) (sym (bytes_same name (codes "retrieve") h)) refl
+
+abbrev pub retrieve_in : Said → Option Command
+retrieve_in s = option_and_then (retrieve_of (workers_in (lookup (bytes_eq (codes "workers")) s.options)) (lookup (bytes_eq (codes "over")) s.options)) (root_of s.alone)
+
+pub retrieve_said : (name : Text) → bytes_eq name (codes "retrieve") ≡ true → (s : Said) → command_said name s ≡ retrieve_in s
+retrieve_said name h s = subst (λ n. command_said n s ≡ retrieve_in s) (sym (bytes_same name (codes "retrieve") h)) refl
 
 -- ---- `values`
 

@@ -1,10 +1,13 @@
 -- What the words of the command line ask for.
-use Rattle.std.specs.Prelude.{ℕ, ◌≤◌, ◌<◌, IfSome, Bool, false, not, ◌==◌, ◌^◌, nat_lt, ◌&&◌, length, List, [], ◌∷◌, codes, Option, Some, None, unwrap_or, option_and_then, option_map, is_some, ◌||◌, if◌then◌else◌, Result, Ok, Err}
+use Rattle.std.specs.Prelude.{ℕ, ◌≤◌, ◌<◌, ◌≡◌, IfSome, Bool, false, not, ◌==◌, ◌^◌, nat_lt, ◌&&◌, length, List, [], ◌∷◌, codes, Option, Some, None, unwrap_or, option_and_then, option_map, is_some, ◌||◌, if◌then◌else◌, Result, Ok, Err}
 use Rattle.std.specs.Str.{bytes_eq}
+use Rattle.std.specs.List.{All}
 use Rattle.std.specs.Map.{lookup}
 use Rattle.fd_key.specs.Pairs.{Pair, text_of}
 use Rattle.fd_spelling.specs.Canonical.{pair_of}
 use Rattle.fd_key.specs.Given.{Refusal, given_of}
+use Rattle.fd_request.specs.Spelled.{AreValues}
+use Rattle.fd_spelling.specs.Pieces.{pieces}
 use Rattle.fd_script.specs.Grammar.{is_dataset}
 use Rattle.fd_words.specs.declared.command.Command.{Command}
 use Rattle.fd_words.specs.declared.command.Command.TheVariants as commands
@@ -88,6 +91,26 @@ given_read text = if nat_lt (length text) (2 ^ 31) then if_given (given_of text)
 abbrev pub given_in : Option Text → Option (List Pair)
 given_in option = given_read (unwrap_or option [])
 
+abbrev pub unless_empty : List Pair → Option (List Pair)
+unless_empty [] = None
+unless_empty (p ∷ ps) = Some (p ∷ ps)
+
+-- the pairs of a layer, of which there is at least one
+abbrev pub layer_read : Text → Option (List Pair)
+layer_read text = option_and_then unless_empty (given_read text)
+
+abbrev pub layer_before : List Pair → Option (List (List Pair)) → Option (List (List Pair))
+layer_before layer others = option_map (λ ls. layer ∷ ls) others
+
+-- the layers that texts are, where each is one
+abbrev pub all_layers : List Text → Option (List (List Pair))
+all_layers [] = Some []
+all_layers (text ∷ texts) = option_and_then (λ layer. layer_before layer (all_layers texts)) (layer_read text)
+
+-- the layers of `--over`, the nearest first: one to seven, with slashes between them
+abbrev pub layers_read : Text → Option (List (List Pair))
+layers_read text = if nat_lt 7 (length (pieces 47 text)) then None else all_layers (pieces 47 text)
+
 -- the number of `--workers`; without the option it is 1
 abbrev pub workers_in : Option Text → Option ℕ
 workers_in None = Some 1
@@ -99,6 +122,7 @@ listing_of name root =
     if bytes_eq name (codes "list") then Some (commands.List root)
     else if bytes_eq name (codes "axes") then Some (commands.Axes root)
     else if bytes_eq name (codes "stats") then Some (commands.Stats root)
+    else if bytes_eq name (codes "cubes") then Some (commands.Cubes root)
     else if bytes_eq name (codes "session") then Some (commands.Session root)
     else None
 
@@ -131,12 +155,16 @@ purge_of words = option_map (λ p. commands.Purge p.0 p.1) (root_and_dataset wor
 abbrev pub wipe_of : List Text → Option Command
 wipe_of words = option_map (λ p. commands.Wipe p.0 p.1) (root_and_dataset words)
 
+-- `retrieve` by so many workers, over layers where it has them, and where both have their form
+abbrev pub retrieve_of : Option ℕ → Option Text → Text → Option Command
+retrieve_of workers None root = option_map (commands.Retrieve root) workers
+retrieve_of workers (Some text) root = option_and_then (λ layers. option_map (commands.RetrieveOver root layers) workers) (layers_read text)
+
 -- The commands that have a root. A command has its line here, and its words their form, once it is written.
 abbrev pub rooted : Text → Option (List Pair) → Option ℕ → Text → Option Command
 rooted name given workers root =
     if bytes_eq name (codes "create") then Some (commands.Create root)
     else if bytes_eq name (codes "archive") then archive_of root given workers
-    else if bytes_eq name (codes "retrieve") then option_map (commands.Retrieve root) workers
     else listing_of name root
 
 -- the command of that name, where the words behind it say this
@@ -147,6 +175,7 @@ command_said name s =
     else if bytes_eq name (codes "values") then values_of s.alone (lookup (bytes_eq (codes "decimals")) s.options)
     else if bytes_eq name (codes "generate") then generate_of s.alone
     else if bytes_eq name (codes "trial") then trial_of s.alone (workers_in (lookup (bytes_eq (codes "workers")) s.options))
+    else if bytes_eq name (codes "retrieve") then option_and_then (retrieve_of (workers_in (lookup (bytes_eq (codes "workers")) s.options)) (lookup (bytes_eq (codes "over")) s.options)) (root_of s.alone)
     else if bytes_eq name (codes "split") then split_of s.alone
     else if bytes_eq name (codes "purge") then purge_of s.alone
     else if bytes_eq name (codes "wipe") then wipe_of s.alone
@@ -156,6 +185,16 @@ command_said name s =
 -- once, as `--name value` or `--name=value`, and the words that stand alone, in any order.
 abbrev pub command_of : List Text → Option Command
 command_of words = option_and_then (λ p. command_said p.0 p.1) (said words)
+
+-- a layer has at least one pair, and its texts are values
+abbrev pub IsLayer : List Pair → Type 0
+IsLayer layer = (1 ≤ length layer) × AreValues layer
+
+-- there are one to seven layers
+pub record AreLayers (layers : List (List Pair)) : Type 0 where
+  pub some : 1 ≤ length layers
+  pub few : length layers ≤ 7
+  pub each : All IsLayer layers
 
 -- a command asks for at most 30 decimals, for 1 to 100,000 messages, and for 1 to 8 workers
 abbrev pub IsWithinLimits : Command → Type 0
@@ -167,9 +206,11 @@ IsWithinLimits commands.Split = Unit {0}
 IsWithinLimits (commands.Create root) = Unit {0}
 IsWithinLimits (commands.Archive root given workers) = (1 ≤ workers) × (workers ≤ 8)
 IsWithinLimits (commands.Retrieve root workers) = (1 ≤ workers) × (workers ≤ 8)
+IsWithinLimits (commands.RetrieveOver root layers workers) = ((1 ≤ workers) × (workers ≤ 8)) × AreLayers layers
 IsWithinLimits (commands.List root) = Unit {0}
 IsWithinLimits (commands.Axes root) = Unit {0}
 IsWithinLimits (commands.Stats root) = Unit {0}
+IsWithinLimits (commands.Cubes root) = Unit {0}
 IsWithinLimits (commands.Session root) = Unit {0}
 IsWithinLimits (commands.Purge root dataset) = Unit {0}
 IsWithinLimits (commands.Wipe root dataset) = Unit {0}

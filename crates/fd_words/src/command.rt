@@ -1,4 +1,4 @@
-ghost use Rattle.std.specs.Prelude.{◌≡◌, ◌≤◌, codes, IfOk, IfSome, option_map};
+ghost use Rattle.std.specs.Prelude.{◌≡◌, ◌≤◌, codes, IfOk, IfSome, option_and_then};
 ghost use Rattle.std.specs.Str.{bytes_eq};
 ghost use Rattle.std.specs.Map.{lookup};
 ghost use Rattle.std.specs.Option.{option_copied};
@@ -6,10 +6,10 @@ ghost use Rattle.clap.specs.Words.{rows_of, found_of};
 ghost use Rattle.fd_words.specs.Texts.{texts};
 ghost use Rattle.fd_words.specs.Reading.{Said, Tells};
 ghost use Rattle.fd_words.specs.Grammar.{options_of};
-ghost use Rattle.fd_words.specs.declared.command.Command.TheVariants.{Retrieve};
-ghost use Rattle.fd_words.specs.Words.{archive_of, command_of, command_said, listing_of, rooted, wanted_pairs, pick_of, describe_of, values_of, is_root, root_of, given_in, given_read, workers_in, IsWithinLimits, generate_of, trial_of, split_of, root_and_dataset, purge_of, wipe_of};
+ghost use Rattle.fd_words.specs.Words.{archive_of, command_of, command_said, listing_of, rooted, wanted_pairs, pick_of, describe_of, values_of, is_root, root_of, given_in, given_read, workers_in, IsWithinLimits, generate_of, trial_of, split_of, retrieve_of, root_and_dataset, purge_of, wipe_of};
 
 use crate::dataset::Dataset;
+use crate::layers::{Layers, layers_read};
 use crate::numbers::{count_number, decimals_number, worker_number};
 use crate::parse::{alone, option_text, parse};
 use crate::root::Root;
@@ -37,12 +37,16 @@ pub enum Command {
     Archive(Root, Given, u32),
     /// The stored messages of a request, which so many workers look for.
     Retrieve(Root, u32),
+    /// The same, each out of the nearest of its dataset and the datasets under it that has it: those of its key with each layer's values.
+    RetrieveOver(Root, Layers, u32),
     /// A line for each stored key.
     List(Root),
     /// A line for the values of each name.
     Axes(Root),
     /// A line for each dataset.
     Stats(Root),
+    /// Requests that name exactly the keys that are asked for.
+    Cubes(Root),
     /// The lanes of a script, side by side.
     Session(Root),
     /// To store so many messages that are made up, and to look for them, by so many workers.
@@ -109,6 +113,14 @@ fn command_with(
     if name == "trial" {
         return trial_command(alloc, words, option_text(own, "workers"));
     }
+    if name == "retrieve" {
+        return retrieve_command(
+            alloc,
+            words,
+            option_text(own, "workers"),
+            option_text(own, "over"),
+        );
+    }
     if name == "split" {
         return Ok(split_command(words));
     }
@@ -145,9 +157,6 @@ fn rooted(
             option_text(own, "workers"),
         );
     }
-    if name == "retrieve" {
-        return Ok(retrieve_command(root, option_text(own, "workers")));
-    }
     Ok(listing_of(name, root))
 }
 
@@ -164,6 +173,9 @@ fn listing_of(name: &str, root: Root) -> Option<Command>
     }
     if name == "stats" {
         return Some(Command::Stats(root));
+    }
+    if name == "cubes" {
+        return Some(Command::Cubes(root));
     }
     if name == "session" {
         return Some(Command::Session(root));
@@ -194,14 +206,28 @@ fn archive_command(
     }
 }
 
-/// `retrieve` with the text of its option, if it has one.
-fn retrieve_command(root: Root, workers: Option<&str>) -> Option<Command>
-    ensures command { result ≡ option_map (Retrieve root) (workers_in (option_copied workers.entry)) }
-    ensures within { IfSome result IsWithinLimits }
+/// `retrieve` with the texts of its options, as far as it has them.
+fn retrieve_command(
+    alloc: Global,
+    words: &[&str],
+    workers: Option<&str>,
+    over: Option<&str>,
+) -> Result<Option<Command>, NoMemory>
+    ensures command { IfOk result (λ o. o ≡ option_and_then (retrieve_of (workers_in (option_copied workers.entry)) (option_copied over.entry)) (root_of (texts words.now))) }
+    ensures within { IfOk result (λ o. IfSome o IsWithinLimits) }
 {
-    match workers_in(workers) {
-        Some(workers) => Some(Command::Retrieve(root, workers)),
-        None => None,
+    let Some(root) = root_in(alloc, words)? else {
+        return Ok(None);
+    };
+    let Some(workers) = workers_in(workers) else {
+        return Ok(None);
+    };
+    match over {
+        None => Ok(Some(Command::Retrieve(root, workers))),
+        Some(text) => match layers_read(alloc, text)? {
+            Some(layers) => Ok(Some(Command::RetrieveOver(root, layers, workers))),
+            None => Ok(None),
+        },
     }
 }
 
@@ -241,7 +267,7 @@ fn workers_in(option: Option<&str>) -> Option<u32>
 }
 
 /// The pairs that a word gives.
-fn given_read(alloc: Global, text: &str) -> Result<Option<Given>, NoMemory>
+pub(crate) fn given_read(alloc: Global, text: &str) -> Result<Option<Given>, NoMemory>
     ensures { IfOk result (λ o. o ≡ given_read text.now) }
 {
     if text.len() >= 0x8000_0000 {

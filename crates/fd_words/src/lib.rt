@@ -4,6 +4,7 @@
 mod app;
 mod command;
 mod dataset;
+mod layers;
 mod numbers;
 mod parse;
 mod root;
@@ -11,5 +12,6 @@ mod wanted;
 
 pub use command::{Command, read_command};
 pub use dataset::Dataset;
+pub use layers::Layers;
 pub use root::Root;
 pub use wanted::Wanted;

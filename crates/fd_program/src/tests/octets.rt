@@ -29,6 +29,8 @@ pub(super) enum Part {
     At(usize, u8),
     /// As many zeros as make this length, or only the first octets, of this length.
     Length(usize),
+    /// These octets, so many times.
+    Repeated(&'static [u8], u32),
 }
 
 /// The one field.
@@ -66,6 +68,16 @@ fn push_generated(alloc: Global, octets: &mut Vec<u8>, from: u64, to: u64) -> bo
     true
 }
 
+/// Puts octets behind others, so many times.
+fn push_repeated(octets: &mut Vec<u8>, more: &[u8], times: u32) -> bool {
+    for _ in 0..times {
+        if octets.extend_from_slice(more).is_err() {
+            return false;
+        }
+    }
+    true
+}
+
 /// Has another octet at a place.
 fn change(octets: &mut [u8], place: usize, octet: u8) {
     if let Some(old) = octets.get_mut(place) {
@@ -85,6 +97,7 @@ fn push_part(alloc: Global, octets: &mut Vec<u8>, part: &Part) -> bool {
             true
         }
         Part::Length(length) => octets.resize(*length, 0).is_ok(),
+        Part::Repeated(more, times) => push_repeated(octets, more, *times),
     }
 }
 

@@ -1,15 +1,18 @@
-//! `split`: fields that share a message, each as a message of its own.
+//! Fields that share a message: `split` writes each as a message of its own, and `archive` stores it so.
 use super::cases::{CASE, Case, ROW, Row, first_wrong};
 use super::octets::{FIELD, Part};
+use super::stores::{ARCHIVED, CREATED, EMPTY, RETRIEVED};
 
 const SPLIT: &[&str] = &["split"];
 
 /// Sections 4 to 7 of the second generated message: the surface 92500 Pa, and other values.
-const ROUND: Part = Part::Octets(&[
+const ROUND: Part = Part::Octets(ROUND_OCTETS);
+
+const ROUND_OCTETS: &[u8] = &[
     0, 0, 0, 34, 4, 0, 0, 0, 0, 0, 0, 2, 0, 0, 0, 0, 0, 1, 0, 0, 0, 0, 100, 0, 0, 1, 105, 84, 255,
     255, 255, 255, 255, 255, 0, 0, 0, 21, 5, 0, 0, 0, 4, 0, 0, 67, 250, 0, 0, 128, 1, 0, 1, 8, 0,
     0, 0, 0, 6, 6, 255, 0, 0, 0, 9, 7, 10, 23, 36, 49,
-]);
+];
 
 /// A bit map of four points, and the values of the one field.
 const MAP_AND_VALUES: Part = Part::Octets(&[0, 0, 0, 7, 6, 0, 0xF0, 0, 0, 0, 9, 7, 3, 16, 29, 42]);
@@ -249,4 +252,213 @@ const REFUSING: &[Case] = &[Case {
 #[test]
 fn refuses_messages(rt: HostRuntime) {
     assert_eq!(rt; first_wrong(&rt, rt.alloc(), REFUSING), None);
+}
+
+/// Both fields, from a store that has them.
+const BOTH_FOUND: Row = Row {
+    input: &[Part::Text(
+        "retrieve,class=od,expver=0001,date=20240101,time=00,centre=98,type=1,levtype=100,param=0.0.0,step=0,levelist=100000/92500",
+    )],
+    output: TWO,
+    report: "found 2 missed 0\n",
+    ..RETRIEVED
+};
+
+const STORING: Case = Case {
+    rows: &[
+        CREATED,
+        Row {
+            input: BOTH,
+            report: "archived 2 datasets 1 junk 0\n",
+            ..ARCHIVED
+        },
+        BOTH_FOUND,
+        Row {
+            words: &["archive", "s", "--with=class=od,expver=0001", "--workers=4"],
+            input: &[
+                Part::Text("0123456789ab"),
+                Part::Field(&[(15, 253)]),
+                Part::Length(191),
+                ROUND,
+                Part::Text("7777GRI"),
+            ],
+            report: "archived 2 datasets 1 junk 15\n",
+            ..ARCHIVED
+        },
+        BOTH_FOUND,
+    ],
+    ..CASE
+};
+
+const STORED: &[Case] = &[
+    Case {
+        piece: 1,
+        ..STORING
+    },
+    Case {
+        piece: 200,
+        ..STORING
+    },
+    Case {
+        piece: 65_536,
+        rows: &[
+            CREATED,
+            Row {
+                input: MAPPED,
+                report: "archived 2 datasets 1 junk 0\n",
+                ..ARCHIVED
+            },
+            Row {
+                output: TWO_MAPPED,
+                ..BOTH_FOUND
+            },
+        ],
+        ..CASE
+    },
+];
+
+#[test]
+fn stores_fields(rt: HostRuntime) {
+    assert_eq!(rt; first_wrong(&rt, rt.alloc(), STORED), None);
+}
+
+/// A message of more fields than are read at once: the first generated message, and the second one 1,500 times.
+const MANY: &[Part] = &[
+    Part::Field(&[(13, 1), (14, 0x9A), (15, 0xDF)]),
+    Part::Length(179),
+    Part::Repeated(ROUND_OCTETS, 1500),
+    Part::Text("7777"),
+];
+
+const STORED_IN_PARTS: &[Case] = &[Case {
+    piece: 65_536,
+    size: 1_048_576,
+    calls: 16_384,
+    rows: &[
+        CREATED,
+        Row {
+            words: &["archive", "s", "--with=class=od,expver=0001", "--workers=4"],
+            input: &[
+                Part::Field(&[(13, 1), (14, 0x9A), (15, 0xDF)]),
+                Part::Length(179),
+                Part::Repeated(ROUND_OCTETS, 1500),
+                Part::Text("7777"),
+                Part::Generated(2, 3),
+            ],
+            report: "archived 1502 datasets 1 junk 0\n",
+            ..ARCHIVED
+        },
+        BOTH_FOUND,
+        Row {
+            input: MANY,
+            report: "archived 1501 datasets 1 junk 0\n",
+            ..ARCHIVED
+        },
+        BOTH_FOUND,
+    ],
+    ..CASE
+}];
+
+/// What isn't read at once of a message comes with what is read next.
+#[test]
+fn stores_many_fields(rt: HostRuntime) {
+    assert_eq!(rt; first_wrong(&rt, rt.alloc(), STORED_IN_PARTS), None);
+}
+
+const REFUSED_FIELDS: &[Case] = &[
+    // No field of a message that is refused as a whole is stored, but those of the messages before it.
+    Case {
+        piece: 7,
+        rows: &[
+            CREATED,
+            Row {
+                input: &[
+                    Part::Generated(1, 2),
+                    Part::Field(&[(15, 253)]),
+                    Part::Length(183 + 179),
+                    ROUND,
+                    Part::At(183 + 239, 254),
+                    Part::Text("7777"),
+                ],
+                report: "refused message 2 NoMap 2\n",
+                status: 3,
+                ..ARCHIVED
+            },
+            Row {
+                output: &[Part::Generated(1, 2)],
+                report: "miss class=od,expver=0001,date=20240101,time=0000,centre=98,type=1,levtype=100,param=0.0.0,step=0,levelist=100000
+found 1 missed 1
+",
+                status: 1,
+                ..BOTH_FOUND
+            },
+        ],
+        ..CASE
+    },
+    // The fields before one that has no key are stored, also those of the same message.
+    Case {
+        piece: 7,
+        rows: &[
+            CREATED,
+            Row {
+                input: &[
+                    Part::Generated(2, 3),
+                    Part::Field(&[(15, 253)]),
+                    Part::Length(183 + 179),
+                    ROUND,
+                    Part::At(183 + 187, 2),
+                    Part::Text("7777"),
+                ],
+                report: "refused key 2 Product 2\n",
+                status: 3,
+                ..ARCHIVED
+            },
+            RETRIEVED,
+            Row {
+                output: FIELD,
+                report: "miss class=od,expver=0001,date=20240101,time=0000,centre=98,type=1,levtype=100,param=0.0.0,step=0,levelist=92500
+found 1 missed 1
+",
+                status: 1,
+                ..BOTH_FOUND
+            },
+        ],
+        ..CASE
+    },
+    // A message that has no end, or ends inside the input, gives none.
+    Case {
+        piece: 7,
+        rows: &[
+            CREATED,
+            Row {
+                input: &[
+                    Part::Field(&[(15, 253)]),
+                    Part::Length(179),
+                    ROUND,
+                    Part::Text("7778"),
+                ],
+                report: "refused message 1 NoEnd 249\n",
+                status: 3,
+                ..ARCHIVED
+            },
+            Row {
+                input: &[
+                    Part::Field(&[(15, 253)]),
+                    Part::Length(179),
+                    ROUND,
+                    Part::Text("777"),
+                ],
+                report: "refused message 1 Truncated 252 253\n",
+                status: 3,
+                ..ARCHIVED
+            },
+            EMPTY,
+        ],
+        ..CASE
+    },
+];
+
+#[test]
+fn refuses_fields(rt: HostRuntime) {
+    assert_eq!(rt; first_wrong(&rt, rt.alloc(), REFUSED_FIELDS), None);
 }

@@ -85,7 +85,7 @@ fn picks(rt: HostRuntime) {
 /// Words that are no command.
 const NO_COMMAND: Row = Row {
     input: FIELD,
-    report: "usage: fdb pick describe values generate create archive retrieve list axes stats session trial purge wipe split\n",
+    report: "usage: fdb pick describe values generate create archive retrieve list axes stats session trial purge wipe cubes split\n",
     status: 2,
     ..ROW
 };

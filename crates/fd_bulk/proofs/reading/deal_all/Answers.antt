@@ -4,7 +4,7 @@ use Rattle.fd_library.specs.Open.{names_of}
 use Rattle.fd_bulk.specs.Inputs.{Midway}
 use Rattle.fd_sheets.proofs.Ahead.{stops_end, stops_on}
 use Rattle.fd_bulk.proofs.Naming.{none_opened}
-use Rattle.fd_bulk.proofs.Readings.{begun}
+use Rattle.fd_bulk.proofs.Readings.{begun, has_room}
 use Rattle.fd_bulk.proofs.reading.deal_all.Goals as goal
 
 pub loop-init : goal.loop-init
@@ -14,8 +14,8 @@ loop-init g c = record {
   told = refl;
   later = omega arith;
   jobs = refl;
-  few = let is = ap (λ p. p.fed) c.requires.unread in omega (arith, is);
-  room = let a = ap (λ p. length p.rest) c.requires.unread in let b = ap (λ p. p.given) c.requires.unread in let d = ap (λ p. p.fed) c.requires.unread in omega (arith, a, b, d);
+  few = let is = ap (λ p. p.split.fed) c.requires.unread in omega (arith, is);
+  room = let is = ap (λ p. p.count) c.requires.unread in omega (arith, is);
   turns = omega arith;
   opened = none_opened c.args.names.now.texts.items (names_of c.args.opener.now.library.each) c.requires.unopened;
   read = refl;
@@ -54,7 +54,7 @@ loop-preserved g c =
       later = omega (arith, i.later, d.later);
       jobs = d.jobs ∙ i.jobs;
       few = b.few;
-      room = b.room on i.room;
+      room = has_room g.S.Folder.Folder.has g.S.Folder.Shelf.Shelf.kept c.args.schema.now c.args.given.now (g.I.Source.left c.args.input.now) (g.S.Store.has c.args.store.now) (g.S.Store.has c.deal_batch.new.store) b.mid c.deal_batch.new.opener.library c.deal_batch.new.crew.passes.items c.deal_batch.new.crew.jobs.items c.deal_batch.new.crew.parcels.items c.deal_batch.new.reader b.midway;
       turns = omega (arith, i.turns, further);
       opened = d.opened;
       read = d.calm ∙ i.read;

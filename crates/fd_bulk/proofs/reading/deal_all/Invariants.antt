@@ -1,4 +1,4 @@
-use Rattle.std.proofs.Common.{◌≡◌, ◌≤◌, ◌+◌, length}
+use Rattle.std.proofs.Common.{◌≡◌, ◌≤◌, ◌*◌, length}
 use Rattle.std.specs.Prelude.{is_some}
 use Rattle.fd_library.specs.Open.{OutAre, names_of}
 use Rattle.fd_bulk.specs.Inputs.{Midway}
@@ -12,9 +12,9 @@ invariant-loop g l = record {
   told : is_some (g.S.Store.has l.store) ≡ is_some (g.S.Store.has l.fn.store);
   later : g.S.Store.faults l.fn.store ≤ g.S.Store.faults l.store;
   jobs : length l.crew.jobs.items ≡ length l.fn.crew.jobs.items;
-  few : l.reader.fed ≤ 68719476736;
-  room : l.reader.given + length l.reader.rest ≤ l.reader.fed;
-  turns : l.counter ≤ l.reader.fed + l.reader.given;
+  few : l.reader.split.fed ≤ 68719476736;
+  room : 16 * l.reader.count ≤ l.reader.split.fed;
+  turns : l.counter ≤ l.reader.count;
   opened : AreOpened l.names.texts.items (names_of l.opener.library.each);
   read : g.I.Source.faults l.input ≡ g.I.Source.faults l.fn.input;
 }

@@ -1,11 +1,12 @@
 use Rattle.std.proofs.Common.{◌≡◌, [], Some, refl, arith}
 use Rattle.fd_sections.specs.Splitting.{start}
+use Rattle.fd_outcome.specs.Positions.{at_message}
 use Rattle.fd_bulk.proofs.Readings.{begun, ended_at_end, none_behind, some_end, starved}
 use Rattle.fd_bulk.proofs.reading.deal_input.Goals as goal
 
 pub returns-in_default-clause-deals : goal.returns-in_default-clause-deals
 returns-in_default-clause-deals g c =
-    starved g.S.Folder.Folder.has g.S.Folder.Shelf.Shelf.kept c.args.schema.now c.args.given.now (g.I.Source.left c.args.input.now) (g.S.Store.has c.args.store.now) (g.S.Store.has c.args.store.now) (g.I.Source.left c.args.input.now) c.args.opener.now.library c.args.crew.now.passes.items c.args.crew.now.jobs.items c.args.crew.now.parcels.items start (begun g.S.Folder.Folder.has g.S.Folder.Shelf.Shelf.kept c.args.schema.now c.args.given.now (g.I.Source.left c.args.input.now) (g.S.Store.has c.args.store.now) c.args.opener.now.library c.args.crew.now.passes.items c.args.crew.now.jobs.items c.args.crew.now.parcels.items start refl c.requires.begun) _ _ (omega arith)
+    starved g.S.Folder.Folder.has g.S.Folder.Shelf.Shelf.kept c.args.schema.now c.args.given.now (g.I.Source.left c.args.input.now) (g.S.Store.has c.args.store.now) (g.S.Store.has c.args.store.now) (g.I.Source.left c.args.input.now) c.args.opener.now.library c.args.crew.now.passes.items c.args.crew.now.jobs.items c.args.crew.now.parcels.items (at_message start 0) (begun g.S.Folder.Folder.has g.S.Folder.Shelf.Shelf.kept c.args.schema.now c.args.given.now (g.I.Source.left c.args.input.now) (g.S.Store.has c.args.store.now) c.args.opener.now.library c.args.crew.now.passes.items c.args.crew.now.jobs.items c.args.crew.now.parcels.items (at_message start 0) refl c.requires.begun) _ _ (omega arith)
 
 pub end_of-requires : goal.end_of-requires
 end_of-requires g c = c.in-Ok-deal_all.ensures.deals.waits

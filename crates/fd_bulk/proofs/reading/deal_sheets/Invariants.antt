@@ -1,6 +1,6 @@
 use Rattle.std.specs.Prelude.{◌≡◌, ◌≤◌, ◌++◌, List, Option, drop, is_some, length}
 use Rattle.fd_disk.specs.Folders.{Holdings}
-use Rattle.fd_sections.specs.Progress.{Progress}
+use Rattle.fd_outcome.specs.Positions.{Position}
 use Rattle.fd_key.specs.Pairs.{Pair}
 use Rattle.fd_schema.specs.Rules.{Rule}
 use Rattle.fd_library.specs.Open.{OutAre, names_of}
@@ -20,7 +20,7 @@ invariant-loop-sheet g l = record {
   later : g.S.Store.faults l.fn.store ≤ g.S.Store.faults l.store;
   jobs : length l.crew.jobs.items ≡ length l.fn.crew.jobs.items;
   notes : Notes l.fn.names.texts.items l.names.texts.items (names_of l.fn.opener.library.each) (names_of l.opener.library.each);
-  goes : (rules : List Rule) (given : List Pair) (p q : Progress) (start : Option Holdings) (all waiting : List Stored) → p.fed ≤ 68719476736 → Placed rules given p l.fn.sheets.items q
+  goes : (rules : List Rule) (given : List Pair) (p q : Position) (start : Option Holdings) (all waiting : List Stored) → p.split.fed ≤ 68719476736 → Placed rules given p l.fn.sheets.items q
       → Going g.S.Folder.Folder.has g.S.Folder.Shelf.Shelf.kept start (g.S.Store.has l.fn.store) all waiting l.fn.opener.library l.fn.crew.passes.items l.fn.crew.jobs.items l.fn.crew.parcels.items p
       → WentBy g.S.Folder.Folder.has g.S.Folder.Shelf.Shelf.kept rules given p q start (g.S.Store.has l.store) (all ++ waiting) (drop (length l.yielded) l.fn.sheets.items) l.opener.library l.crew.passes.items l.crew.jobs.items l.crew.parcels.items;
 }

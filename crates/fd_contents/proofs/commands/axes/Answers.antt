@@ -5,7 +5,7 @@ use Rattle.fd_outcome.specs.Objects.{object}
 use Rattle.fd_outcome.specs.Outcome.{outcome, refused}
 use Rattle.fd_outcome.specs.Store.{Stays}
 use Rattle.fd_retrieve.proofs.Staying.{stays_same}
-use Rattle.fd_retrieve.proofs.StopExits.{later_disk}
+use Rattle.fd_telling.proofs.StopLemmas.{later_disk}
 use Rattle.fd_contents.specs.Asked.{Refuses, asked_in}
 use Rattle.fd_contents.proofs.Exits.{both_at, axes_prints, axes_refused, stopped}
 use Rattle.fd_contents.proofs.Partial.{refuses_more}

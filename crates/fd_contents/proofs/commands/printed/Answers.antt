@@ -6,8 +6,8 @@ use Rattle.fd_outcome.specs.Objects.{object}
 use Rattle.fd_outcome.specs.Store.{AreNames, Stays}
 use Rattle.fd_outcome.specs.Outcome.{outcome, printed}
 use Rattle.fd_retrieve.specs.Ready.{IsBrokenOf}
-use Rattle.fd_retrieve.proofs.RetrieveExits.{rose_later}
-use Rattle.fd_retrieve.proofs.StopExits.{later_disk}
+use Rattle.fd_telling.proofs.StopLemmas.{rose_later}
+use Rattle.fd_telling.proofs.StopLemmas.{later_disk}
 use Rattle.fd_contents.specs.Texts.{texts_for}
 use Rattle.fd_contents.proofs.Exits.{done_ran, halted, later_both, lines_part, stays_since, told_since, unwritten_ran, whole_lines}
 use Rattle.fd_contents.proofs.commands.printed.Goals as goal

@@ -4,6 +4,7 @@ use Rattle.fd_words.specs.Words.{command_of}
 use Rattle.fd_outcome.specs.Objects.{object}
 use Rattle.fd_outcome.proofs.Completing.{asked_complete, unasked_ends, unasked_calm, starved_ends, starved_store, starved_calm, starved_complete}
 use Rattle.fd_archive.proofs.Outlasting.{starved_outlasts}
+use Rattle.fd_contents.proofs.CubesDone.{starved_cubes}
 use Rattle.fd_session.proofs.Commands.{starved_session}
 use Rattle.fd_program.proofs.top.fdb.Goals as goal
 
@@ -48,3 +49,12 @@ returns-in-Ok-None-clause-outlasts g c = rw (sym c.in-Ok-None.ensures.command �
 
 pub returns-in-Err-clause-outlasts : goal.returns-in-Err-clause-outlasts
 returns-in-Err-clause-outlasts g c = starved_outlasts _ _ _ _ _ _ _ _ _ _ _ c.tell_no_memory.ensures (command_of (texts c.args.words.now))
+
+pub returns-in-Ok-Some-clause-cubes : goal.returns-in-Ok-Some-clause-cubes
+returns-in-Ok-Some-clause-cubes g c = rw (sym c.in-Ok-Some.ensures.command ∙ c.in-Ok-Some.field-0-is) c.run.ensures.cubes
+
+pub returns-in-Ok-None-clause-cubes : goal.returns-in-Ok-None-clause-cubes
+returns-in-Ok-None-clause-cubes g c = rw (sym c.in-Ok-None.ensures.command ∙ c.in-Ok-None.field-0-is) tt
+
+pub returns-in-Err-clause-cubes : goal.returns-in-Err-clause-cubes
+returns-in-Err-clause-cubes g c = starved_cubes _ _ _ _ _ _ _ _ _ _ _ c.tell_no_memory.ensures (command_of (texts c.args.words.now))

@@ -1,6 +1,7 @@
 use Rattle.std.proofs.Common.{sym, subst}
 use Rattle.fd_outcome.specs.Objects.{object}
 use Rattle.fd_outcome.specs.Ran.{Ran}
+use Rattle.fd_contents.proofs.CubesDone.{cubes_ran}
 use Rattle.fd_session.proofs.Commands.{session_ran}
 use Rattle.fd_program.proofs.top.run.Goals as goal
 
@@ -27,6 +28,9 @@ returns-in-Archive-clause-ran g c = subst (λ command. Ran command c.archive.res
 
 pub returns-in-Retrieve-clause-ran : goal.returns-in-Retrieve-clause-ran
 returns-in-Retrieve-clause-ran g c = subst (λ command. Ran command c.retrieve.result (object (g.S.Store.has c.args.store.now) (g.S.Store.has c.retrieve.new.store) (g.S.Store.faults c.args.store.now) (g.S.Store.faults c.retrieve.new.store)) (object (g.I.Source.left c.args.input.now) (g.I.Source.left c.retrieve.new.input) (g.I.Source.faults c.args.input.now) (g.I.Source.faults c.retrieve.new.input)) (object (g.K.Sink.taken c.args.output.now) (g.K.Sink.taken c.retrieve.new.output) (g.K.Sink.faults c.args.output.now) (g.K.Sink.faults c.retrieve.new.output)) (object (g.E.Sink.taken c.args.report.now) (g.E.Sink.taken c.retrieve.new.report) (g.E.Sink.faults c.args.report.now) (g.E.Sink.faults c.retrieve.new.report))) (sym c.in-Retrieve.is) (c.retrieve.ensures.ran)
+
+pub returns-in-RetrieveOver-clause-ran : goal.returns-in-RetrieveOver-clause-ran
+returns-in-RetrieveOver-clause-ran g c = subst (λ command. Ran command c.retrieve_over.result (object (g.S.Store.has c.args.store.now) (g.S.Store.has c.retrieve_over.new.store) (g.S.Store.faults c.args.store.now) (g.S.Store.faults c.retrieve_over.new.store)) (object (g.I.Source.left c.args.input.now) (g.I.Source.left c.retrieve_over.new.input) (g.I.Source.faults c.args.input.now) (g.I.Source.faults c.retrieve_over.new.input)) (object (g.K.Sink.taken c.args.output.now) (g.K.Sink.taken c.retrieve_over.new.output) (g.K.Sink.faults c.args.output.now) (g.K.Sink.faults c.retrieve_over.new.output)) (object (g.E.Sink.taken c.args.report.now) (g.E.Sink.taken c.retrieve_over.new.report) (g.E.Sink.faults c.args.report.now) (g.E.Sink.faults c.retrieve_over.new.report))) (sym c.in-RetrieveOver.is) (c.retrieve_over.ensures.ran)
 
 pub returns-in-List-clause-ran : goal.returns-in-List-clause-ran
 returns-in-List-clause-ran g c = subst (λ command. Ran command c.list.result (object (g.S.Store.has c.args.store.now) (g.S.Store.has c.list.new.store) (g.S.Store.faults c.args.store.now) (g.S.Store.faults c.list.new.store)) (object (g.I.Source.left c.args.input.now) (g.I.Source.left c.list.new.input) (g.I.Source.faults c.args.input.now) (g.I.Source.faults c.list.new.input)) (object (g.K.Sink.taken c.args.output.now) (g.K.Sink.taken c.list.new.output) (g.K.Sink.faults c.args.output.now) (g.K.Sink.faults c.list.new.output)) (object (g.E.Sink.taken c.args.report.now) (g.E.Sink.taken c.list.new.report) (g.E.Sink.faults c.args.report.now) (g.E.Sink.faults c.list.new.report))) (sym c.in-List.is) (c.list.ensures.ran)
@@ -76,6 +80,9 @@ returns-in-Archive-clause-session g c = rw c.in-Archive.is tt
 pub returns-in-Retrieve-clause-session : goal.returns-in-Retrieve-clause-session
 returns-in-Retrieve-clause-session g c = rw c.in-Retrieve.is tt
 
+pub returns-in-RetrieveOver-clause-session : goal.returns-in-RetrieveOver-clause-session
+returns-in-RetrieveOver-clause-session g c = rw c.in-RetrieveOver.is tt
+
 pub returns-in-List-clause-session : goal.returns-in-List-clause-session
 returns-in-List-clause-session g c = rw c.in-List.is tt
 
@@ -112,6 +119,9 @@ returns-in-Create-clause-outlasts g c = rw c.in-Create.is tt
 pub returns-in-Retrieve-clause-outlasts : goal.returns-in-Retrieve-clause-outlasts
 returns-in-Retrieve-clause-outlasts g c = rw c.in-Retrieve.is tt
 
+pub returns-in-RetrieveOver-clause-outlasts : goal.returns-in-RetrieveOver-clause-outlasts
+returns-in-RetrieveOver-clause-outlasts g c = rw c.in-RetrieveOver.is tt
+
 pub returns-in-List-clause-outlasts : goal.returns-in-List-clause-outlasts
 returns-in-List-clause-outlasts g c = rw c.in-List.is tt
 
@@ -138,3 +148,63 @@ returns-in-Wipe-clause-session g c = rw c.in-Wipe.is tt
 
 pub returns-in-Wipe-clause-outlasts : goal.returns-in-Wipe-clause-outlasts
 returns-in-Wipe-clause-outlasts g c = rw c.in-Wipe.is tt
+
+pub returns-in-Cubes-clause-ran : goal.returns-in-Cubes-clause-ran
+returns-in-Cubes-clause-ran g c = subst (λ command. Ran command c.cubes.result (object (g.S.Store.has c.args.store.now) (g.S.Store.has c.cubes.new.store) (g.S.Store.faults c.args.store.now) (g.S.Store.faults c.cubes.new.store)) (object (g.I.Source.left c.args.input.now) (g.I.Source.left c.cubes.new.input) (g.I.Source.faults c.args.input.now) (g.I.Source.faults c.cubes.new.input)) (object (g.K.Sink.taken c.args.output.now) (g.K.Sink.taken c.cubes.new.output) (g.K.Sink.faults c.args.output.now) (g.K.Sink.faults c.cubes.new.output)) (object (g.E.Sink.taken c.args.report.now) (g.E.Sink.taken c.cubes.new.report) (g.E.Sink.faults c.args.report.now) (g.E.Sink.faults c.cubes.new.report))) (sym c.in-Cubes.is) (cubes_ran _ _ _ _ _ _ c.cubes.ensures.ran)
+
+pub returns-in-Cubes-clause-session : goal.returns-in-Cubes-clause-session
+returns-in-Cubes-clause-session g c = rw c.in-Cubes.is tt
+
+pub returns-in-Cubes-clause-outlasts : goal.returns-in-Cubes-clause-outlasts
+returns-in-Cubes-clause-outlasts g c = rw c.in-Cubes.is tt
+
+pub returns-in-Cubes-clause-cubes : goal.returns-in-Cubes-clause-cubes
+returns-in-Cubes-clause-cubes g c = rw c.in-Cubes.is c.cubes.ensures.ran
+
+pub returns-in-Pick-clause-cubes : goal.returns-in-Pick-clause-cubes
+returns-in-Pick-clause-cubes g c = rw c.in-Pick.is tt
+
+pub returns-in-Describe-clause-cubes : goal.returns-in-Describe-clause-cubes
+returns-in-Describe-clause-cubes g c = rw c.in-Describe.is tt
+
+pub returns-in-Split-clause-cubes : goal.returns-in-Split-clause-cubes
+returns-in-Split-clause-cubes g c = rw c.in-Split.is tt
+
+pub returns-in-Values-clause-cubes : goal.returns-in-Values-clause-cubes
+returns-in-Values-clause-cubes g c = rw c.in-Values.is tt
+
+pub returns-in-Generate-clause-cubes : goal.returns-in-Generate-clause-cubes
+returns-in-Generate-clause-cubes g c = rw c.in-Generate.is tt
+
+pub returns-in-Create-clause-cubes : goal.returns-in-Create-clause-cubes
+returns-in-Create-clause-cubes g c = rw c.in-Create.is tt
+
+pub returns-in-Archive-clause-cubes : goal.returns-in-Archive-clause-cubes
+returns-in-Archive-clause-cubes g c = rw c.in-Archive.is tt
+
+pub returns-in-Retrieve-clause-cubes : goal.returns-in-Retrieve-clause-cubes
+returns-in-Retrieve-clause-cubes g c = rw c.in-Retrieve.is tt
+
+pub returns-in-List-clause-cubes : goal.returns-in-List-clause-cubes
+returns-in-List-clause-cubes g c = rw c.in-List.is tt
+
+pub returns-in-Axes-clause-cubes : goal.returns-in-Axes-clause-cubes
+returns-in-Axes-clause-cubes g c = rw c.in-Axes.is tt
+
+pub returns-in-Stats-clause-cubes : goal.returns-in-Stats-clause-cubes
+returns-in-Stats-clause-cubes g c = rw c.in-Stats.is tt
+
+pub returns-in-Session-clause-cubes : goal.returns-in-Session-clause-cubes
+returns-in-Session-clause-cubes g c = rw c.in-Session.is tt
+
+pub returns-in-Trial-clause-cubes : goal.returns-in-Trial-clause-cubes
+returns-in-Trial-clause-cubes g c = rw c.in-Trial.is tt
+
+pub returns-in-Purge-clause-cubes : goal.returns-in-Purge-clause-cubes
+returns-in-Purge-clause-cubes g c = rw c.in-Purge.is tt
+
+pub returns-in-Wipe-clause-cubes : goal.returns-in-Wipe-clause-cubes
+returns-in-Wipe-clause-cubes g c = rw c.in-Wipe.is tt
+
+pub returns-in-RetrieveOver-clause-cubes : goal.returns-in-RetrieveOver-clause-cubes
+returns-in-RetrieveOver-clause-cubes g c = rw c.in-RetrieveOver.is tt

@@ -5,7 +5,8 @@ use Rattle.fd_key.specs.Pairs.{Pair, text_of, with_pair}
 use Rattle.fd_request.specs.Expansion.{expand}
 use Rattle.fd_request.specs.Keywords.{seen_keyword, seen_keywords}
 use Rattle.fd_request.specs.Values.{seen_values}
-use Rattle.fd_request.proofs.Choices.{next_block, some_block, value_place, front_more, rest_less, front_all, differ_more, pair_behind, absent_more, value_in_list}
+use Rattle.fd_request.proofs.Choices.{next_block, some_block, value_place, front_more, rest_less, front_all, differ_more, pair_behind, absent_more, name_absent, value_in_list}
+use Rattle.fd_request.proofs.Spelling.{spelled_more}
 use Rattle.fd_request.proofs.request.key_at.Goals as goal
 
 pub nonzero_div-rest : goal.nonzero_div-rest
@@ -48,12 +49,15 @@ loop-keyword-preserved c =
       block = block;
       rest = rest_less c.loop-keyword.rest (c.loop-keyword.block / c.count-block.result) some;
       differ = differ_more ks i k lt is c.loop-keyword.invariant.differ;
+      spelled = spelled_more key c.set.new.self (seen_keyword k).name text pushed k.name_is
+          (value_in_list (seen_values k.values) (c.loop-keyword.rest / (c.loop-keyword.block / c.count-block.result)) text k.values_are.all c.in_ok-text.ensures)
+          (name_absent ks i k key lt is c.loop-keyword.invariant.differ c.loop-keyword.invariant.absent) c.loop-keyword.invariant.spelled;
       absent = λ name h. ap (λ (ps : List Pair). text_of ps name) pushed ∙ absent_more ks i k key text lt is c.loop-keyword.invariant.absent name h;
       front = λ d h. front_more ks i k (c.loop-keyword.block / c.count-block.result) c.loop-keyword.rest c.args.number text (expand (seen_keywords ks)) key d lt is block c.in_ok-text.ensures c.loop-keyword.invariant.front h
           ∙ ap (λ (ps : List Pair). Some (ps ++ d)) (sym pushed);
     }
 
-pub returns : goal.returns
-returns c =
+pub returns-clause-key : goal.returns-clause-key
+returns-clause-key c =
     front_all c.args.keywords.now c.loop-keyword.keyword-index c.loop-keyword.rest c.args.number (expand (seen_keywords c.args.keywords.now)) c.loop-keyword.key c.loop-keyword-test.false
     (let rest = c.loop-keyword.invariant.rest in let block = c.loop-keyword.invariant.block in omega arith) c.loop-keyword.invariant.front

@@ -1,9 +1,11 @@
 use Rattle.std.proofs.Common.{◌<◌, ◌≤◌, refl, length, map, arith}
+use Rattle.fd_entries.specs.Batches.{newest}
 use Rattle.fd_schema.specs.Reading.{seen_place}
+use Rattle.fd_schema.specs.Rules.{file_key}
 use Rattle.fd_retrieve.specs.Open.{table_in}
 use Rattle.fd_retrieve.proofs.AnsweringLemmas.{as_long}
 use Rattle.fd_retrieve.proofs.CountingLemmas.{as_many_found, counted_more, counted_whole, found_at}
-use Rattle.fd_retrieve.proofs.LocatingLemmas.{place_at}
+use Rattle.fd_retrieve.proofs.LocatingLemmas.{bytes_at, place_at}
 use Rattle.fd_retrieve.proofs.counting.count_all.Goals as goal
 
 pub loop-i-init : goal.loop-i-init
@@ -20,7 +22,7 @@ loop-i-preserved g c = record {
       let lt : i < length places = omega (arith, long) in
       let p = place_at c.args.opened.now c.args.opened.now places c.args.located.now i refl there lt in
       let f = found_at (table_in c.args.opened.now) (map seen_place places) xs e i p.0 p.1 in
-      let len = c.in-Ok.ensures.one p.0 f.table (p.2 _) f.told in
+      let len = c.in-Ok.ensures.one (newest f.table (file_key p.0)) (bytes_at c.args.opened.now p.0 _ f.table (p.2 _) f.told) in
       counted_more xs i _ c.loop-i.so_far c.in-Some.more c.in-Ok.len f.there len c.in-Some.ensures (c.loop-i.invariant.counted places xs there e);
   stock = c.in-Ok.ensures.stock;
 }

@@ -5,7 +5,7 @@ use Rattle.fd_request.specs.Expansion.{expand}
 use Rattle.fd_schema.specs.Seen.{texts}
 use Rattle.fd_outcome.specs.Asking.{count_distinct}
 use Rattle.fd_outcome.specs.Store.{Stays, has_table}
-use Rattle.fd_retrieve.specs.Stops.{OnTooMany}
+use Rattle.fd_telling.specs.Stops.{OnTooMany}
 use Rattle.fd_retrieve.specs.Ready.{AreOpen, IsBrokenOf, asked_at, placed_of}
 use Rattle.fd_retrieve.specs.Tables.{AreTables, datasets_in}
 use Rattle.fd_retrieve.proofs.PrepareLemmas.{broken_all, broken_told_says, many_of, many_told_says, ready_told}

@@ -1,14 +1,11 @@
-use Rattle.std.proofs.Common.{rules, ◌≡◌, ◌∙◌, refl, sym, length, map, arith}
+use Rattle.std.proofs.Common.{rules, ◌≡◌, ◌∙◌, refl, length, arith}
 use Rattle.fd_outcome.proofs.Endings.{takes_nothing}
-use Rattle.fd_request.specs.Expansion.{expand}
-use Rattle.fd_schema.specs.Reading.{seen_place}
-use Rattle.fd_retrieve.specs.Open.{table_in}
-use Rattle.fd_retrieve.proofs.AnsweringLemmas.{as_long, as_many, as_whole, took_both, took_nothing}
+use Rattle.fd_retrieve.proofs.AnsweringLemmas.{as_whole, took_both, took_nothing}
 use Rattle.fd_retrieve.proofs.rounds.answer_rounds.Goals as goal
 
 pub rounds-init : goal.rounds-init
 rounds-init g c = record {
-  answered = λ places xs there e. record { output = takes_nothing _; report = takes_nothing _; found_is = refl; missed_is = refl };
+  answered = λ xs there. record { output = takes_nothing _; report = takes_nothing _; found_is = refl; missed_is = refl };
   jobs = c.requires.jobs;
   stock = c.requires.stock;
   counted = omega arith;
@@ -29,7 +26,7 @@ rounds-preserved g c =
     let later = inv.report in
     let told = one.report_later in
     record {
-      answered = λ places xs there e. one.answered places xs (g.K.Sink.taken c.args.output.now) (g.E.Sink.taken c.args.report.now) there e (inv.answered places xs there e);
+      answered = λ xs there. one.answered xs (g.K.Sink.taken c.args.output.now) (g.E.Sink.taken c.args.report.now) there (inv.answered xs there);
       jobs = kept.0;
       stock = kept.1;
       counted = one.counted;
@@ -42,17 +39,16 @@ rounds-preserved g c =
     }
 
 pub returns-in-Err-clause-halted : goal.returns-in-Err-clause-halted
-returns-in-Err-clause-halted g c = λ places xs there e. c.in-Err.ensures.round.halted places xs (g.K.Sink.taken c.args.output.now) (g.E.Sink.taken c.args.report.now) there e (c.rounds.invariant.answered places xs there e)
+returns-in-Err-clause-halted g c = λ xs there. c.in-Err.ensures.round.halted xs (g.K.Sink.taken c.args.output.now) (g.E.Sink.taken c.args.report.now) there (c.rounds.invariant.answered xs there)
 
 pub returns-in-Err-clause-grew : goal.returns-in-Err-clause-grew
 returns-in-Err-clause-grew g c = took_both (g.E.Sink.taken c.args.report.now) (g.E.Sink.taken c.rounds.report) (g.E.Sink.taken c.answer_round.new.report) c.rounds.invariant.grew c.in-Err.ensures.round.grew
 
 pub returns-clause-answered : goal.returns-clause-answered
-returns-clause-answered g c = λ places xs there e.
-    let long : length (map seen_place places) ≡ length (expand c.args.request.now) = as_long places ∙ (sym there.long ∙ c.requires.count) in
-    let many = as_many (table_in c.args.opened.now) (expand c.args.request.now) (map seen_place places) xs e long in
+returns-clause-answered g c = λ xs there.
+    let many = there.long in
     let up = c.rounds.invariant.done in
     let to = c.rounds.invariant.next in
     let all : c.rounds.done ≡ length xs = omega (arith, many, up, to, c.count-count.ensures, c.rounds-test.false) in
     let last : c.rounds.done ≡ c.count-count.result = omega (arith, up, to, c.rounds-test.false) in
-    as_whole xs c.rounds.done c.count-count.result _ _ _ _ c.rounds.found all last (c.rounds.invariant.answered places xs there e)
+    as_whole xs c.rounds.done c.count-count.result _ _ _ _ c.rounds.found all last (c.rounds.invariant.answered xs there)

@@ -1,17 +1,14 @@
-use Rattle.std.proofs.Common.{◌≡◌, ◌≤◌, ◌<◌, ◌-◌, List, Some, map, All}
+use Rattle.std.proofs.Common.{◌≡◌, ◌≤◌, ◌<◌, ◌-◌, List, All}
 use Rattle.fd_request.specs.Expansion.{expand}
-use Rattle.fd_schema.specs.declared.place.Place.{Place}
-use Rattle.fd_schema.specs.Reading.{seen_place}
 use Rattle.fd_ahead.specs.Reading.{IsJob, IsStock}
-use Rattle.fd_outcome.specs.Asking.{Answer, answers}
-use Rattle.fd_retrieve.specs.Located.{AreLocated}
-use Rattle.fd_retrieve.specs.Open.{table_in}
-use Rattle.fd_retrieve.specs.Finding.{IsAnswered, TookSome, asked_of_all}
+use Rattle.fd_outcome.specs.Asking.{Answer}
+use Rattle.fd_retrieve.specs.Located.{AreAt}
+use Rattle.fd_retrieve.specs.Finding.{IsAnswered, TookSome}
 use Rattle.fd_retrieve.proofs.rounds.answer_rounds.Given as goal
 
 abbrev pub invariant-rounds : goal.invariant-rounds
 invariant-rounds g l = record {
-  answered : (places : List Place) (xs : List Answer) → AreLocated l.opened places l.located → answers (table_in l.opened) (asked_of_all (expand l.request) (map seen_place places)) ≡ Some xs
+  answered : (xs : List Answer) → AreAt l.opened (expand l.request) xs l.located
       → IsAnswered xs l.done (g.K.Sink.taken l.fn.output) (g.K.Sink.taken l.output) (g.E.Sink.taken l.fn.report) (g.E.Sink.taken l.report) l.found (l.done - l.found);
   jobs : All (IsJob l.opened) l.jobs;
   stock : IsStock l.opened l.stock;

@@ -1,38 +1,30 @@
-use Rattle.std.proofs.Common.{◌∙◌, ◌∷◌, [], arith, refl, sym, ap, subst, length, length-append}
-use Rattle.fd_sheets.specs.Sheets.{Staged}
-use Rattle.fd_sheets.proofs.Placing.{never, never_not, refuses_next, sheet_shorter, staged_none, staged_pass, staged_push}
+use Rattle.std.proofs.Common.{◌∙◌, arith, refl}
+use Rattle.fd_sheets.proofs.Taking.{shrinks_next, staged_start, took_full, took_next, took_none, took_not}
 use Rattle.fd_sheets.proofs.sheets.take_sheets.Goals as goal
 
-pub messages-init : goal.messages-init
-messages-init c = record { fed = refl; staged = staged_none c.args.splitter.now _ c.requires.none }
+pub fields-init : goal.fields-init
+fields-init c = record { staged = staged_start c.args.splitter.now c.args.opened.now _ c.requires.none; room = omega arith; is_open = c.requires.is_open; fed = refl }
 
 pub returns-in-Err-clause-took : goal.returns-in-Err-clause-took
-returns-in-Err-clause-took c = record { middle = c.messages.splitter; staged = c.messages.invariant.staged; stays = refuses_next c.messages.splitter c.next_sheet.new.splitter c.next_sheet.new.splitter c.in-Err.fault c.in-Err.ensures.next; some = tt }
+returns-in-Err-clause-took c = λ n. took_not c.args.splitter.now c.fields.splitter c.take_more.new.splitter c.args.opened.now c.fields.opened c.take_more.new.opened c.fields.sheets.items c.take_more.new.sheets.items c.fields.invariant.staged n c.in-Err.end c.in-Err.ensures.next
 
-pub returns-in-Ok-None-clause-took : goal.returns-in-Ok-None-clause-took
-returns-in-Ok-None-clause-took c =
-    let n = rw c.in-Ok-None.field-0-is at c.in-Ok-None.ensures.next in
-    record { middle = c.next_sheet.new.splitter; staged = staged_pass c.args.splitter.now c.messages.splitter c.next_sheet.new.splitter _ c.messages.invariant.staged n.0; stays = (refl, λ is. n.1); some = λ is. never_not _ is }
+pub returns-in-Ok-false-clause-took : goal.returns-in-Ok-false-clause-took
+returns-in-Ok-false-clause-took c = λ n. took_none c.args.splitter.now c.fields.splitter c.take_more.new.splitter c.args.opened.now c.fields.opened c.take_more.new.opened c.fields.sheets.items c.take_more.new.sheets.items c.fields.invariant.staged n (rw c.in-Ok-false.field-0-test at c.in-Ok-false.ensures.next)
 
 pub returns-then-is_full-clause-took : goal.returns-then-is_full-clause-took
-returns-then-is_full-clause-took c =
-    let n = rw c.in-Ok-Some.field-0-is at c.in-Ok-Some.ensures.next in
-    let i = c.messages.invariant in
-    record {
-      middle = c.next_sheet.new.splitter;
-      staged = subst (λ xs. Staged c.args.splitter.now xs c.next_sheet.new.splitter) (sym c.in-Ok.ensures.items) (staged_push c.args.splitter.now c.messages.splitter c.next_sheet.new.splitter n.0 c.messages.sheets.items c.in-Ok-Some.sheet i.staged n.1);
-      stays = (refl, λ is. never _ is);
-      some = λ is. let size = ap length c.in-Ok.ensures.items in omega (arith, size, length-append c.messages.sheets.items (c.in-Ok-Some.sheet ∷ []));
-    }
+returns-then-is_full-clause-took c = λ n. took_full c.args.splitter.now c.fields.splitter c.take_more.new.splitter c.args.opened.now c.fields.opened c.take_more.new.opened c.fields.sheets.items c.take_more.new.sheets.items c.fields.invariant.staged n (rw c.in-Ok-true.field-0-test at c.in-Ok-true.ensures.next)
 
-pub messages-smaller : goal.messages-smaller
-messages-smaller c = let n = rw c.in-Ok-Some.field-0-is at c.in-Ok-Some.ensures.next in (sheet_shorter c.messages.splitter c.next_sheet.new.splitter n.0 c.in-Ok-Some.sheet n.1).0
+pub fields-smaller : goal.fields-smaller
+fields-smaller c = shrinks_next c.fields.splitter c.take_more.new.splitter c.fields.opened c.take_more.new.opened c.fields.sheets.items c.take_more.new.sheets.items ((rw c.in-Ok-true.field-0-test at c.in-Ok-true.ensures.next) 0) c.take_more.ensures.room
 
-pub messages-preserved : goal.messages-preserved
-messages-preserved c =
-    let n = rw c.in-Ok-Some.field-0-is at c.in-Ok-Some.ensures.next in
-    let i = c.messages.invariant in
+pub fields-preserved : goal.fields-preserved
+fields-preserved c =
+    let i = c.fields.invariant in
+    let before = i.room in
+    let room = c.take_more.ensures.room in
     record {
-      fed = (sheet_shorter c.messages.splitter c.next_sheet.new.splitter n.0 c.in-Ok-Some.sheet n.1).1 ∙ i.fed;
-      staged = subst (λ xs. Staged c.args.splitter.now xs c.next_sheet.new.splitter) (sym c.in-Ok.ensures.items) (staged_push c.args.splitter.now c.messages.splitter c.next_sheet.new.splitter n.0 c.messages.sheets.items c.in-Ok-Some.sheet i.staged n.1);
+      staged = took_next c.args.splitter.now c.fields.splitter c.take_more.new.splitter c.args.opened.now c.fields.opened c.take_more.new.opened c.fields.sheets.items c.take_more.new.sheets.items i.staged (rw c.in-Ok-true.field-0-test at c.in-Ok-true.ensures.next);
+      room = omega (arith, before, room);
+      is_open = c.take_more.ensures.is_open;
+      fed = c.take_more.ensures.fed ∙ i.fed;
     }

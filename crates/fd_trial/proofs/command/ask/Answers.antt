@@ -9,7 +9,7 @@ use Rattle.fd_retrieve.specs.Counting.{IsBrokenAmong, IsTally, finds}
 use Rattle.fd_retrieve.specs.Looking.{IsLookedThrough}
 use Rattle.fd_retrieve.specs.Tables.{datasets_in}
 use Rattle.fd_retrieve.proofs.Looking.{looked_told}
-use Rattle.fd_retrieve.proofs.StopExits.{later_disk}
+use Rattle.fd_telling.proofs.StopLemmas.{later_disk}
 use Rattle.fd_trial.specs.Placed.{ArePlaced}
 use Rattle.fd_trial.proofs.Stepping.{asked, begun, grown, says}
 use Rattle.fd_trial.proofs.Stopping.{asked_stop}

@@ -1,7 +1,7 @@
 use Rattle.std.proofs.Common.{◌≤◌, Some, Err, subst, arith}
 use Rattle.fd_bytes.specs.Causes.{Rose}
 use Rattle.fd_outcome.specs.Trying.{trial_given}
-use Rattle.fd_retrieve.proofs.RetrieveExits.{rose_later}
+use Rattle.fd_telling.proofs.StopLemmas.{rose_later}
 use Rattle.fd_archive.specs.Kept.{InputKept, WholeKept}
 use Rattle.fd_trial.specs.Made.{made_left}
 use Rattle.fd_trial.proofs.Outlasting.{asked_outlasts, unstored_outlasts}

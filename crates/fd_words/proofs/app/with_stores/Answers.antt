@@ -8,7 +8,7 @@ use Rattle.fd_words.proofs.app.with_stores.Goals as goal
 pub returns : goal.returns
 returns c =
     let none : map (λ s. s.now) c.as_slice.result.now ≡ [] = search rules in
-    let workers : map (λ s. s.now) c.as_slice-2.result.now ≡ codes "workers" ∷ [] = search rules in
+    let workers : map (λ s. s.now) c.as_slice-2.result.now ≡ codes "workers" ∷ (codes "over" ∷ []) = search rules in
     let with : map (λ s. s.now) c.as_slice-3.result.now ≡ codes "with" ∷ (codes "workers" ∷ []) = search rules in
     let again : map (λ s. s.now) c.as_slice-4.result.now ≡ codes "workers" ∷ [] = search rules in
     IfOk-weaker c.with_leaf-4.result _ _

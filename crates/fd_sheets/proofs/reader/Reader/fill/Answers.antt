@@ -6,7 +6,7 @@ pub loop-init : goal.loop-init
 loop-init g c = record {
   reads = reads_none c.args.schema.now c.args.given.now c.args.names.now.texts.items c.args.self.now (g.I.Source.left c.args.input.now) c.args.sheets.now.items c.requires.none;
   quiet = refl;
-  few = let size = ap (λ p. p.fed) c.self.view_is in let i = c.self.invariant in omega (arith, size, i.0, i.1);
+  few = let size = ap (λ a. a.split.fed) c.self.view_is in let i = c.self.invariant in omega (arith, size, i.0, i.1);
   turns = omega arith;
 }
 

@@ -6,6 +6,6 @@ abbrev pub invariant-loop : goal.invariant-loop
 invariant-loop g l = record {
   reads : ReadsOn l.fn.schema l.fn.given l.fn.names.texts.items l.fn.self l.self (g.I.Source.left l.fn.input) (g.I.Source.left l.input) l.sheets.items;
   quiet : g.I.Source.faults l.input ≡ g.I.Source.faults l.fn.input;
-  few : l.self.fed ≤ 68719476736;
-  turns : l.fn.self.fed + l.counter ≤ l.self.fed;
+  few : l.self.split.fed ≤ 68719476736;
+  turns : l.fn.self.split.fed + l.counter ≤ l.self.split.fed;
 }

@@ -1,0 +1,33 @@
+use Rattle.std.proofs.Common.{rules, ◌≡◌, refl, sym, subst, List, ℕ, Err}
+use Rattle.fd_disk.specs.Folders.{WhereTold}
+use Rattle.fd_outcome.specs.Objects.{object}
+use Rattle.fd_outcome.specs.Store.{Stays}
+use Rattle.fd_retrieve.proofs.Staying.{stays_same}
+use Rattle.fd_telling.proofs.StopLemmas.{later_disk}
+use Rattle.fd_contents.specs.Asked.{Refuses, asked_in}
+use Rattle.fd_contents.proofs.CubeExits.{stopped_ran}
+use Rattle.fd_contents.proofs.Exits.{both_at}
+use Rattle.fd_contents.proofs.cubing.cubes.Goals as goal
+
+pub returns-in-Ok-clause-ran : goal.returns-in-Ok-clause-ran
+returns-in-Ok-clause-ran g c =
+    c.cubed.ensures.ran c.args.root.now (g.S.Store.has c.args.store.now) (g.S.Store.faults c.args.store.now)
+    (object (g.I.Source.left c.args.input.now) (g.I.Source.left c.partial.new.input) (g.I.Source.faults c.args.input.now) (g.I.Source.faults c.partial.new.input))
+    (record {
+      asked = c.in-Ok.ensures.asked;
+      same = c.in-Ok.ensures.has;
+      later = c.in-Ok.ensures.later;
+      calm = c.in-Ok.ensures.calm;
+      read = c.in-Ok.ensures.read;
+    })
+
+pub returns-in-Err-clause-ran : goal.returns-in-Err-clause-ran
+returns-in-Err-clause-ran g c =
+    stopped_ran c.args.root.now (g.S.Store.has c.args.store.now) (g.S.Store.has c.tell_stop.new.store) (g.S.Store.faults c.args.store.now) (g.S.Store.faults c.tell_stop.new.store)
+    (object (g.I.Source.left c.args.input.now) (g.I.Source.left c.partial.new.input) (g.I.Source.faults c.args.input.now) (g.I.Source.faults c.partial.new.input))
+    (object (g.K.Sink.taken c.args.output.now) (g.K.Sink.taken c.args.output.now) (g.K.Sink.faults c.args.output.now) (g.K.Sink.faults c.args.output.now))
+    (object (g.E.Sink.taken c.args.report.now) (g.E.Sink.taken c.tell_stop.new.report) (g.E.Sink.faults c.args.report.now) (g.E.Sink.faults c.tell_stop.new.report)) c.tell_stop.result
+    (subst (λ o. WhereTold (g.S.Store.has c.args.store.now) o Stays) (sym c.tell_stop.ensures.has) (stays_same (g.S.Store.has c.args.store.now) (g.S.Store.has c.partial.new.store) c.in-Err.ensures.has)) refl
+    c.in-Err.stop c.tell_stop.ensures.told c.in-Err.ensures.early
+    (λ octets h d e. both_at (g.S.Store.has c.args.store.now) (g.I.Source.left c.args.input.now) (λ octets h. Refuses c.in-Err.stop (λ cause. asked_in h octets ≡ Err cause)) c.in-Err.ensures.refused octets h d e)
+    c.in-Err.ensures.input (later_disk c.in-Err.stop (g.S.Store.faults c.args.store.now) (g.S.Store.faults c.partial.new.store) (g.S.Store.faults c.tell_stop.new.store) c.in-Err.ensures.later c.tell_stop.ensures.noted) c.in-Err.ensures.calm_err refl

@@ -1,0 +1,14 @@
+use Rattle.std.proofs.Common.{◌≡◌, ◌≤◌, List, ℕ, false, take}
+use Rattle.fd_disk.specs.Folders.{WhereTold}
+use Rattle.fd_schema.specs.Seen.{texts}
+use Rattle.fd_outcome.specs.Store.{Stays}
+use Rattle.fd_contents.proofs.Gathered.{Gathered}
+use Rattle.fd_contents.proofs.gathering.keys_in_each.Given as goal
+
+abbrev pub invariant-loop-i : goal.invariant-loop-i
+invariant-loop-i g l = record {
+  home : (n : List ℕ) → g.S.Store.out l.store n ≡ false;
+  stays : WhereTold (g.S.Store.has l.fn.store) (g.S.Store.has l.store) Stays;
+  found : Gathered l.partial (g.S.Store.has l.fn.store) (take l.i (texts l.names)) l.found;
+  later : g.S.Store.faults l.fn.store ≤ g.S.Store.faults l.store;
+}

@@ -1,0 +1,59 @@
+// The command `cubes`.
+ghost use Rattle.std.specs.Prelude.{◌≡◌, List, ℕ, Option, false};
+ghost use Rattle.fd_disk.specs.Folders.{Holdings};
+ghost use Rattle.fd_outcome.specs.Objects.{Object, object};
+ghost use Rattle.fd_contents.specs.Cubing.{BeginsCubes, CubesRan};
+
+use crate::gathering::keys_asked;
+use crate::reading::partial;
+use crate::telling::tell_keys;
+use fd_disk::{Folder, Sealed, Store};
+use fd_io::{Sink, Source};
+use fd_outcome::Status;
+use fd_request::Partial;
+use fd_telling::tell_stop;
+use fd_words::Root;
+use std::alloc::Global;
+
+/// Writes requests that name exactly the keys that the partial request on the input asks for: each of these keys is a key of
+/// exactly one of the lines, which stand in byte order, and no two of the lines can be joined to one. Nothing is written where
+/// there are more keys than a request may have, or where one of them has a value that is a word of ranges. No folder of the store
+/// is out, and none is out afterwards; nothing is made in the store.
+pub fn cubes<F: Send + Drop, X: Drop, S: Store<F>, I: Source<X>, K: Sink<X>, E: Sink<X>>(
+    alloc: Global,
+    root: &Root,
+    store: &mut S,
+    input: &mut I,
+    output: &mut K,
+    report: &mut E,
+) -> Status
+where
+    requires home { (name : List ℕ) → S.out store.old name ≡ false }
+    ensures ran { CubesRan root.now result (object (S.has store.old) (S.has store.new) (S.faults store.old) (S.faults store.new)) (object (I.left input.old) (I.left input.new) (I.faults input.old) (I.faults input.new)) (object (K.taken output.old) (K.taken output.new) (K.faults output.old) (K.faults output.new)) (object (E.taken report.old) (E.taken report.new) (E.faults report.old) (E.faults report.new)) }
+    ensures home { (name : List ℕ) → S.out store.new name ≡ false }
+{
+    match partial(alloc, root.as_str(), store, input) {
+        Ok(partial) => cubed(alloc, &partial, store, output, report),
+        Err(stop) => tell_stop(alloc, store, report, stop),
+    }
+}
+
+/// The same, once the partial request is read.
+fn cubed<F: Send + Drop, X: Drop, S: Store<F>, K: Sink<X>, E: Sink<X>>(
+    alloc: Global,
+    partial: &Partial,
+    store: &mut S,
+    output: &mut K,
+    report: &mut E,
+) -> Status
+where
+    requires home { (name : List ℕ) → S.out store.old name ≡ false }
+    ensures ran { (root : List ℕ) (before : Option Holdings) (faults : ℕ) (input : Object (List ℕ)) → BeginsCubes partial.now before (S.has store.old) faults (S.faults store.old) input
+        → CubesRan root result (object before (S.has store.new) faults (S.faults store.new)) input (object (K.taken output.old) (K.taken output.new) (K.faults output.old) (K.faults output.new)) (object (E.taken report.old) (E.taken report.new) (E.faults report.old) (E.faults report.new)) }
+    ensures home { (name : List ℕ) → S.out store.new name ≡ false }
+{
+    match keys_asked(alloc, partial, store) {
+        Ok(found) => tell_keys(alloc, &found, output, report),
+        Err(stop) => tell_stop(alloc, store, report, stop),
+    }
+}

@@ -1,0 +1,136 @@
+// The keys of all datasets that a partial request asks for.
+ghost use Rattle.std.specs.Prelude.{◌≡◌, ◌≤◌, [], ◌∷◌, List, ℕ, Some, false, IfOk, IfErr, IfSome, length};
+ghost use Rattle.fd_disk.specs.Folders.{Holdings, WhereTold};
+ghost use Rattle.fd_entries.specs.declared.batch.Pair.{Pair};
+ghost use Rattle.fd_schema.specs.Seen.{texts};
+ghost use Rattle.fd_segment.specs.Causes.{OnDamaged};
+ghost use Rattle.fd_inventory.specs.Found.{Keeps};
+ghost use Rattle.fd_inventory.specs.Indexes.{IsAmongBad};
+ghost use Rattle.fd_outcome.specs.Matching.{Keys, matching, with_dataset};
+ghost use Rattle.fd_outcome.specs.Store.{AreNames, Stays, table_at};
+ghost use Rattle.fd_retrieve.specs.Open.{IsOpenIn};
+ghost use Rattle.fd_retrieve.specs.Ready.{IsBrokenOf};
+ghost use Rattle.fd_telling.specs.Stops.{OfDataset};
+
+use crate::datasets::{damaged, opened_at};
+use fd_disk::{Down, Folder, Sealed, Store};
+use fd_inventory::{Found, found_in};
+use fd_request::Partial;
+use fd_retrieve::Opened;
+use fd_segment::LensFault;
+use fd_telling::Stop;
+use std::alloc::Global;
+
+/// What ended the reading of a dataset's keys.
+fn unread<F: Send + Drop, Z: Sealed<F>>(
+    alloc: Global,
+    dataset: &Opened<F, Z>,
+    fault: LensFault<F>,
+) -> Stop<F>
+where
+    requires damaged { OnDamaged fault (IsAmongBad dataset.now.shown) }
+    ensures broken { (h : Holdings) → IsOpenIn h dataset.now → IsBrokenOf result h (dataset.now.name ∷ []) }
+    ensures of { OfDataset result }
+{
+    match fault {
+        LensFault::Fault(fault) => Stop::Disk(fault),
+        LensFault::Damaged(damage) => damaged(alloc, dataset, damage),
+        LensFault::NoMemory => Stop::NoMemory,
+    }
+}
+
+/// The keys of a dataset that was opened, behind those that were found.
+fn keys_of<F: Send, Z: Sealed<F>>(
+    alloc: Global,
+    partial: &Partial,
+    dataset: &Opened<F, Z>,
+    found: Found,
+) -> Result<Found, LensFault<F>>
+where
+    requires short { length dataset.now.name ≤ 255 }
+    ensures found { IfOk result (λ f. (h : Holdings) (all : Keys) (t : List (List Pair)) → IsOpenIn h dataset.now → table_at h dataset.now.name ≡ Some t → Keeps found all → Keeps f (with_dataset partial.now dataset.now.name t all)) }
+    ensures damaged { IfErr result (λ e. OnDamaged e (IsAmongBad dataset.now.shown)) }
+{
+    found_in(alloc, dataset.name(), dataset.snapshot(), partial, found)
+}
+
+/// The keys of one dataset, whose folder isn't out, behind those that were found; none where it has no table. It is given back.
+fn keys_in<F: Send + Drop, S: Store<F>>(
+    alloc: Global,
+    partial: &Partial,
+    store: &mut S,
+    name: &str,
+    found: Found,
+) -> Result<Found, Stop<F>>
+where
+    requires home { (n : List ℕ) → S.out store.old n ≡ false }
+    ensures found { IfOk result (λ f. IfSome (S.has store.old) (λ h. (all : Keys) (t : List (List Pair)) → table_at h name.now ≡ Some t → Keeps found all → Keeps f (with_dataset partial.now name.now t all))) }
+    ensures broken { IfErr result (λ stop. IfSome (S.has store.old) (λ h. IsBrokenOf stop h (name.now ∷ []))) }
+    ensures of { IfErr result OfDataset }
+    ensures stays { WhereTold (S.has store.old) (S.has store.new) Stays }
+    ensures home { (n : List ℕ) → S.out store.new n ≡ false }
+    ensures later { S.faults store.old ≤ S.faults store.new }
+{
+    let opened = match opened_at(alloc, store, name) {
+        Ok(Some(opened)) => opened,
+        Ok(None) => return Ok(found),
+        Err(stop) => return Err(stop),
+    };
+    match keys_of(alloc, partial, &opened, found) {
+        Ok(found) => Ok(found),
+        Err(fault) => Err(unread(alloc, &opened, fault)),
+    }
+}
+
+/// The keys of the datasets of these names, in their order.
+fn keys_in_each<F: Send + Drop, S: Store<F>>(
+    alloc: Global,
+    partial: &Partial,
+    store: &mut S,
+    names: &[String],
+) -> Result<Found, Stop<F>>
+where
+    requires home { (n : List ℕ) → S.out store.old n ≡ false }
+    ensures found { IfOk result (λ f. IfSome (S.has store.old) (λ h. (ks : Keys) → matching partial.now h (texts names.now) ≡ Some ks → Keeps f ks)) }
+    ensures broken { IfErr result (λ stop. IfSome (S.has store.old) (λ h. IsBrokenOf stop h (texts names.now))) }
+    ensures of { IfErr result OfDataset }
+    ensures stays { WhereTold (S.has store.old) (S.has store.new) Stays }
+    ensures home { (n : List ℕ) → S.out store.new n ≡ false }
+    ensures later { S.faults store.old ≤ S.faults store.new }
+{
+    let mut found = Found::new(alloc);
+    for i in 0..names.len() {
+        match keys_in(alloc, partial, store, &names[i], found) {
+            Ok(more) => found = more,
+            Err(stop) => return Err(stop),
+        }
+    }
+    Ok(found)
+}
+
+/// The keys of all datasets of the store, in the order of `list`, each once. Once there are more than a request may have, no more
+/// are kept; all datasets are read, so that a damage of one of them is told. Each is given back before the next is opened.
+pub(crate) fn keys_asked<F: Send + Drop, S: Store<F>>(
+    alloc: Global,
+    partial: &Partial,
+    store: &mut S,
+) -> Result<Found, Stop<F>>
+where
+    requires home { (n : List ℕ) → S.out store.old n ≡ false }
+    ensures found { IfOk result (λ f. IfSome (S.has store.old) (λ h. (names : List (List ℕ)) → AreNames h names → (ks : Keys) → matching partial.now h names ≡ Some ks → Keeps f ks)) }
+    ensures broken { IfErr result (λ stop. IfSome (S.has store.old) (λ h. (names : List (List ℕ)) → AreNames h names → IsBrokenOf stop h names)) }
+    ensures of { IfErr result OfDataset }
+    ensures stays { WhereTold (S.has store.old) (S.has store.new) Stays }
+    ensures home { (n : List ℕ) → S.out store.new n ≡ false }
+    ensures later { S.faults store.old ≤ S.faults store.new }
+{
+    let names = match store.names(alloc) {
+        Ok(names) => names,
+        Err(Down::Fault(fault)) => return Err(Stop::Disk(fault)),
+        Err(Down::NoMemory) => return Err(Stop::NoMemory),
+    };
+    match keys_in_each(alloc, partial, store, &names) {
+        Ok(found) => Ok(found),
+        Err(stop) => Err(stop),
+    }
+}

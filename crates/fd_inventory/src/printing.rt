@@ -1,0 +1,51 @@
+// Texts as lines.
+ghost use Rattle.std.specs.Prelude.{◌≡◌, ◌++◌, OnErr, OnOk, string_bytes};
+ghost use Rattle.fd_io.specs.Streams.{Takes, TakesFront};
+ghost use Rattle.fd_listing.specs.Lines.{line};
+ghost use Rattle.fd_listing.specs.Sinks.{HasSinkCause};
+ghost use Rattle.fd_schema.specs.Seen as schemas;
+ghost use Rattle.fd_inventory.specs.Written.{text_lines};
+
+use crate::listing::{write_many, write_text};
+use fd_bytes::NoMemory;
+use fd_io::Sink;
+use fd_listing::TextFault;
+use std::alloc::Global;
+
+/// Appends a text as a line.
+fn push_line(lines: &mut String, text: &str) -> Result<(), NoMemory>
+    ensures { OnOk result (string_bytes lines.new ≡ string_bytes lines.old ++ line text.now) }
+{
+    lines.push_str(text)?;
+    lines.push('\n')?;
+    Ok(())
+}
+
+/// Writes texts, each as a line, many at a time.
+///
+/// `Write` comes only where the sink's count of faults rose. After a refusal a front of the lines was taken.
+pub fn write_lines<X, K: Sink<X>>(
+    alloc: Global,
+    texts: &[String],
+    sink: &mut K,
+) -> Result<(), TextFault<X>>
+    ensures took { OnOk result (Takes (K.taken sink.old) (K.taken sink.new) (text_lines (schemas.texts texts.now))) }
+    ensures front { OnErr result (TakesFront (K.taken sink.old) (K.taken sink.new) (text_lines (schemas.texts texts.now))) }
+    ensures cause { HasSinkCause result (K.faults sink.old) (K.faults sink.new) }
+{
+    let mut lines = String::new(alloc);
+    for text in texts {
+        match push_line(&mut lines, text.as_str()) {
+            Ok(()) => {}
+            Err(NoMemory) => return Err(TextFault::NoMemory),
+        }
+        match write_many(&mut lines, sink) {
+            Ok(()) => {}
+            Err(fault) => return Err(fault),
+        }
+    }
+    match write_text(sink, lines.as_str()) {
+        Ok(()) => Ok(()),
+        Err(fault) => Err(fault),
+    }
+}

@@ -1,0 +1,5 @@
+pub mod Chaining
+pub mod Laying
+pub mod NearestLemmas
+pub mod PreparingLemmas
+pub mod Over

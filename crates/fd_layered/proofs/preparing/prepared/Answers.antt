@@ -1,0 +1,58 @@
+use Rattle.std.proofs.Common.{rules, ◌≡◌, ◌≤◌, ◌<◌, filter, map, subst, IfSome, Ok, length, string_bytes, arith}
+use Rattle.std.proofs.lemmas.List.{length-map}
+use Rattle.fd_disk.specs.Folders.{WhereTold}
+use Rattle.fd_request.specs.Expansion.{expand}
+use Rattle.fd_schema.specs.Reading.{seen_place}
+use Rattle.fd_schema.specs.Seen.{texts}
+use Rattle.fd_outcome.specs.Asking.{count_distinct}
+use Rattle.fd_outcome.specs.Store.{Stays, has_table}
+use Rattle.fd_telling.specs.Stops.{OnTooMany}
+use Rattle.fd_retrieve.specs.Ready.{AreOpen, IsBrokenOf}
+use Rattle.fd_retrieve.specs.Tables.{AreTables, datasets_in}
+use Rattle.fd_retrieve.proofs.PrepareLemmas.{broken_all, many_of}
+use Rattle.fd_layered.specs.Chains.{AreChains}
+use Rattle.fd_layered.specs.Ready.{laid_in, laid_with}
+use Rattle.fd_layered.proofs.PreparingLemmas.{broken_told_says, many_told_says, ready_told}
+use Rattle.fd_layered.proofs.preparing.prepared.Goals as goal
+
+pub returns-in-Err-tables_of-clause-says : goal.returns-in-Err-tables_of-clause-says
+returns-in-Err-tables_of-clause-says g c =
+    let has = g.S.Store.has c.args.store.now in
+    let left = g.I.Source.left c.args.input.now in
+    let request = c.in-Ok.pair.0 in
+    let places = c.in-Ok.pair.1.items in
+    let chains : AreChains (length c.args.layers.now) (expand request) (map seen_place places) = search rules in
+    let is : IfSome has (λ h. IfSome left (λ octets. laid_in h c.args.layers.now octets ≡ Ok (laid_with c.args.layers.now request places))) = search rules in
+    many_told_says c.in-Err-tables_of.stop has left c.args.layers.now request places chains is c.in-Err-tables_of.ensures.stops (many_of c.in-Err-tables_of.stop (g.S.Store.has c.placed.new.store) has (datasets_in places) (search rules) (subst (λ ps. OnTooMany c.in-Err-tables_of.stop (IfSome (g.S.Store.has c.placed.new.store) (λ h. 2048 < count_distinct (filter (has_table h) (datasets_in ps))))) c.deref.ensures.value c.in-Err-tables_of.ensures.too_many))
+
+pub returns-in-Ok-open_all-clause-prepared : goal.returns-in-Ok-open_all-clause-prepared
+returns-in-Ok-open_all-clause-prepared g c =
+    let has = g.S.Store.has c.args.store.now in
+    let left = g.I.Source.left c.args.input.now in
+    let request = c.in-Ok.pair.0 in
+    let places = c.in-Ok.pair.1.items in
+    let names = texts c.in-Ok-tables_of.names.items in
+    let mid = g.S.Store.has c.tables_of.new.store in
+    let chains : AreChains (length c.args.layers.now) (expand request) (map seen_place places) = search rules in
+    let is : IfSome has (λ h. IfSome left (λ octets. laid_in h c.args.layers.now octets ≡ Ok (laid_with c.args.layers.now request places))) = search rules in
+    let tables : IfSome has (λ h. AreTables h (datasets_in places) names) = search rules in
+    let few : length names ≤ 2048 = omega (arith, length-map c.in-Ok-tables_of.names.items string_bytes, c.in-Ok-tables_of.ensures.few) in
+    let stays : WhereTold has mid Stays = search rules in
+    let opens : IfSome mid (λ h. AreOpen h names c.in-Ok-open_all.opened.items) = search rules in
+    ready_told has mid left c.args.layers.now request places names c.in-Ok-open_all.opened.items chains is tables few stays opens
+
+pub returns-in-Err-open_all-clause-says : goal.returns-in-Err-open_all-clause-says
+returns-in-Err-open_all-clause-says g c =
+    let has = g.S.Store.has c.args.store.now in
+    let left = g.I.Source.left c.args.input.now in
+    let request = c.in-Ok.pair.0 in
+    let places = c.in-Ok.pair.1.items in
+    let names = texts c.in-Ok-tables_of.names.items in
+    let mid = g.S.Store.has c.tables_of.new.store in
+    let chains : AreChains (length c.args.layers.now) (expand request) (map seen_place places) = search rules in
+    let is : IfSome has (λ h. IfSome left (λ octets. laid_in h c.args.layers.now octets ≡ Ok (laid_with c.args.layers.now request places))) = search rules in
+    let tables : IfSome has (λ h. AreTables h (datasets_in places) names) = search rules in
+    let few : length names ≤ 2048 = omega (arith, length-map c.in-Ok-tables_of.names.items string_bytes, c.in-Ok-tables_of.ensures.few) in
+    let stays : WhereTold has mid Stays = search rules in
+    let broken : IfSome mid (λ h. IsBrokenOf c.in-Err-open_all.stop h names) = search rules in
+    broken_told_says c.in-Err-open_all.stop has left c.args.layers.now request places names chains is tables few (broken_all c.in-Err-open_all.stop has mid names stays broken)

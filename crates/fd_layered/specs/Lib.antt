@@ -1,0 +1,4 @@
+pub mod Chains
+pub mod Laying
+pub mod Ready
+pub mod Finding

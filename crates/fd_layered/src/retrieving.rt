@@ -1,0 +1,117 @@
+// `retrieve` over layers.
+ghost use Rattle.std.specs.Prelude.{◌≡◌, ◌≤◌, List, ℕ, Option, false, length, map};
+ghost use Rattle.fd_disk.specs.Folders.{Holdings};
+ghost use Rattle.fd_request.specs.Expansion.{expand};
+ghost use Rattle.fd_schema.specs.Reading.{seen_place};
+ghost use Rattle.fd_words.specs.Words.{AreLayers};
+ghost use Rattle.fd_words.specs.declared.command.Command.TheVariants.{RetrieveOver};
+ghost use Rattle.fd_outcome.specs.Layered.{laid_answers};
+ghost use Rattle.fd_outcome.specs.Objects.{Object, object};
+ghost use Rattle.fd_outcome.specs.Ran.{Ran};
+ghost use Rattle.fd_retrieve.specs.Commands.{Begins};
+ghost use Rattle.fd_retrieve.specs.Open.{table_in};
+ghost use Rattle.fd_layered.specs.Chains.{AreChains};
+ghost use Rattle.fd_layered.specs.Ready.{laid_with};
+
+use crate::nearest::locate_over;
+use crate::preparing::{Ready, prepared};
+use fd_disk::{Folder, Sealed, Store};
+use fd_io::{Gate, Sink, Source};
+use fd_outcome::Status;
+use fd_retrieve::answer_located;
+use fd_telling::tell_stop;
+use fd_words::{Layers, Root};
+use std::alloc::Global;
+use std::sync::Wait;
+use std::thread::Threads;
+
+/// Writes the newest field of each key of the request that the input is, in the order of the request, out of the nearest of
+/// its datasets that has the key: its own dataset, and then those of the key with each layer's values in place of its own, the
+/// nearest layer first. Tells each key that none of them has, and how many were found and missed. So many workers look for the
+/// keys of each dataset, side by side, and so many read and check the fields ahead of the one that is written; what is answered
+/// doesn't depend on their number. No folder of the store is out, and none is out afterwards: each dataset is opened once, and
+/// given back as soon as it is opened, and nothing is made in the store.
+pub fn retrieve_over<
+    F: Send + Drop,
+    X: Drop,
+    S: Store<F>,
+    I: Source<X>,
+    K: Sink<X>,
+    E: Sink<X>,
+    G: Gate,
+    R: Threads + Wait + Sync,
+>(
+    rt: &R,
+    alloc: Global,
+    root: &Root,
+    layers: &Layers,
+    workers: u32,
+    store: &mut S,
+    input: &mut I,
+    output: &mut K,
+    report: &mut E,
+    gate: &G,
+) -> Status
+where
+    requires workers { (1 ≤ workers) × (workers ≤ 8) }
+    requires layers { AreLayers layers.now }
+    requires home { (name : List ℕ) → S.out store.old name ≡ false }
+    ensures ran { Ran (RetrieveOver root.now layers.now workers) result (object (S.has store.old) (S.has store.new) (S.faults store.old) (S.faults store.new)) (object (I.left input.old) (I.left input.new) (I.faults input.old) (I.faults input.new)) (object (K.taken output.old) (K.taken output.new) (K.faults output.old) (K.faults output.new)) (object (E.taken report.old) (E.taken report.new) (E.faults report.old) (E.faults report.new)) }
+    ensures home { (name : List ℕ) → S.out store.new name ≡ false }
+{
+    match prepared(alloc, root.as_str(), layers, store, input) {
+        Ok(ready) => answered(
+            rt, alloc, store, ready, layers, workers, output, report, gate,
+        ),
+        Err(stop) => tell_stop(alloc, store, report, stop),
+    }
+}
+
+/// Answers what stands ready.
+fn answered<
+    F: Send + Drop,
+    X: Drop,
+    S: Store<F>,
+    Z: Sealed<F>,
+    K: Sink<X>,
+    E: Sink<X>,
+    G: Gate,
+    R: Threads + Wait + Sync,
+>(
+    rt: &R,
+    alloc: Global,
+    store: &mut S,
+    ready: Ready<F, Z>,
+    layers: &Layers,
+    workers: u32,
+    output: &mut K,
+    report: &mut E,
+    gate: &G,
+) -> Status
+where
+    requires workers { (1 ≤ workers) × (workers ≤ 8) }
+    requires layers { AreLayers layers.now }
+    requires chains { AreChains (length layers.now) (expand ready.request) (map seen_place ready.places.items) }
+    ensures ran { (root : List ℕ) (before : Option Holdings) (faults : ℕ) (input : Object (List ℕ)) → Begins (RetrieveOver root layers.now workers) before (S.has store.old) faults (S.faults store.old) input ready.opened.items (laid_answers (table_in ready.opened.items) (laid_with layers.now ready.request ready.places.items))
+        → Ran (RetrieveOver root layers.now workers) result (object before (S.has store.new) faults (S.faults store.new)) input (object (K.taken output.old) (K.taken output.new) (K.faults output.old) (K.faults output.new)) (object (E.taken report.old) (E.taken report.new) (E.faults report.old) (E.faults report.new)) }
+    ensures out { S.out store.new ≡ S.out store.old }
+{
+    let Ready {
+        request,
+        places,
+        opened,
+    } = ready;
+    let located = locate_over(
+        rt,
+        alloc,
+        &opened,
+        &places,
+        layers.len() + 1,
+        request.count(),
+        workers,
+        gate,
+    );
+    answer_located(
+        rt, alloc, store, &request, &opened, located, workers, output, report,
+    )
+}

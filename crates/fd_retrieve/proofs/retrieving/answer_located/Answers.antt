@@ -1,0 +1,86 @@
+use Rattle.std.proofs.Common.{◌≡◌, ◌∙◌, List, Option, Some, IfOk, refl, sym, subst, arith}
+use Rattle.fd_request.specs.Expansion.{expand}
+use Rattle.fd_outcome.specs.Asking.{Answer}
+use Rattle.fd_outcome.specs.Objects.{object}
+use Rattle.fd_telling.proofs.StopLemmas.{rose_later}
+use Rattle.fd_retrieve.specs.Located.{AreAt, OnLost}
+use Rattle.fd_retrieve.specs.Open.{IsDamagedAt}
+use Rattle.fd_retrieve.proofs.AnsweringLemmas.{took_nothing}
+use Rattle.fd_retrieve.proofs.DatasetLemmas.{at_get}
+use Rattle.fd_retrieve.proofs.RetrieveExits.{counted_ran, damaged_ran, disk_ran, part_none, starved_ran, untold_ran, unwritten_ran}
+use Rattle.fd_retrieve.proofs.retrieving.answer_located.Goals as goal
+
+pub returns-in-Err-Disk-clause-ran : goal.returns-in-Err-Disk-clause-ran
+returns-in-Err-Disk-clause-ran g c = λ root over before faults input o begins at.
+    disk_ran root over c.args.workers before _ _ faults _ _ input (object (g.K.Sink.taken c.args.output.now) (g.K.Sink.taken c.args.output.now) (g.K.Sink.faults c.args.output.now) (g.K.Sink.faults c.args.output.now))
+    (object (g.E.Sink.taken c.args.report.now) (g.E.Sink.taken c.tell_disk_failed.new.report) (g.E.Sink.faults c.args.report.now) (g.E.Sink.faults c.tell_disk_failed.new.report))
+    c.args.opened.now o begins c.note.ensures.has (g.E.Sink.taken c.args.report.now) (g.E.Sink.faults c.args.report.now) c.tell_disk_failed.result (omega arith)
+    c.tell_disk_failed.ensures (rose_later faults _ _ begins.later c.note.ensures.cause) (λ xs e. part_none xs (g.K.Sink.taken c.args.output.now) (g.E.Sink.taken c.args.report.now)) (took_nothing (g.E.Sink.taken c.args.report.now))
+
+pub returns-in-Err-Damaged-clause-ran : goal.returns-in-Err-Damaged-clause-ran
+returns-in-Err-Damaged-clause-ran g c = λ root over before faults input o begins at.
+    let bad : IsDamagedAt c.args.opened.now c.in-Err-Damaged.number c.in-Err-Damaged.damage =
+    let lost : OnLost c.in-Err-Damaged.field-0 (IsDamagedAt c.args.opened.now) = rw c.in-Err-Damaged.is at c.requires.damaged in
+    rw c.in-Err-Damaged.field-0-is at lost in
+    damaged_ran root over c.args.workers before _ _ faults _ _ input (object (g.K.Sink.taken c.args.output.now) (g.K.Sink.taken c.args.output.now) (g.K.Sink.faults c.args.output.now) (g.K.Sink.faults c.args.output.now))
+    (object (g.E.Sink.taken c.args.report.now) (g.E.Sink.taken c.tell_damaged.new.report) (g.E.Sink.faults c.args.report.now) (g.E.Sink.faults c.tell_damaged.new.report))
+    c.args.opened.now o begins refl (g.E.Sink.taken c.args.report.now) (g.E.Sink.faults c.args.report.now) c.tell_damaged.result (omega arith)
+    c.in-Err-Damaged.number c.index-opened-number.result c.in-Err-Damaged.damage (at_get c.args.opened.now c.in-Err-Damaged.number c.index-opened-number.result bad.inside c.index-opened-number.is) bad
+    c.tell_damaged.ensures.told (λ xs e. part_none xs (g.K.Sink.taken c.args.output.now) (g.E.Sink.taken c.args.report.now)) (took_nothing (g.E.Sink.taken c.args.report.now))
+
+pub returns-in-Err-NoMemory-clause-ran : goal.returns-in-Err-NoMemory-clause-ran
+returns-in-Err-NoMemory-clause-ran g c = λ root over before faults input o begins at.
+    starved_ran root over c.args.workers before _ _ faults _ _ input (object (g.K.Sink.taken c.args.output.now) (g.K.Sink.taken c.args.output.now) (g.K.Sink.faults c.args.output.now) (g.K.Sink.faults c.args.output.now))
+    (object (g.E.Sink.taken c.args.report.now) (g.E.Sink.taken c.tell_no_memory.new.report) (g.E.Sink.faults c.args.report.now) (g.E.Sink.faults c.tell_no_memory.new.report))
+    c.args.opened.now o begins refl (g.E.Sink.taken c.args.report.now) (g.E.Sink.faults c.args.report.now) c.tell_no_memory.result (omega arith)
+    c.tell_no_memory.ensures (λ xs e. part_none xs (g.K.Sink.taken c.args.output.now) (g.E.Sink.taken c.args.report.now)) (took_nothing (g.E.Sink.taken c.args.report.now))
+
+pub returns-in-Ok-answer_all-clause-ran : goal.returns-in-Ok-answer_all-clause-ran
+returns-in-Ok-answer_all-clause-ran g c = λ root over before faults input o begins at.
+    let there : (xs : List Answer) → o ≡ Some xs → AreAt c.args.opened.now (expand c.args.request.now) xs c.in-Ok.located.items = rw c.in-Ok.is at at in
+    counted_ran root over c.args.workers before _ _ faults _ _ input (object (g.K.Sink.taken c.args.output.now) (g.K.Sink.taken c.answer_all.new.output) (g.K.Sink.faults c.args.output.now) (g.K.Sink.faults c.answer_all.new.output))
+    (object (g.E.Sink.taken c.args.report.now) (g.E.Sink.taken c.tell_counts.new.report) (g.E.Sink.faults c.args.report.now) (g.E.Sink.faults c.tell_counts.new.report))
+    c.args.opened.now o begins refl (g.E.Sink.taken c.answer_all.new.report) (g.E.Sink.faults c.answer_all.new.report) c.tell_counts.result c.in-Ok-answer_all.ensures.report
+    c.in-Ok-answer_all.found c.in-Ok-answer_all.missed c.tell_counts.ensures c.in-Ok-answer_all.ensures.calm (λ xs e. c.in-Ok-answer_all.ensures.answered xs (subst (AreAt c.args.opened.now (expand c.args.request.now) xs) (sym c.deref.ensures.value) (there xs e))) c.in-Ok-answer_all.ensures.grew
+
+pub returns-in-Err-Disk-answer_all-clause-ran : goal.returns-in-Err-Disk-answer_all-clause-ran
+returns-in-Err-Disk-answer_all-clause-ran g c = λ root over before faults input o begins at.
+    let there : (xs : List Answer) → o ≡ Some xs → AreAt c.args.opened.now (expand c.args.request.now) xs c.in-Ok.located.items = rw c.in-Ok.is at at in
+    disk_ran root over c.args.workers before _ _ faults _ _ input (object (g.K.Sink.taken c.args.output.now) (g.K.Sink.taken c.answer_all.new.output) (g.K.Sink.faults c.args.output.now) (g.K.Sink.faults c.answer_all.new.output))
+    (object (g.E.Sink.taken c.args.report.now) (g.E.Sink.taken c.tell_disk_failed-in-Err-Disk-answer_all.new.report) (g.E.Sink.faults c.args.report.now) (g.E.Sink.faults c.tell_disk_failed-in-Err-Disk-answer_all.new.report))
+    c.args.opened.now o begins c.note-in-Err-Disk-answer_all.ensures.has (g.E.Sink.taken c.answer_all.new.report) (g.E.Sink.faults c.answer_all.new.report) c.tell_disk_failed-in-Err-Disk-answer_all.result c.in-Err-Disk-answer_all.ensures.report
+    c.tell_disk_failed-in-Err-Disk-answer_all.ensures (rose_later faults _ _ begins.later c.note-in-Err-Disk-answer_all.ensures.cause) (λ xs e. c.in-Err-Disk-answer_all.ensures.halted xs (subst (AreAt c.args.opened.now (expand c.args.request.now) xs) (sym c.deref.ensures.value) (there xs e))) c.in-Err-Disk-answer_all.ensures.grew
+
+pub returns-in-Err-Unwritten-clause-ran : goal.returns-in-Err-Unwritten-clause-ran
+returns-in-Err-Unwritten-clause-ran g c = λ root over before faults input o begins at.
+    let there : (xs : List Answer) → o ≡ Some xs → AreAt c.args.opened.now (expand c.args.request.now) xs c.in-Ok.located.items = rw c.in-Ok.is at at in
+    unwritten_ran root over c.args.workers before _ _ faults _ _ input (object (g.K.Sink.taken c.args.output.now) (g.K.Sink.taken c.answer_all.new.output) (g.K.Sink.faults c.args.output.now) (g.K.Sink.faults c.answer_all.new.output))
+    (object (g.E.Sink.taken c.args.report.now) (g.E.Sink.taken c.tell_output_failed.new.report) (g.E.Sink.faults c.args.report.now) (g.E.Sink.faults c.tell_output_failed.new.report))
+    c.args.opened.now o begins refl (g.E.Sink.taken c.answer_all.new.report) (g.E.Sink.faults c.answer_all.new.report) c.tell_output_failed.result c.in-Err-Unwritten.ensures.report
+    c.tell_output_failed.ensures (rw c.in-Err-Unwritten.field-0-is at c.in-Err-Unwritten.ensures.cause) (λ xs e. c.in-Err-Unwritten.ensures.halted xs (subst (AreAt c.args.opened.now (expand c.args.request.now) xs) (sym c.deref.ensures.value) (there xs e))) c.in-Err-Unwritten.ensures.grew
+
+pub returns-in-Err-Untold-clause-ran : goal.returns-in-Err-Untold-clause-ran
+returns-in-Err-Untold-clause-ran g c = λ root over before faults input o begins at.
+    let there : (xs : List Answer) → o ≡ Some xs → AreAt c.args.opened.now (expand c.args.request.now) xs c.in-Ok.located.items = rw c.in-Ok.is at at in
+    untold_ran root over c.args.workers before _ _ faults _ _ input (object (g.K.Sink.taken c.args.output.now) (g.K.Sink.taken c.answer_all.new.output) (g.K.Sink.faults c.args.output.now) (g.K.Sink.faults c.answer_all.new.output))
+    (object (g.E.Sink.taken c.args.report.now) (g.E.Sink.taken c.answer_all.new.report) (g.E.Sink.faults c.args.report.now) (g.E.Sink.faults c.answer_all.new.report))
+    c.args.opened.now o begins refl (g.E.Sink.taken c.answer_all.new.report) (g.E.Sink.faults c.answer_all.new.report) _ c.in-Err-Untold.ensures.report
+    refl refl (rw c.in-Err-Untold.field-0-is at c.in-Err-Untold.ensures.cause) (λ xs e. c.in-Err-Untold.ensures.halted xs (subst (AreAt c.args.opened.now (expand c.args.request.now) xs) (sym c.deref.ensures.value) (there xs e)))
+
+pub returns-in-Err-Damaged-answer_all-clause-ran : goal.returns-in-Err-Damaged-answer_all-clause-ran
+returns-in-Err-Damaged-answer_all-clause-ran g c = λ root over before faults input o begins at.
+    let there : (xs : List Answer) → o ≡ Some xs → AreAt c.args.opened.now (expand c.args.request.now) xs c.in-Ok.located.items = rw c.in-Ok.is at at in
+    let bad : IsDamagedAt c.args.opened.now c.in-Err-Damaged-answer_all.number c.in-Err-Damaged-answer_all.damage = rw c.in-Err-Damaged-answer_all.field-0-is at c.in-Err-Damaged-answer_all.ensures.damaged in
+    damaged_ran root over c.args.workers before _ _ faults _ _ input (object (g.K.Sink.taken c.args.output.now) (g.K.Sink.taken c.answer_all.new.output) (g.K.Sink.faults c.args.output.now) (g.K.Sink.faults c.answer_all.new.output))
+    (object (g.E.Sink.taken c.args.report.now) (g.E.Sink.taken c.tell_damaged-in-Err-Damaged-answer_all.new.report) (g.E.Sink.faults c.args.report.now) (g.E.Sink.faults c.tell_damaged-in-Err-Damaged-answer_all.new.report))
+    c.args.opened.now o begins refl (g.E.Sink.taken c.answer_all.new.report) (g.E.Sink.faults c.answer_all.new.report) c.tell_damaged-in-Err-Damaged-answer_all.result c.in-Err-Damaged-answer_all.ensures.report
+    c.in-Err-Damaged-answer_all.number c.index-opened-number-in-Err-Damaged-answer_all.result c.in-Err-Damaged-answer_all.damage (at_get c.args.opened.now c.in-Err-Damaged-answer_all.number c.index-opened-number-in-Err-Damaged-answer_all.result bad.inside c.index-opened-number-in-Err-Damaged-answer_all.is) bad
+    c.tell_damaged-in-Err-Damaged-answer_all.ensures.told (λ xs e. c.in-Err-Damaged-answer_all.ensures.halted xs (subst (AreAt c.args.opened.now (expand c.args.request.now) xs) (sym c.deref.ensures.value) (there xs e))) c.in-Err-Damaged-answer_all.ensures.grew
+
+pub returns-clause-ran : goal.returns-clause-ran
+returns-clause-ran g c = λ root over before faults input o begins at.
+    let there : (xs : List Answer) → o ≡ Some xs → AreAt c.args.opened.now (expand c.args.request.now) xs c.in-Ok.located.items = rw c.in-Ok.is at at in
+    starved_ran root over c.args.workers before _ _ faults _ _ input (object (g.K.Sink.taken c.args.output.now) (g.K.Sink.taken c.answer_all.new.output) (g.K.Sink.faults c.args.output.now) (g.K.Sink.faults c.answer_all.new.output))
+    (object (g.E.Sink.taken c.args.report.now) (g.E.Sink.taken c.tell_no_memory-in-Err-NoMemory-answer_all.new.report) (g.E.Sink.faults c.args.report.now) (g.E.Sink.faults c.tell_no_memory-in-Err-NoMemory-answer_all.new.report))
+    c.args.opened.now o begins refl (g.E.Sink.taken c.answer_all.new.report) (g.E.Sink.faults c.answer_all.new.report) c.tell_no_memory-in-Err-NoMemory-answer_all.result c.in-Err-NoMemory-answer_all.ensures.report
+    c.tell_no_memory-in-Err-NoMemory-answer_all.ensures (λ xs e. c.in-Err-NoMemory-answer_all.ensures.halted xs (subst (AreAt c.args.opened.now (expand c.args.request.now) xs) (sym c.deref.ensures.value) (there xs e))) c.in-Err-NoMemory-answer_all.ensures.grew
