@@ -1,0 +1,4 @@
+mod Folders
+mod Growing
+mod Images
+mod ReclaimLaws

@@ -1,0 +1,67 @@
+-- What is found of a store whose command was stopped at some call of the disk, and which then crashed.
+use Rattle.std.specs.Prelude.{◌≡◌, ◌≢◌, ◌⊎◌, ℕ, List, Option, Some, IfSome, Result, Ok, Err, option_map}
+use Rattle.fd_disk.specs.declared.folders.FileName.{FileName}
+use Rattle.fd_disk.specs.Folders.{Contents, Holdings, IsStoreImage, Left, folder_at}
+use Rattle.fd_disk.specs.Images.{firm_file}
+use Rattle.fd_entries.specs.declared.batch.Pair.{Pair}
+use Rattle.fd_key.specs.Pairs as keys
+use Rattle.fd_schema.specs.Rules.{Rule}
+use Rattle.fd_purge.specs.Purging.{read_of}
+use Rattle.fd_outcome.specs.Causes.{Cause}
+use Rattle.fd_outcome.specs.Archiving.{pairs_for, taken}
+use Rattle.fd_outcome.specs.Outcome.{generated_messages}
+use Rattle.fd_outcome.specs.Trying.{trial_given}
+use Rattle.fd_outcome.specs.Store.{Adds, Sorted, table_at}
+use Rattle.fd_archive.specs.Crashing.{IsAfterCrash, IsTableAfter}
+
+-- A crash of the one folder may leave the other: its files, and an image of its table.
+pub record IsFolderAfter (v w : Contents) : Type 0 where
+  pub table : IsTableAfter v.table w.table
+  pub files : (n : FileName) → w.files n ≡ v.files n
+
+-- all tables are firm
+abbrev pub AreFirm : Holdings → Type 0
+AreFirm h = (name : List ℕ) → IfSome (folder_at h name).table (λ f. f ≡ firm_file f.reads)
+
+-- each store that a crash may leave of the later one is so
+abbrev pub EachLeft : (Holdings → Holdings → Type 0) → Holdings → Holdings → Type 0
+EachLeft P h i = (j : Holdings) → IsAfterCrash i j → P h j
+
+-- Of each dataset that was sound this is what a crash before the command may have left; or it holds what it held, and behind it
+-- few batches of its pairs alone, each of them whole. Where all tables were firm, it is the second, with maybe no batches.
+pub record HasGrown (workers : ℕ) (pairs : Sorted) (h j : Holdings) : Type 0 where
+  pub each : (name : List ℕ) (t : List (List Pair)) → table_at h name ≡ Some t → IsFolderAfter (folder_at h name) (folder_at j name) ⊎ Adds workers (pairs name) t (table_at j name)
+  pub firm : AreFirm h → (name : List ℕ) (t : List (List Pair)) → table_at h name ≡ Some t → Adds workers (pairs name) t (table_at j name)
+
+-- What is found of an archive: the schema, and datasets that have grown. A store without rules is what a crash before may
+-- have left.
+abbrev pub FoundStored : ℕ → Result (List Rule) Cause → List keys.Pair → List ℕ → Holdings → Holdings → Type 0
+FoundStored workers (Ok rules) given octets h j = (j.schema ≡ h.schema) × HasGrown workers (pairs_for (taken rules given octets).stored) h j
+FoundStored workers (Err cause) given octets h j = IsAfterCrash h j
+
+-- The same of a trial.
+abbrev pub FoundTried : ℕ → ℕ → Result (List Rule) Cause → Holdings → Holdings → Type 0
+FoundTried workers count (Ok rules) h j = HasGrown workers (pairs_for (taken rules trial_given (generated_messages count)).stored) h j
+FoundTried workers count (Err cause) h j = IsAfterCrash h j
+
+-- What is found where one dataset was purged or wiped: the schema, and of each other dataset what a crash before may have left.
+-- Of this one it is that, or what the purge or the wipe leaves at a moment of it.
+pub record FoundReclaimed (dataset : List ℕ) (P : Contents → Left → Type 0) (h j : Holdings) : Type 0 where
+  pub schema : j.schema ≡ h.schema
+  pub others : (other : List ℕ) → other ≢ dataset → IsFolderAfter (folder_at h other) (folder_at j other)
+  pub there : IsFolderAfter (folder_at h dataset) (folder_at j dataset) ⊎ P (folder_at h dataset) (read_of (folder_at j dataset))
+
+-- Where all tables were firm, a sound dataset holds what it held, or the new batches.
+abbrev pub HasOldOr : (List (List Pair) → List (List Pair)) → List ℕ → Holdings → Holdings → Type 0
+HasOldOr new dataset h j = AreFirm h → (t : List (List Pair)) → table_at h dataset ≡ Some t → (table_at j dataset ≡ Some t) ⊎ (table_at j dataset ≡ Some (new t))
+
+-- what a crash left of a store, with each table firm
+abbrev pub firm_left : Left → Contents
+firm_left left = record { table = option_map firm_file left.table; files = left.files }
+
+abbrev pub store_left : Option (List ℕ) → (List ℕ → Option Left) → Holdings
+store_left schema folders = record { schema = schema; folders = λ name. option_map firm_left (folders name) }
+
+-- Each image of a store is one that a crash may leave, once its tables are firm.
+abbrev pub ImagesAreLeft : Type 0
+ImagesAreLeft = (i : Holdings) (schema : Option (List ℕ)) (folders : List ℕ → Option Left) → IsStoreImage i schema folders → IsAfterCrash i (store_left schema folders)
