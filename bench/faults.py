@@ -18,7 +18,7 @@ import time
 from array import array
 
 import power
-from sent import SCHEMA, Program, Scope, Sent, archive_words, listed_by, session_input
+from sent import SCHEMA, Program, Scope, Sent, archive_words, dataset_of, listed_by, session_input
 
 program_path, work, parts, trials, states, seed, most = *sys.argv[1:4], int(sys.argv[4]), int(sys.argv[5]), sys.argv[6], int(sys.argv[7])
 program = Program(program_path)
@@ -972,6 +972,105 @@ def power_cut():
     return tally.tell()
 
 
+# (g) the order of a purge's and a wipe's calls
+
+ORDERED, SYNCS = "openat,write,pwrite64,rename,renameat,renameat2,unlink,unlinkat,fsync,fdatasync", ("fsync", "fdatasync")
+
+
+class Step:
+    """A system call of a trace: its thread, its name, the descriptor that it is given, the paths of this or of its words, and its answer."""
+
+    def __init__(self, line):
+        parts = re.fullmatch(r"(\d+) +(\w+)\((.*)\) += (-?\d+).*", line)
+        if not parts:
+            raise power.Unknown(f"line: {line[:100]}")
+        self.thread, self.name, words, self.answer = parts[1], parts[2], parts[3], int(parts[4])
+        given = re.match(r"(\d+)<([^>]*)>", words)
+        self.handle = int(given[1]) if given else None
+        self.paths = [given[2]] if given else re.findall(r'"([^"]*)"', words)
+
+    def is_of(self, names, path):
+        """It is one of these calls, went well, and was of this path."""
+        return self.name in names and self.answer >= 0 and self.paths[-1:] == [path]
+
+
+def steps_below(words, inject=()):
+    """The status and report of a command below strace, and its calls in their order."""
+    chosen = [word for fault in inject for word in ("-e", f"inject={fault}")]
+    ended = subprocess.run(["strace", "-f", "-y", "-qq", "-s", "0", "-e", "signal=none", "-e", f"trace={ORDERED}", *chosen, "-o", f"{work}/steps", "--", program.path, *words],
+                           stdin=subprocess.DEVNULL, capture_output=True)
+    return ended.returncode, ended.stderr.decode(errors="replace"), [Step(line.rstrip("\n")) for line in open(f"{work}/steps", errors="replace")]
+
+
+def firm_at(steps, folder):
+    """The place of the sync that makes the table's new name, or its removal, firm, and what is wrong with the order around it."""
+    table = f"{folder}/toc"
+    changes = [i for i, step in enumerate(steps) if step.is_of(("rename", "renameat", "renameat2", "unlink", "unlinkat"), table)]
+    if not changes:
+        return None, "the table was neither renamed nor removed"
+    change = changes[-1]
+    firm = next((i for i in range(change, len(steps)) if steps[i].is_of(SYNCS, folder)), None)
+    behind = [i for i, step in enumerate(steps) if i > change and (step.name == "write" and step.handle in (1, 2) or step.name.startswith("unlink"))]
+    if len(behind) < 2:
+        return None, "no file was removed, or nothing was told"
+    if firm is None or firm > behind[0]:
+        return None, f"the folder isn't synced before the {steps[behind[0]].name} of {steps[behind[0]].paths[-1]}"
+    # a descriptor that is older than the change tells of each failure to write it back
+    opened = max(i for i in range(firm) if steps[i].name == "openat" and steps[i].answer == steps[firm].handle)
+    if opened > change:
+        return None, "the folder is synced through a descriptor that is younger than the change"
+    if steps[change].name.startswith("rename"):
+        new = steps[change].paths[0]
+        written = max((i for i in range(change) if steps[i].is_of(("write", "pwrite64"), new)), default=-1)
+        if not any(steps[i].is_of(SYNCS, new) for i in range(written + 1, change)):
+            return None, "the new table isn't synced before it gets its name"
+    return firm, None
+
+
+def fails_at(command, steps, firm, store, tally):
+    """The same command over a store like that before it, where this sync fails. What is wrong then."""
+    number = sum(step.thread == steps[firm].thread and step.name == steps[firm].name for step in steps[:firm + 1])
+    folder = f"{store}/{dataset_of(0)}"
+    files = set(os.listdir(folder)) - {"toc"}
+    status, told, again = steps_below([command, store, dataset_of(0)], [f"{steps[firm].name}:error=EIO:when={number}"])
+    failed = [step.paths for step in again if step.name in SYNCS and step.answer < 0]
+    tally.add("syncs that failed", len(failed))
+    if failed != [[folder]]:
+        return f"other syncs failed: {failed}"
+    if status != 6 or told != "disk failed\n":
+        return f"status {status}: {told.strip()[-200:]}"
+    lost = files - set(os.listdir(folder))
+    return f"{len(lost)} files were removed behind the failed sync" if lost else None
+
+
+def renewals():
+    """A purge and a wipe: the table's name is firm before a file is removed, and nothing is removed where it can't be made firm."""
+    tally = Tally("g", "the calls of a purge and of a wipe in their order, and a sync of the folder that fails")
+    zeros(tally, "runs in order", "syncs that failed", "acknowledged fields lost", "fields torn", "stores refused")
+    first, sent, scope = f"{os.path.realpath(work)}/renewed", Sent(), Scope(1)
+    made(first)
+    for _ in range(3):
+        status, told = archived(first, sent, scope.keys)
+        assert status == 0, f"archive ended with {status}: {told}"
+    for command in ("purge", "wipe"):
+        whole, broken = f"{first}-{command}", f"{first}-{command}-broken"
+        shutil.copytree(first, whole)
+        shutil.copytree(first, broken)
+        status, told, steps = steps_below([command, whole, dataset_of(0)])
+        firm, why = firm_at(steps, f"{whole}/{dataset_of(0)}")
+        if status != 0 or why:
+            tally.wrong.append(f"{command}: {why or f'status {status}: {told.strip()[-200:]}'}")
+        if firm is None:
+            continue
+        tally.add("runs in order")
+        why = fails_at(command, steps, firm, broken, tally)
+        if why:
+            tally.wrong.append(f"{command}, whose sync of the folder fails: {why}")
+        for store in (whole, broken) if command == "purge" else ():
+            tally.judge(*program.found(store, scope, sent), sent, f"a retrieve behind a {command}")
+    return tally.tell()
+
+
 # what a part needs
 
 
@@ -987,14 +1086,14 @@ def needs(part):
     """Why a part can't be run here, or None."""
     if part == "a" and not (has_loops() and os.access("/proc/sys/vm/drop_caches", os.W_OK)):
         return "it takes root, loop devices and mkfs.ext4"
-    if part in "aef" and not has_strace():
+    if part in "aefg" and not has_strace():
         return "it takes strace"
     if part == "b" and os.geteuid() != 0:
         return "it takes root, to mount a small RAM disk"
     return None
 
 
-PARTS = {"a": write_errors, "b": full_disk, "c": limits, "d": processes, "e": power_cut, "f": failed_syncs}
+PARTS = {"a": write_errors, "b": full_disk, "c": limits, "d": processes, "e": power_cut, "f": failed_syncs, "g": renewals}
 
 
 def main():

@@ -11,8 +11,10 @@
 #       the disk may hold at some moment, where what no sync had covered is kept, dropped, cut or garbled (`power.py`).
 #   (f) the same behind a sync that was made to fail: an archive or a session that met it, then an archive that ended well, then the cut,
 #       which leaves what Linux and ext4 were seen to leave then (`power.py`).
+#   (g) the calls of a purge and of a wipe: the folder is synced behind the table's new name, or its removal, and before the first file is
+#       removed and anything is told; where that sync is made to fail the status is 6, and no file is removed.
 # Prints a line for each part and up to TELL (8) of what was wrong, and ends with 0 only where nothing was. A part that can't be run here is skipped
-# with a sentence: (a) and (b) take root on Linux, (a) loop devices too, (a), (e) and (f) strace. PARTS (abcdef) names those that are run,
+# with a sentence: (a) and (b) take root on Linux, (a) loop devices too, (a), (e), (f) and (g) strace. PARTS (abcdefg) names those that are run,
 # SEED where the numbers begin, PROGRAM (or FDB) the program, where it isn't to be built here, WORK a folder for what is made (/tmp). All
 # that it mounts is in a name space of its own, and goes with it. No part of the gate.
 set -eu
@@ -48,7 +50,7 @@ mkdir "$work/files"
 export PYTHONDONTWRITEBYTECODE=1
 seed=${SEED:-$RANDOM$RANDOM}
 echo "seed $seed"
-"${apart[@]}" python3 "$top/bench/faults.py" "$work/program" "$work/files" "${PARTS:-abcdef}" "${TRIALS:-20}" "${STATES:-2000}" "$seed" "${TELL:-8}" &
+"${apart[@]}" python3 "$top/bench/faults.py" "$work/program" "$work/files" "${PARTS:-abcdefg}" "${TRIALS:-20}" "${STATES:-2000}" "$seed" "${TELL:-8}" &
 child=$!
 status=0
 wait "$child" || status=$?
