@@ -68,7 +68,7 @@ module _ (workers : ℕ) (name : List ℕ) (pairs : List Pair) (b : List (List P
               ∙ ap all_of (map-append batch_at back.entries (l.entry ∷ []))
               ∙ all_both (map batch_at back.entries) (batch_at l.entry ∷ []) (b ++ adds.added) (c ∷ []) first last
               ∙ ap (λ (x : List (List Pair)). Some x) (append_assoc b adds.added (c ∷ []));
-          only = All-push (HasOnly pairs) adds.added c adds.only (only c kept.1);
+          only = All-push (HasOnly pairs) adds.added c adds.only (only.only c kept.1);
           few = omega (arith, long, count, listings, sum, more, few, seen, opening);
         }
 

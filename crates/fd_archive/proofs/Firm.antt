@@ -42,7 +42,7 @@ firm_held name (Some u) (Some p) v w back settled files left =
     ap (λ (fs : FileName → Option (List ℕ)). held_by name fs w.table) same ∙ (ap (held_by name u.files) after.2 ∙ (ap (batches_listed u.files) lists ∙ ap (λ (es : List Entry). batches_listed u.files (Ok es)) all))
 
 -- a dataset of a message has a pair
-some_pair : (ss : List Stored) (name : List ℕ) → Contains (datasets_in ss) name → pairs_for ss name ≡ [] → ⊥
+pub some_pair : (ss : List Stored) (name : List ℕ) → Contains (datasets_in ss) name → pairs_for ss name ≡ [] → ⊥
 some_pair [] name there none = absurd (let lt = there.1 in omega (arith, lt))
 some_pair (s ∷ ss) name there none = go (bytes_eq s.dataset name) refl (λ more e. some_pair ss name more e) there.0 there.1 there.2 none
   where

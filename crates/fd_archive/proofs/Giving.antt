@@ -9,7 +9,7 @@ use Rattle.fd_disk.proofs.NameLemmas.{is_or_not}
 use Rattle.fd_entries.specs.declared.batch.Listing.{Listing}
 use Rattle.fd_entries.specs.declared.batch.Pair as batches
 use Rattle.fd_entries.specs.declared.table.Entry.{Entry}
-use Rattle.fd_recovery.specs.Recovered.{held}
+use Rattle.fd_recovery.specs.Recovered.{IsUndamaged, held}
 use Rattle.fd_library.specs.Open.{OpenDataset, Seated, among, names_of}
 use Rattle.fd_library.specs.Stores.{GivenBack, GivesBack, HasSeenAll, IsGivenBack, IsSettled, KeepsFolder, held_in, held_of, held_with}
 use Rattle.fd_key.specs.Pairs.{Pair}
@@ -24,10 +24,10 @@ use Rattle.fd_bulk.specs.declared.bulk.Bulk.{Bulk}
 use Rattle.fd_bulk.specs.declared.bulk.BulkFault.{BulkFault}
 use Rattle.fd_bulk.specs.declared.bulk.BulkFault.TheVariants as faults
 use Rattle.fd_archive.specs.Crashing.{GrowsFirmly, IsAfterCrash, IsFirm, IsUntouched}
-use Rattle.fd_archive.specs.Kept.{InputKept, IsStop, RefusedKept, StoppedKept}
+use Rattle.fd_archive.specs.Kept.{InputKept, IsStop, NoneDamaged, RefusedKept, StoppedKept}
 use Rattle.fd_archive.proofs.Adding.{adds_all_of, adds_of}
 use Rattle.fd_archive.proofs.Doubting.{CanDoubt, back_grown, crash_grown}
-use Rattle.fd_archive.proofs.Firm.{firm, firm_among}
+use Rattle.fd_archive.proofs.Firm.{firm, firm_among, some_pair}
 use Rattle.fd_archive.proofs.Growing.{firm_same}
 use Rattle.fd_archive.proofs.Tables.{few_listed}
 use Rattle.fd_archive.proofs.Untouched.{firm_kept}
@@ -177,6 +177,15 @@ module _ {D : Type 0} (has : D → Option Contents) where
           ];
         })
 
+  -- none of the datasets of the messages was damaged
+  undamaged_first : (workers : ℕ) (all : List Stored) (each : List (OpenDataset D)) (start now : Option Holdings) → WhereTold start now (GrowsAll has workers all each) → IfSome start (NoneDamaged all)
+  undamaged_first workers all each None now grows = tt
+  undamaged_first workers all each (Some s) None grows = absurd grows
+  undamaged_first workers all each (Some s) (Some t) grows = λ name there. elim (is_or_not (among name (names_of each))) as (λ _. IsUndamaged name (folder_at s name)) [
+    | inl opened ↦ grows.sound name opened
+    | inr out ↦ absurd (some_pair all name there (grows.only name out))
+  ]
+
   is_full : (workers : ℕ) (all : List Stored) (each : List (OpenDataset D)) (now later : Option Holdings) → WhereTold now later (GivesBack has each) → All (IsBack has workers all) each → (h : OpenDataset D) → Contains each h → IfSome h.pass (λ p. length p.view.history ≡ 65535)
       → IfSome later (λ u. IsFull u h.name)
   is_full workers all each None None given back h there full = tt
@@ -222,13 +231,13 @@ module _ {D : Type 0} (has : D → Option Contents) where
 
       module _ {X : Type 0} where
         refused_kept : (fault : BulkFault X) → RefusedArchived has workers rules pairs left after start now each fault → RefusedKept workers rules pairs left after start later fault
-        refused_kept fault w = record { all = w.all; grows = all_grow workers w.all each start now later given w.grows w.back kept; firm = firm_all w.all w.grows w.back; firmly = all_firmly workers w.all each start now later given w.grows w.back; messages = w.messages; numbered = w.numbered; next_is = w.next_is; refused = w.refused }
+        refused_kept fault w = record { all = w.all; grows = all_grow workers w.all each start now later given w.grows w.back kept; firm = firm_all w.all w.grows w.back; firmly = all_firmly workers w.all each start now later given w.grows w.back; undamaged = undamaged_first workers w.all each start now w.grows; messages = w.messages; numbered = w.numbered; next_is = w.next_is; refused = w.refused }
 
         stopped_kept : (fault : BulkFault X) → StoppedArchived has workers rules pairs left after start now each fault → IsStop workers rules pairs left after start later fault → StoppedKept workers rules pairs left after start later fault
         stopped_kept fault w stop = record { all = w.all; grows = some_grow workers w.all each start now later given w.grows w.back; firmly = some_firmly workers w.all each start now later given w.grows w.back; front = w.front; stop = stop }
 
         pub kept_of : (r : Result Bulk (BulkFault X)) → Archived has workers rules pairs left after start now each r → InputKept workers rules pairs left after start later r
-        kept_of (Ok bulk) w = record { all = w.all; grows = all_grow workers w.all each start now later given w.grows w.back kept; firm = firm_all w.all w.grows w.back; firmly = all_firmly workers w.all each start now later given w.grows w.back; fields = w.fields; datasets = w.datasets; taken_is = w.taken_is }
+        kept_of (Ok bulk) w = record { all = w.all; grows = all_grow workers w.all each start now later given w.grows w.back kept; firm = firm_all w.all w.grows w.back; firmly = all_firmly workers w.all each start now later given w.grows w.back; undamaged = undamaged_first workers w.all each start now w.grows; fields = w.fields; datasets = w.datasets; taken_is = w.taken_is }
         kept_of (Err (faults.Input f)) w = record { all = w.all; grows = all_grow workers w.all each start now later given w.grows w.back kept; firm = firm_all w.all w.grows w.back; firmly = all_firmly workers w.all each start now later given w.grows w.back; read = w.read }
         kept_of (Err (faults.Message at)) w = refused_kept (faults.Message at) w
         kept_of (Err (faults.NoMap number field)) w = refused_kept (faults.NoMap number field) w

@@ -8,4 +8,5 @@ pub mod Firm
 pub mod Giving
 pub mod ArchiveExits
 pub mod Outlasting
+pub mod Noticing
 pub mod Looked

@@ -11,8 +11,7 @@ use Rattle.fd_entries.specs.declared.batch.Pair.{Pair}
 use Rattle.fd_entries.specs.Table.{listed}
 use Rattle.fd_recovery.specs.Recovered.{batches_listed, held, held_by}
 use Rattle.fd_outcome.specs.Archiving.{Stored, pairs_for}
-use Rattle.fd_outcome.specs.Store.{Adds, AddsAll, Grows, GrowsBy, Sorted, table_at}
-use Rattle.fd_retrieve.specs.Looking.{IsLookedAt, IsLookedThrough}
+use Rattle.fd_outcome.specs.Store.{Adds, AddsAll, Grows, GrowsBy, IsLookedAt, IsLookedThrough, Sorted, table_at}
 use Rattle.fd_archive.specs.Crashing.{GrowsFirmly, IsAfterCrash, IsFirm, IsTableAfter, IsUntouched}
 
 -- ---- a crash that leaves this of one folder, and the firm bytes of the others

@@ -1,6 +1,7 @@
 -- What the store holds once an input was archived, or why not all of it, and all was given back.
 use Rattle.std.specs.Prelude.{◌≡◌, ◌+◌, ℕ, List, length, Option, Some, None, IfSome, Result, Ok, Err, Contains, string_bytes}
 use Rattle.fd_disk.specs.Folders.{Holdings, WhereTold, folder_at}
+use Rattle.fd_recovery.specs.Recovered.{IsUndamaged}
 use Rattle.fd_key.specs.Pairs.{Pair}
 use Rattle.fd_schema.specs.Rules.{Rule}
 use Rattle.fd_outcome.specs.Asking.{count_distinct}
@@ -13,13 +14,18 @@ use Rattle.fd_bulk.specs.declared.bulk.BulkFault.TheVariants as faults
 use Rattle.fd_bulk.specs.Archived.{HasRead, IsCause, IsFront, IsNumbered, IsWholeTaken}
 use Rattle.fd_archive.specs.Crashing.{GrowsFirmly, IsFirm}
 
+-- none of the datasets of these messages is damaged
+abbrev pub NoneDamaged : List Stored → Holdings → Type 0
+NoneDamaged all h = (name : List ℕ) → Contains (datasets_in all) name → IsUndamaged name (folder_at h name)
+
 module _ (workers : ℕ) (rules : List Rule) (given : List Pair) (left after : Option (List ℕ)) (start now : Option Holdings) where
-  -- all messages of the input stand in the store, also after a crash
+  -- all messages of the input stand in the store, also after a crash, in datasets that weren't damaged
   pub record WholeKept (bulk : Bulk) : Type 0 where
     pub all : List Stored
     pub grows : WhereTold start now (GrowsBy workers (pairs_for all))
     pub firm : WhereTold start now (IsFirm workers all)
     pub firmly : WhereTold start now (GrowsFirmly workers (pairs_for all))
+    pub undamaged : IfSome start (NoneDamaged all)
     pub fields : bulk.fields ≡ length all
     pub datasets : bulk.datasets ≡ count_distinct (datasets_in all)
     pub taken_is : IfSome left (λ octets. IsWholeTaken all bulk.junk (taken rules given octets))
@@ -30,6 +36,7 @@ module _ (workers : ℕ) (rules : List Rule) (given : List Pair) (left after : O
     pub grows : WhereTold start now (GrowsBy workers (pairs_for all))
     pub firm : WhereTold start now (IsFirm workers all)
     pub firmly : WhereTold start now (GrowsFirmly workers (pairs_for all))
+    pub undamaged : IfSome start (NoneDamaged all)
     -- the number of the message that is refused
     pub messages : ℕ
     pub numbered : IsNumbered fault (messages + 1)

@@ -1,8 +1,10 @@
 // `archive`.
 ghost use Rattle.std.specs.Prelude.{◌≡◌, ◌≤◌, false, List, ℕ, Option, Ok, IfSome};
+ghost use Rattle.fd_disk.specs.Folders.{WhereTold};
 ghost use Rattle.fd_schema.specs.Grammar.{IsSchema};
 ghost use Rattle.fd_words.specs.declared.command.Command.TheVariants.{Archive};
 ghost use Rattle.fd_outcome.specs.Asking.{rules_of};
+ghost use Rattle.fd_outcome.specs.Noticing.{Notices, ReadsFitly, SparesDamaged};
 ghost use Rattle.fd_outcome.specs.Objects.{object};
 ghost use Rattle.fd_outcome.specs.Ran.{Ran};
 ghost use Rattle.fd_archive.specs.Crashing.{OutlastsCrash};
@@ -25,7 +27,9 @@ use std::thread::Threads;
 /// none is out afterwards. Before a refusal of the input or a failed read is told, all datasets are listed; a refusal that a
 /// worker meets there is told in its place.
 ///
-/// What is told to be stored outlasts a crash: each store that it may leave has all these messages.
+/// What is told to be stored outlasts a crash: each store that it may leave has all these messages. It is told only where none of their
+/// datasets was damaged; a damaged dataset keeps its files, and its table as it was, or synced. Where the store has no schema, or one that
+/// is none, nothing of the input is read.
 pub fn archive<
     F: Send + Drop,
     X: Drop,
@@ -49,6 +53,9 @@ where
     requires home { (name : List ℕ) → S.out store.old name ≡ false }
     requires workers { (1 ≤ workers) × (workers ≤ 8) }
     ensures ran { (a : Option (List ℕ)) (k : ℕ) → Ran (Archive root.now given.now workers) result (object (S.has store.old) (S.has store.new) (S.faults store.old) (S.faults store.new)) (object (I.left input.old) (I.left input.new) (I.faults input.old) (I.faults input.new)) (object a a k k) (object (E.taken report.old) (E.taken report.new) (E.faults report.old) (E.faults report.new)) }
+    ensures notices { (a : Option (List ℕ)) (k : ℕ) → Notices (Archive root.now given.now workers) result (object (S.has store.old) (S.has store.new) (S.faults store.old) (S.faults store.new)) (object (I.left input.old) (I.left input.new) (I.faults input.old) (I.faults input.new)) (object a a k k) (object (E.taken report.old) (E.taken report.new) (E.faults report.old) (E.faults report.new)) }
+    ensures unread { ReadsFitly (Archive root.now given.now workers) (object (S.has store.old) (S.has store.new) (S.faults store.old) (S.faults store.new)) (object (I.left input.old) (I.left input.new) (I.faults input.old) (I.faults input.new)) }
+    ensures spares { WhereTold (S.has store.old) (S.has store.new) SparesDamaged }
     ensures outlasts { OutlastsCrash (Archive root.now given.now workers) result (object (S.has store.old) (S.has store.new) (S.faults store.old) (S.faults store.new)) (object (I.left input.old) (I.left input.new) (I.faults input.old) (I.faults input.new)) (object (E.taken report.old) (E.taken report.new) (E.faults report.old) (E.faults report.new)) }
     ensures home { (name : List ℕ) → S.out store.new name ≡ false }
 {
@@ -92,6 +99,9 @@ where
     requires workers { (1 ≤ workers) × (workers ≤ 8) }
     ensures ran { (root : List ℕ) (faults : ℕ) (a : Option (List ℕ)) (k : ℕ) → faults ≤ S.faults store.old → IfSome (S.has store.old) (λ h. rules_of h.schema ≡ Ok schema.now)
         → Ran (Archive root given.now workers) result (object (S.has store.old) (S.has store.new) faults (S.faults store.new)) (object (I.left input.old) (I.left input.new) (I.faults input.old) (I.faults input.new)) (object a a k k) (object (E.taken report.old) (E.taken report.new) (E.faults report.old) (E.faults report.new)) }
+    ensures notices { (root : List ℕ) (a : Option (List ℕ)) (k : ℕ) → IfSome (S.has store.old) (λ h. rules_of h.schema ≡ Ok schema.now)
+        → Notices (Archive root given.now workers) result (object (S.has store.old) (S.has store.new) (S.faults store.old) (S.faults store.new)) (object (I.left input.old) (I.left input.new) (I.faults input.old) (I.faults input.new)) (object a a k k) (object (E.taken report.old) (E.taken report.new) (E.faults report.old) (E.faults report.new)) }
+    ensures spares { WhereTold (S.has store.old) (S.has store.new) SparesDamaged }
     ensures outlasts { (root : List ℕ) → IfSome (S.has store.old) (λ h. rules_of h.schema ≡ Ok schema.now)
         → OutlastsCrash (Archive root given.now workers) result (object (S.has store.old) (S.has store.new) (S.faults store.old) (S.faults store.new)) (object (I.left input.old) (I.left input.new) (I.faults input.old) (I.faults input.new)) (object (E.taken report.old) (E.taken report.new) (E.faults report.old) (E.faults report.new)) }
     ensures home { (name : List ℕ) → S.out store.new name ≡ false }

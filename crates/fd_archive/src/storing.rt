@@ -1,7 +1,9 @@
 // An input, from its first octet to the giving back of all datasets.
 ghost use Rattle.std.specs.Prelude.{◌≡◌, ◌≤◌, ℕ, List, [], Some, IfSome, OnOk, false, is_some};
 ghost use Rattle.fd_bytes.specs.Causes.{Rose};
+ghost use Rattle.fd_disk.specs.Folders.{WhereTold};
 ghost use Rattle.fd_schema.specs.Grammar.{IsSchema};
+ghost use Rattle.fd_outcome.specs.Noticing.{SparesDamaged};
 ghost use Rattle.fd_bulk.specs.Archived.{IsRead, OnDisk, OnInput};
 ghost use Rattle.fd_archive.specs.Kept.{InputKept};
 
@@ -20,7 +22,7 @@ use std::thread::Threads;
 ///
 /// At a refusal of the input and at a failed read the fields before it are all stored: of a message that is refused as a whole none, of
 /// one with a field that can't be stored those before that field. At another fault, and where memory runs out, each dataset has few
-/// batches more, of its messages alone.
+/// batches more, of its messages alone. A damaged dataset keeps its files, and its table as it was, or synced.
 pub fn store_all<
     F: Send + Drop,
     X: Drop,
@@ -44,6 +46,7 @@ where
     requires home { (name : List ℕ) → S.out store.old name ≡ false }
     ensures home { (name : List ℕ) → S.out store.new name ≡ false }
     ensures stored { InputKept workers schema.now given.now (I.left input.old) (I.left input.new) (S.has store.old) (S.has store.new) result }
+    ensures spares { WhereTold (S.has store.old) (S.has store.new) SparesDamaged }
     ensures to_end { IfSome (I.left input.old) (λ octets. OnOk result (I.left input.new ≡ Some [])) }
     ensures calm { IsRead result (I.faults input.new ≡ I.faults input.old) }
     ensures read { OnInput result (Rose (I.faults input.old) (I.faults input.new)) }

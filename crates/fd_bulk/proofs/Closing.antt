@@ -7,13 +7,14 @@ use Rattle.std.proofs.Math.Nat.{mod-lt}
 use Rattle.std.proofs.lemmas.List.{length-map}
 use Rattle.std.proofs.lemmas.List.Elements.{All-cons, All-nil, Contains-append_left, Contains-append_right}
 use Rattle.fd_disk.specs.declared.folders.FileName.{FileName}
-use Rattle.fd_disk.specs.Folders.{Contents, Holdings, WhereTold}
+use Rattle.fd_disk.specs.Folders.{Contents, Holdings, WhereTold, folder_at}
 use Rattle.fd_entries.specs.declared.batch.Pair.{Pair}
 use Rattle.fd_segment.specs.Held.{Standing}
 use Rattle.fd_turn.specs.declared.board.Pass.{Pass}
 use Rattle.fd_turn.specs.Passes.{BoardId, view}
 use Rattle.fd_turn.specs.Views.{View}
 use Rattle.fd_archiver.specs.Writing.{IsPendingIn, Writing}
+use Rattle.fd_recovery.specs.Recovered.{IsUndamaged}
 use Rattle.fd_library.specs.Calls.{Changes}
 use Rattle.fd_library.specs.Open.{AreDistinct, OpenDataset, OpenDatasets, among, names_of}
 use Rattle.fd_library.specs.Stores.{held_in, held_of, held_with}
@@ -451,11 +452,19 @@ module _ {D H X Y E : Type 0} (has : D → Option Contents) (faults : D → ℕ)
     rest_now : (s t : Holdings) (x : List ℕ) → HoldsRest (names_of l.each) s t → among x (names_of l.each) ≡ false → held_with has m.each t x ≡ held_of s x
     rest_now s t x r out = held_outside has m.each t x (names_now x ∙ out) ∙ r.rest x out
 
+    -- a dataset that is open wasn't damaged
+    sound_first : (s : Holdings) → start ≡ Some s → (x : List ℕ) → among x (names_of m.each) ≡ true → IsUndamaged x (folder_at s x)
+    sound_first s is x there =
+        let o = opened_as x (sym (names_now x) ∙ there) in
+        let b = back_at o.number o.now_is o.at in
+        subst (λ (n : List ℕ). IsUndamaged n (folder_at s n)) (sym b.same_name ∙ o.named) (subst (λ (h : Option Holdings). IfSome h (λ u. IsUndamaged b.before.name (folder_at u b.before.name))) is b.begun.undamaged)
+
     grows_told : (s t : Holdings) → start ≡ Some s → HoldsRest (names_of l.each) s t → Grows has (length js) all m.each s t
     grows_told s t is r = record {
       schema = r.schema;
       each_is = λ x b base. go x b base (true_or_false (among x (names_of l.each)));
       openings = all_from (λ (g : OpenDataset D). (b : List (List Pair)) → held_of s g.name ≡ Some b → IfSome g.pass (λ p. length b ≡ p.view.opening)) m.each (λ n g at b base. one_opening n g at s b is base);
+      sound = λ x there. sound_first s is x there;
       keeps = λ x out. r.keeps x (sym (names_now x) ∙ out);
     }
       where
@@ -534,7 +543,7 @@ module _ {D H X Y E : Type 0} (has : D → Option Contents) (faults : D → ℕ)
             (kk.begun.holds s b is (ap (held_of s) (sym name) ∙ base)) (λ w. refl) same_its))
 
       whole_told : (s t : Holdings) → start ≡ Some s → HoldsRest (names_of l.each) s t → GrowsAll has (length js) all m.each s t
-      whole_told s t is r = record { schema = r.schema; each_is = λ x b base. go x b base (true_or_false (among x (names_of l.each))); only = λ x out. only x (sym (names_now x) ∙ out); keeps = λ x out. r.keeps x (sym (names_now x) ∙ out) }
+      whole_told s t is r = record { schema = r.schema; each_is = λ x b base. go x b base (true_or_false (among x (names_of l.each))); only = λ x out. only x (sym (names_now x) ∙ out); sound = λ x there. sound_first s is x there; keeps = λ x out. r.keeps x (sym (names_now x) ∙ out) }
         where
           go : (x : List ℕ) (b : List (List Pair)) → held_of s x ≡ Some b → (among x (names_of l.each) ≡ true) ⊎ (among x (names_of l.each) ≡ false) → AddsAllBy (length js) (pairs_for all x) b (held_with has m.each t x)
           go x b base (inl there) =

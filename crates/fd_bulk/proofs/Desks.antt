@@ -69,6 +69,7 @@ module _ {H X Y : Type 0} where
       each = stay_lent h ds es a r.each;
       differ = subst Differ (sym (stay_writers ds es a)) r.differ;
       holds = r.holds;
+      undamaged = r.undamaged;
     }
 
   -- ---- by the workers

@@ -46,9 +46,17 @@ module _ {H : Type 0} (kept : H → Option (FileName → Option (List ℕ))) (st
 
   -- it is of the worker's pairs
   doubt_only : (pairs : List Pair) → ((x : Pair) → Contains its x → Contains pairs x) → All (IsOnlyOf pairs) v.doubts
-  doubt_only pairs within = of_doubts (IsOnlyOf pairs) (λ d batch batch_is key bytes there.
-      within (record { key = key; bytes = bytes }) (subst (λ (ps : List Pair). Contains ps (record { key = key; bytes = bytes })) (sym c.pairs_are)
-      (Contains-append_right (pairs_in c.receipts) c.pending (record { key = key; bytes = bytes }) (in_batch c.pending key bytes ((sealed d).alike batch batch_is key ∙ there)))))
+  doubt_only pairs within = of_doubts (IsOnlyOf pairs) (λ d. record {
+    some = λ none. (sealed d).some (no_pairs c.pending (λ x there. let lt = (subst (λ (ps : List Pair). Contains ps x) none (among x there)).1 in omega (arith, lt)));
+    only = λ batch batch_is key bytes there. among (record { key = key; bytes = bytes }) (in_batch c.pending key bytes ((sealed d).alike batch batch_is key ∙ there));
+  })
+    where
+      among : (x : Pair) → Contains c.pending x → Contains pairs x
+      among x there = within x (subst (λ (ps : List Pair). Contains ps x) (sym c.pairs_are) (Contains-append_right (pairs_in c.receipts) c.pending x there))
+
+      no_pairs : (ps : List Pair) → ((x : Pair) → Contains ps x → ⊥) → ps ≡ []
+      no_pairs [] not = refl
+      no_pairs (x ∷ ps) not = absurd (not x (0, omega arith, refl))
 
   -- the folder that took the shelf's files has those of it
   doubt_held : (files : FileName → Option (List ℕ)) → w.told ≡ true → Holds kept w files → All (IsHeldBy files) v.doubts

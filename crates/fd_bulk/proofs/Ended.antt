@@ -263,7 +263,7 @@ module _ {D H X Y : Type 0} (has : D → Option Contents) (faults : D → ℕ) (
 -- ---- a dataset to which nothing came
 
 pub none_added : (workers : ℕ) (pairs : List Pair) (before : List (List Pair)) (after : Option (List (List Pair))) → after ≡ Some before → AddsBy workers pairs before after
-none_added workers pairs before after is = record { added = []; after_is = is ∙ ap Some (sym (append-nil before)); only = All-nil _; few = omega arith }
+none_added workers pairs before after is = record { added = []; after_is = is ∙ ap Some (sym (append-nil before)); only = All-nil _; few = omega arith; none = λ e. refl }
 
 pub none_added_all : (workers : ℕ) (pairs : List Pair) (before : List (List Pair)) (after : Option (List (List Pair))) → after ≡ Some before → pairs ≡ [] → AddsAllBy workers pairs before after
 none_added_all workers pairs before after is none = record {

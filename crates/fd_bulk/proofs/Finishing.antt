@@ -94,8 +94,10 @@ starved_first {D = D} X has workers rules given left after start each none = rec
       after_is = ap (λ (hs : List (OpenDataset D)). held_with has hs s name) none ∙ is ∙ ap (λ (x : List (List batches.Pair)). Some x) (sym (append-nil b));
       only = λ i d lt. absurd (omega (arith, lt));
       few = omega arith;
+      none = λ e. refl;
     };
     openings = λ i d lt. absurd (let e = ap length none in omega (arith, lt, e));
+    sound = λ name there. absurd (let out : among name (names_of each) ≡ false = ap (λ (hs : List (OpenDataset D)). among name (names_of hs)) none in cc (there, out));
     keeps = λ name out. keeps_same name (folder_at s name);
   }) start;
   back = subst (All (IsBack has workers [])) (sym none) (λ i d lt. absurd (omega (arith, lt)));

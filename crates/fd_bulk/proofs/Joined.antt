@@ -1,15 +1,16 @@
 -- A dataset that no worker has met.
-use Rattle.std.proofs.Common.{◌≡◌, ℕ, zero, suc, ◌+◌, ◌≤◌, List, [], ◌∷◌, ◌++◌, length, slice_get, slice_set, All, Option, Some, None, refl, sym, ap, ap₂, subst, ◌∙◌, arith}
+use Rattle.std.proofs.Common.{◌≡◌, ℕ, zero, suc, ◌+◌, ◌≤◌, List, [], ◌∷◌, ◌++◌, length, slice_get, slice_set, All, Option, Some, None, IfSome, refl, sym, ap, ap₂, subst, ◌∙◌, arith}
 use Rattle.std.proofs.lemmas.List.Elements.{All-nil, All-weaker}
 use Rattle.std.proofs.lemmas.Option.{slice_get_past, slice_get_within}
 use Rattle.fd_disk.specs.declared.folders.FileName.{FileName}
-use Rattle.fd_disk.specs.Folders.{Contents, Holdings}
+use Rattle.fd_disk.specs.Folders.{Contents, Holdings, folder_at}
 use Rattle.fd_entries.specs.declared.batch.Listing.{Listing}
 use Rattle.fd_entries.specs.declared.batch.Pair.{Pair}
 use Rattle.fd_turn.specs.declared.board.Pass.{Pass}
 use Rattle.fd_turn.specs.Passes.{BoardId, IsOf, view}
 use Rattle.fd_turn.specs.Views.{View, all_parts, first_view}
 use Rattle.fd_archiver.specs.Writing.{Writing}
+use Rattle.fd_recovery.specs.Recovered.{IsUndamaged}
 use Rattle.fd_library.specs.Answers.{IsOpened}
 use Rattle.fd_library.specs.Open.{IsWhole, OpenDataset, Seated, seat_of}
 use Rattle.fd_library.specs.Stores.{held_by_pass, held_in, held_of}
@@ -188,12 +189,13 @@ module _ {D H X Y : Type 0} (has : D → Option Contents) where
     each = r.each;
     differ = r.differ;
     holds = r.holds;
+    undamaged = r.undamaged;
   }
 
   -- its pass was handed out
   pub begun_new : (start : Option Holdings) (name : List ℕ) (board : BoardId) (h g : OpenDataset D) (p : Pass X Y) → IsOpened name board h → h.pass ≡ Some (seat_of p) → IsWhole h.name (seat_of p) → g ≡ record h { pass = None } → IsOf board p
-      → ((s : Holdings) (t : List (List Pair)) → start ≡ Some s → held_of s h.name ≡ Some t → held_in has h ≡ Some t) → HasBegun {H = H} has start 0 board g p []
-  begun_new start name board h g p o at whole rest own holds = record {
+      → ((s : Holdings) (t : List (List Pair)) → start ≡ Some s → held_of s h.name ≡ Some t → held_in has h ≡ Some t) → IfSome start (λ s. IsUndamaged h.name (folder_at s h.name)) → HasBegun {H = H} has start 0 board g p []
+  begun_new start name board h g p o at whole rest own holds undamaged = record {
     own = own;
     out = ap (λ (d : OpenDataset D). d.pass) rest;
     free = whole.free;
@@ -212,6 +214,7 @@ module _ {D H X Y : Type 0} (has : D → Option Contents) where
     holds = λ s t is base.
         ap (λ (f : D). held_by_pass (has f) (Some (seat_of p))) (ap (λ (d : OpenDataset D). d.folder) rest) ∙ ap (held_by_pass (has h.folder)) (sym at)
         ∙ holds s t is (ap (held_of s) (sym (ap (λ (d : OpenDataset D). d.name) rest)) ∙ base);
+    undamaged = subst (λ (n : List ℕ). IfSome start (λ s. IsUndamaged n (folder_at s n))) (sym (ap (λ (d : OpenDataset D). d.name) rest)) undamaged;
   }
     where
       seat : seat_of p ≡ record { board = board; view = first_view name o.told o.history }

@@ -63,6 +63,7 @@ module _ {H : Type 0} (kept : H → Option (FileName → Option (List ℕ))) whe
       one : (o : Option (List Pair)) → batch_of r.1.segment.files ≡ o → is_some o ≡ true → IsHeld files r
       one None e some = absurd (cc some)
       one (Some c) e some = record {
+        some = all.0.sealed.some;
         batch = c;
         is = segment_back files kf r.1.segment c back (subst (λ (o : Option (FileName → Option (List ℕ))). IsKept o r.1.segment) is_kept all.0.files) e;
         alike = all.0.sealed.alike c e;
@@ -79,6 +80,7 @@ pub held_stay : (old new : FileName → Option (List ℕ)) (writer : ℕ) (rs : 
 held_stay old new writer [] stay owned all = tt
 held_stay old new writer (r ∷ rs) stay owned all = (
   record {
+    some = all.0.some;
     batch = all.0.batch;
     is = ap batch_of (files_stay old new r.1.segment.files.entry (λ n is. stay n (is ∙ owned.0))) ∙ all.0.is;
     alike = all.0.alike;

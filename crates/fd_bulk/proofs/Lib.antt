@@ -42,5 +42,6 @@ pub mod Inputs
 pub mod Readings
 pub mod Settling
 pub mod Finishing
+pub mod Sparing
 pub mod Naming
 pub mod Overlaps

@@ -5,12 +5,12 @@ use Rattle.std.specs.Str.{bytes_eq}
 use Rattle.std.specs.Prelude.{string_bytes}
 use Rattle.std.proofs.lemmas.List.{length-map}
 use Rattle.fd_disk.specs.declared.folders.FileName.{FileName}
-use Rattle.fd_disk.specs.Folders.{Contents, Holdings, SameBut, WhereTold, no_contents}
+use Rattle.fd_disk.specs.Folders.{Contents, Holdings, SameBut, WhereTold, folder_at, no_contents}
 use Rattle.fd_entries.specs.declared.batch.Pair.{Pair}
 use Rattle.fd_turn.specs.declared.board.Pass.{Pass}
 use Rattle.fd_turn.specs.Passes.{BoardId, IsOf}
 use Rattle.fd_archiver.specs.Writing.{Writing}
-use Rattle.fd_recovery.specs.Recovered.{held}
+use Rattle.fd_recovery.specs.Recovered.{IsUndamaged, held}
 use Rattle.fd_library.specs.Answers.{HoldsAs}
 use Rattle.fd_library.specs.Calls.{Changes, Opens}
 use Rattle.fd_library.specs.Open.{IsWhole, OpenDataset, OpenDatasets, among, names_of, seat_of}
@@ -27,7 +27,7 @@ use Rattle.fd_bulk.proofs.Desks.{all_begun_on}
 use Rattle.fd_bulk.proofs.Joined.{at_end, begun_lost, begun_new, desks_more, desks_none, each_back, each_same_on, running_more, running_same, set_end, waits_more, waits_on, work_long}
 use Rattle.fd_bulk.proofs.Keeping.{keeps_on}
 use Rattle.fd_bulk.proofs.Matching.{matched_long, matched_map, matched_push}
-use Rattle.fd_bulk.proofs.Tellings.{through}
+use Rattle.fd_bulk.proofs.Tellings.{at_first, through}
 use Rattle.fd_bulk.proofs.Texts.{among_apart, among_push, count_new, count_old, is_among_push, no_pairs_for, one_text, true_or_false}
 
 pub folder_same : (s t : Holdings) (n : List ℕ) → t.folders n ≡ s.folders n → held_of t n ≡ held_of s n
@@ -116,7 +116,7 @@ module _ {D H X Y E : Type 0} (has : D → Option Contents) (kept : H → Option
       -- ---- it was opened, and its pass handed out
 
       module _ (new : among name (names_of l.each) ≡ false) (n : ℕ) (l₁ l₂ : OpenDatasets D) (p : Pass X Y) (o : Opens has n name l l₁ before after)
-          (ch : Changes n l₁ l₂ (λ h g. (h.pass ≡ Some (seat_of p)) × IsWhole h.name (seat_of p) × (g ≡ record h { pass = None }))) (own : IfSome (slice_get l₁.boards n) (λ b. IsOf b p)) (sound : AreOpen l₂) (e : Each (λ i. HasOneMore) js ks) where
+          (ch : Changes n l₁ l₂ (λ h g. (h.pass ≡ Some (seat_of p)) × IsWhole h.name (seat_of p) × (g ≡ record h { pass = None }))) (own : IfSome (slice_get l₁.boards n) (λ b. IsOf b p)) (sound : AreOpen l₂) (e : Each (λ i. HasOneMore) js ks) (undamaged : IfSome before (λ s. IsUndamaged name (folder_at s name))) where
         before_is : ch.before ≡ o.held
         before_is = let a : slice_get l₁.each n ≡ Some o.held = ap₂ slice_get o.adds.each o.number ∙ at_end l.each o.held in let b = ch.was in cc (a, b)
 
@@ -154,10 +154,13 @@ module _ {D H X Y E : Type 0} (has : D → Option Contents) (kept : H → Option
             go None u h = absurd u
             go (Some b) u h = h.files ∙ ap (held_of b) o.opened.name_is ∙ folder_same s b name (u name new) ∙ ap (held_of s) (sym o.opened.name_is) ∙ base
 
+        undamaged_first : IfSome start (λ s. IsUndamaged o.held.name (folder_at s o.held.name))
+        undamaged_first = subst (λ (n : List ℕ). IfSome start (λ s. IsUndamaged n (folder_at s n))) (sym o.opened.name_is) (at_first start before (names_of l.each) name (IsUndamaged name) d.untouched new undamaged)
+
         begun : HasBegun has start 0 o.board ch.after p (desks_at (length l.each) ks)
         begun = subst (HasBegun has start 0 o.board ch.after p)
             (sym (desks_more (length l.each) js ks e ∙ desks_none (length l.each) js (λ w j at. let r = d.crewed.works w j at in let s = work_long kept (λ k. Filling) _ 0 l.boards (names_of l.each) j.desks.items r.works in let t = length-map l.each (λ (h : OpenDataset D). h.name) in omega (arith, s, t))))
-            (begun_new has start name o.board o.held ch.after p o.opened (ap (λ (h : OpenDataset D). h.pass) (sym before_is) ∙ ch.how.0) (subst (λ (h : OpenDataset D). IsWhole h.name (seat_of p)) before_is ch.how.1) rest_is is_own held_first)
+            (begun_new has start name o.board o.held ch.after p o.opened (ap (λ (h : OpenDataset D). h.pass) (sym before_is) ∙ ch.how.0) (subst (λ (h : OpenDataset D). IsWhole h.name (seat_of p)) before_is ch.how.1) rest_is is_own held_first undamaged_first)
 
         each_begun : AllBegun has start 0 ks l₂.boards l₂.each (ps ++ p ∷ [])
         each_begun = subst (λ (bs : List BoardId). AllBegun has start 0 ks bs l₂.each (ps ++ p ∷ [])) (sym boards_are) (subst (λ (hs : List (OpenDataset D)). AllBegun has start 0 ks (l.boards ++ o.board ∷ []) hs (ps ++ p ∷ [])) (sym each_is)

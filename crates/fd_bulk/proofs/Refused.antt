@@ -1,11 +1,11 @@
 -- The run, where a dataset can't be opened.
 use Rattle.std.proofs.Common.{◌≡◌, ◌⊎◌, inl, inr, ℕ, ◌<◌, ◌++◌, true, false, List, length, Option, Some, None, IfSome, Ok, Err, refl, sym, subst, ◌∙◌, arith}
-use Rattle.std.specs.Prelude.{Contains, String, string_bytes, unwrap_or}
+use Rattle.std.specs.Prelude.{Contains, String, string_bytes}
 use Rattle.std.specs.declared.alloc.Global.{Global}
 use Rattle.std.proofs.lemmas.List.{length-map}
 use Rattle.fd_disk.specs.declared.file.File.{File}
 use Rattle.fd_disk.specs.declared.folders.FileName.{FileName}
-use Rattle.fd_disk.specs.Folders.{Contents, Holdings, WhereTold, folder_at, no_contents}
+use Rattle.fd_disk.specs.Folders.{Contents, Holdings, WhereTold, folder_at}
 use Rattle.fd_entries.specs.declared.table.Entry.{Entry}
 use Rattle.fd_entries.specs.declared.table.NotATable.{NotATable}
 use Rattle.fd_entries.specs.Table.{listed}
@@ -31,7 +31,7 @@ use Rattle.fd_bulk.specs.Crewing.{Closes, Deals, HoldsRest, IsUnopened, SaysDama
 use Rattle.fd_bulk.specs.Halting.{Each, IsSameJob}
 use Rattle.fd_bulk.proofs.Keeping.{keeps_looked}
 use Rattle.fd_bulk.proofs.Opened.{deals_closes, deals_same}
-use Rattle.fd_bulk.proofs.Tellings.{both_told, held_outside, through}
+use Rattle.fd_bulk.proofs.Tellings.{at_first, both_told, held_outside, through}
 use Rattle.fd_bulk.proofs.Texts.{not_too_many_few, too_many_new}
 
 -- ---- as it is told
@@ -110,13 +110,8 @@ module _ {D H X Y E : Type 0} (has : D → Option Contents) (kept : H → Option
 
   module _ (new : among name (names_of l.each) ≡ false) where
     -- what stands in the store stood there at first
-    at_first : (P : Contents → Type 0) → IfSome before (λ s. P (folder_at s name)) → IfSome start (λ s. P (folder_at s name))
-    at_first P p = go start before d.untouched p
-      where
-        go : (a b : Option Holdings) → WhereTold a b (λ s t. (n : List ℕ) → among n (names_of l.each) ≡ false → t.folders n ≡ s.folders n) → IfSome b (λ s. P (folder_at s name)) → IfSome a (λ s. P (folder_at s name))
-        go None b u p = tt
-        go (Some s) None u p = absurd u
-        go (Some s) (Some t) u p = subst (λ (o : Option Contents). P (unwrap_or o no_contents)) (u name new) p
+    stood : (P : Contents → Type 0) → IfSome before (λ s. P (folder_at s name)) → IfSome start (λ s. P (folder_at s name))
+    stood P p = at_first start before (names_of l.each) name P d.untouched new p
 
     bad_table : (v : Contents) (fault : NotATable) → WithTable v.table (λ f. listed name f.reads ≡ Err fault) → Stands name v (BadTable fault)
     bad_table v fault x = go v.table refl x
@@ -154,7 +149,7 @@ module _ {D H X Y E : Type 0} (has : D → Option Contents) (kept : H → Option
           closes,
           t.named,
           subst (λ (f : NotATable). IfSome start (λ s. Stands name (folder_at s name) (BadTable f))) (sym t.same)
-              (at_first (λ v. Stands name v (BadTable (record { at = a; want = w; found = fd }))) (if_some before (λ s. bad_table (folder_at s name) (record { at = a; want = w; found = fd })) table)),
+              (stood (λ v. Stands name v (BadTable (record { at = a; want = w; found = fd }))) (if_some before (λ s. bad_table (folder_at s name) (record { at = a; want = w; found = fd })) table)),
         )
         go (inr none) = subst (λ (v : BulkFault _). Undealt has kept start after all waiting name (datasets_in (all ++ waiting)) v l ps ks parcels) (sym none) closes
     undealt (opens.Damaged b) u is many table file = go (tells_damage name b u is)
@@ -163,7 +158,7 @@ module _ {D H X Y E : Type 0} (has : D → Option Contents) (kept : H → Option
         go (inl t) = subst (λ (v : BulkFault _). Undealt has kept start after all waiting name (datasets_in (all ++ waiting)) v l ps ks parcels) (sym t.is) (
           closes,
           t.named,
-          subst (λ (x : Damage). IfSome start (λ s. Stands name (folder_at s name) (BadFile x))) (sym t.same) (at_first (λ v. Stands name v (BadFile b)) (if_some before (λ s. bad_file (folder_at s name) b) file)),
+          subst (λ (x : Damage). IfSome start (λ s. Stands name (folder_at s name) (BadFile x))) (sym t.same) (stood (λ v. Stands name v (BadFile b)) (if_some before (λ s. bad_file (folder_at s name) b) file)),
         )
         go (inr none) = subst (λ (v : BulkFault _). Undealt has kept start after all waiting name (datasets_in (all ++ waiting)) v l ps ks parcels) (sym none) closes
     undealt (opens.TooMany count) u is many table file = subst (λ (v : BulkFault _). Undealt has kept start after all waiting name (datasets_in (all ++ waiting)) v l ps ks parcels) (sym is) (closes, d.met, many.1)

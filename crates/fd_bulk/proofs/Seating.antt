@@ -1,9 +1,9 @@
 -- A worker that meets a dataset, or can't.
-use Rattle.std.proofs.Common.{◌≡◌, ◌==◌, ◌⊎◌, inl, inr, ◌<◌, ◌≤◌, ◌+◌, ◌-◌, ℕ, zero, suc, Bool, true, false, List, [], ◌∷◌, ◌++◌, All, length, slice_get, slice_set, Option, Some, None, is_some, Ok, refl, sym, ap, ap₂, subst, ◌∙◌, arith, length-append}
+use Rattle.std.proofs.Common.{◌≡◌, ◌==◌, ◌⊎◌, inl, inr, ◌<◌, ◌≤◌, ◌+◌, ◌-◌, ℕ, zero, suc, Bool, true, false, List, [], ◌∷◌, ◌++◌, All, length, slice_get, slice_set, Option, Some, None, IfSome, is_some, Ok, refl, sym, ap, ap₂, subst, ◌∙◌, arith, length-append}
 use mathlib.Core.List.{map-append}
 use Rattle.std.proofs.lemmas.List.Elements.{All-cons, All-head, All-tail, All-weaker}
 use Rattle.fd_disk.specs.declared.folders.FileName.{FileName}
-use Rattle.fd_disk.specs.Folders.{Contents, Holdings}
+use Rattle.fd_disk.specs.Folders.{Contents, Holdings, folder_at}
 use Rattle.fd_entries.specs.declared.batch.Listing.{Listing}
 use Rattle.fd_entries.specs.declared.batch.Pair.{Pair}
 use Rattle.fd_entries.specs.Table.{greatest_writer}
@@ -13,7 +13,7 @@ use Rattle.fd_turn.specs.declared.board.Pass.{Pass}
 use Rattle.fd_turn.specs.Passes.{BoardId, IsSame, view}
 use Rattle.fd_turn.specs.Views.{View, donor, recipient}
 use Rattle.fd_dataset.specs.Listed.{entries_of}
-use Rattle.fd_recovery.specs.Recovered.{batches_listed}
+use Rattle.fd_recovery.specs.Recovered.{IsUndamaged, batches_listed}
 use Rattle.fd_archiver.specs.Writing.{Writing}
 use Rattle.fd_library.specs.Calls.{IsNewWriter, KeepsOtherFiles}
 use Rattle.fd_library.specs.Open.{OpenDataset, Seated, seat_of}
@@ -60,6 +60,9 @@ module _ {D : Type 0} (h g : OpenDataset D) (rest : g ≡ record h { folder = g.
 
   given_is : g.given ≡ h.given + 1
   given_is = ap (λ (d : OpenDataset D). d.given) rest
+
+  still_undamaged : (start : Option Holdings) → IfSome start (λ s. IsUndamaged h.name (folder_at s h.name)) → IfSome start (λ s. IsUndamaged g.name (folder_at s g.name))
+  still_undamaged start undamaged = subst (λ (n : List ℕ). IfSome start (λ s. IsUndamaged n (folder_at s n))) (sym (ap (λ (d : OpenDataset D). d.name) rest)) undamaged
 
   earlier_still : (ls : List Listing) → All (λ (l : Listing). l.entry.writer + h.given ≤ h.last) ls → All (λ (l : Listing). l.entry.writer + g.given ≤ g.last) ls
   earlier_still ls all = All-weaker (λ (l : Listing). l.entry.writer + h.given ≤ h.last) (λ (l : Listing). l.entry.writer + g.given ≤ g.last) (λ l le. let c = last_is in let f = given_is in omega (arith, le, c, f)) ls all
@@ -112,6 +115,7 @@ module _ {D H X Y : Type 0} (has : D → Option Contents) where
       holds = λ s t is base.
           ap (λ (o : Option Contents). held_by_pass o (Some (seat_of q))) same ∙ held_seen (has h.folder) (seat_of p) (seat_of q) (ap (λ (v : View). v.history) kept)
           ∙ old.holds s t is (ap (held_of s) (sym (ap (λ (d : OpenDataset D). d.name) rest)) ∙ base);
+      undamaged = still_undamaged h g rest start old.undamaged;
     }
 
     -- it didn't
@@ -132,6 +136,7 @@ module _ {D H X Y : Type 0} (has : D → Option Contents) where
       each = lent_still (still_told (has h.folder) (has g.folder) files) ds old.each;
       differ = old.differ;
       holds = λ s t is base. held_still (has h.folder) (has g.folder) files t (old.holds s t is (ap (held_of s) (sym (ap (λ (d : OpenDataset D). d.name) rest)) ∙ base));
+      undamaged = still_undamaged h g rest start old.undamaged;
     }
       where
         still_told : (o n : Option Contents) → KeepsOtherFiles (h.last + 1) o n → is_some n ≡ is_some o

@@ -70,7 +70,8 @@ frame_at_single s =
     (picks (ltb (length s) 16) (Begun (length s) 16) _ refl
     (picks (not (eqb (octets 8 8 s) 2)) (Rejects (bads.Edition (octets 8 8 s))) _ refl
     (picks (ltb 134217728 (octets 9 16 s)) (Rejects (bads.TooLong (octets 9 16 s))) _ refl
-    (picks (ltb (length s) (announced s)) (Begun (length s) (announced s)) (Frame (take (announced s) s) (drop (announced s) s)) refl refl))))
+    (picks (ltb (octets 9 16 s) 16) (Rejects (bads.Short 0 (octets 9 16 s))) _ refl
+    (picks (ltb (length s) (announced s)) (Begun (length s) (announced s)) (Frame (take (announced s) s) (drop (announced s) s)) refl refl)))))
 
 abbrev end_multi : End → Bool
 end_multi Whole = false

@@ -20,6 +20,7 @@ use Rattle.fd_bulk.specs.Merging.{lane_at, those}
 use Rattle.fd_bulk.specs.Tables.{AreTables, Every, IsHeld, listing_of, writer_of}
 use Rattle.fd_bulk.specs.Working.{Sealing, pairs_in}
 use Rattle.fd_bulk.proofs.Dealing.{are_as_one, are_few, equal_to, newest_both}
+use Rattle.fd_bulk.proofs.Turns.{no_elements}
 use Rattle.fd_bulk.proofs.Gathering.{batches_in, below, by_worker, gathered, lane_beyond, marked_of}
 
 -- as many batches, each alike
@@ -152,14 +153,26 @@ only_of pairs [] (c ∷ cs) all a = absurd a
 only_of pairs (t ∷ ts) [] all a = absurd a
 only_of pairs (t ∷ ts) (c ∷ cs) all a = All-cons (HasOnly pairs) c cs (λ key bytes e. all.0 (record { key = key; bytes = bytes }) (in_batch t.1.1.pairs key bytes (a.0 key ∙ e))) (only_of pairs ts cs all.1 a.1)
 
+-- where there are no pairs, nothing was listed
+none_listed : (files : FileName → Option (List ℕ)) (ts : List (ℕ × (ℕ × Sealing))) → EveryMarked (IsAmong []) ts → EveryMarked (IsHeld files) ts → ts ≡ []
+none_listed files [] among all = refl
+none_listed files (t ∷ ts) among all = absurd (go t.1.1.pairs refl)
+  where
+    go : (ps : List Pair) → t.1.1.pairs ≡ ps → ⊥
+    go [] is = all.0.some is
+    go (x ∷ ps) is = let there = among.0 x (subst (λ (qs : List Pair). Contains qs x) (sym is) (0, omega arith, refl)) in let lt = there.1 in absurd (omega (arith, lt))
+
 -- ---- a dataset
 
 module _ (deal : List ℕ → ℕ) (lanes : List (Lane Sealing)) (opening : ℕ) (history : List Listing) (pairs : List Pair) (rest : ℕ → List Pair) (files : FileName → Option (List ℕ)) (t : List (List Pair))
     (g : Gathered listing_of writer_of opening history lanes) (below_all : (key : List ℕ) → deal key < length lanes) (dealt : (w : ℕ) → dealt_to deal w pairs ≡ pairs_in (lane_at w (receipts_of lanes)) ++ rest w)
     (first : batches_listed files (Ok (entries_of (take opening history))) ≡ Some t) (held : (w : ℕ) → Every (IsHeld files) (lane_at w (receipts_of lanes)))
     (few : (w : ℕ) → 512 * length (lane_at w (receipts_of lanes)) ≤ length (pairs_in (lane_at w (receipts_of lanes))) + 512) where
+  all_held : EveryMarked (IsHeld files) g.each
+  all_held = every_marked (IsHeld files) g.each (λ w. subst (Every (IsHeld files)) (sym (g.by w)) (held w))
+
   pub now : AreHeld files g.each
-  now = are_held files g.each (every_marked (IsHeld files) g.each (λ w. subst (Every (IsHeld files)) (sym (g.by w)) (held w)))
+  now = are_held files g.each all_held
 
   -- what the folder's files give of the history
   pub holds_now : batches_listed files (Ok (entries_of history)) ≡ Some (t ++ now.batches)
@@ -187,8 +200,13 @@ module _ (deal : List ℕ → ℕ) (lanes : List (Lane Sealing)) (opening : ℕ)
       (λ w lt. let e = lane_length w in let f = few w in let d = ap length (dealt w) ∙ length-append (pairs_in (lane_at w (receipts_of lanes))) (rest w) in omega (arith, e, f, d)) in
       let same = alike_length (batches_of (marked_of pairs_of g.each)) now.batches now.alike in omega (arith, all, same)
 
+  none_now : pairs ≡ [] → now.batches ≡ []
+  none_now none =
+      let each : g.each ≡ [] = none_listed files g.each (subst (λ (ps : List Pair). EveryMarked (IsAmong ps) g.each) none among_all) all_held in
+      no_elements now.batches (alike_length (batches_of (marked_of pairs_of g.each)) now.batches now.alike ∙ ap (λ (ts : List (ℕ × (ℕ × Sealing))). length (batches_of (marked_of pairs_of ts))) each)
+
   pub adds_now : AddsBy (length lanes) pairs t (batches_listed files (Ok (entries_of history)))
-  adds_now = record { added = now.batches; after_is = holds_now; only = only_of pairs g.each now.batches among_all now.alike; few = few_now }
+  adds_now = record { added = now.batches; after_is = holds_now; only = only_of pairs g.each now.batches among_all now.alike; few = few_now; none = none_now }
 
   pub adds_all_now : ((w : ℕ) → rest w ≡ []) → AddsAllBy (length lanes) pairs t (batches_listed files (Ok (entries_of history)))
   adds_all_now none = record {

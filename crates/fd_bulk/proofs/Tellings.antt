@@ -1,11 +1,12 @@
 -- What a store tells, from one call to the next.
-use Rattle.std.proofs.Common.{◌≡◌, inl, inr, ℕ, Bool, false, ◌||◌, List, [], ◌∷◌, Option, Some, None, if◌then◌else◌, refl, sym, ap, ◌∙◌}
-use Rattle.std.specs.Prelude.{is_some}
+use Rattle.std.proofs.Common.{◌≡◌, inl, inr, ℕ, Bool, false, ◌||◌, List, [], ◌∷◌, Option, Some, None, IfSome, if◌then◌else◌, refl, sym, ap, subst, ◌∙◌}
+use Rattle.std.specs.Prelude.{is_some, unwrap_or}
 use Rattle.std.specs.Str.{bytes_eq}
-use Rattle.fd_disk.specs.Folders.{Contents, Holdings, WhereTold}
+use Rattle.fd_disk.specs.Folders.{Contents, Holdings, WhereTold, folder_at, no_contents}
 use Rattle.fd_library.specs.Open.{OpenDataset, among, names_of}
-use Rattle.fd_bulk.proofs.Texts.{true_or_false}
 use Rattle.fd_library.specs.Stores.{held_in, held_of, held_with}
+use Rattle.fd_bulk.specs.Crewing.{AreUntouched}
+use Rattle.fd_bulk.proofs.Texts.{true_or_false}
 
 pub through : {A B C : Type 0} (a : Option A) (b : Option B) (c : Option C) (P : A → B → Type 0) (Q : B → C → Type 0) (R : A → C → Type 0) → WhereTold a b P → WhereTold b c Q → ((x : A) (y : B) (z : C) → P x y → Q y z → R x z) → WhereTold a c R
 through None None None P Q R p q f = tt
@@ -26,6 +27,12 @@ both_told None None P Q R f p q = tt
 both_told None (Some y) P Q R f p q = absurd p
 both_told (Some x) None P Q R f p q = absurd p
 both_told (Some x) (Some y) P Q R f p q = f x y p q
+
+-- what stands in the folder of a dataset that isn't open stood there at first
+pub at_first : (start now : Option Holdings) (names : List (List ℕ)) (name : List ℕ) (P : Contents → Type 0) → AreUntouched start now names → among name names ≡ false → IfSome now (λ s. P (folder_at s name)) → IfSome start (λ s. P (folder_at s name))
+at_first None now names name P u out p = tt
+at_first (Some s) None names name P u out p = absurd u
+at_first (Some s) (Some t) names name P u out p = subst (λ (o : Option Contents). P (unwrap_or o no_contents)) (u name out) p
 
 -- a dataset that isn't open holds what the store holds
 pub held_outside : {D : Type 0} (has : D → Option Contents) (hs : List (OpenDataset D)) (s : Holdings) (n : List ℕ) → among n (names_of hs) ≡ false → held_with has hs s n ≡ held_of s n

@@ -1,7 +1,8 @@
 -- What stands in the datasets once an input was archived, or why not all of it.
-use Rattle.std.specs.Prelude.{◌≡◌, ◌≢◌, ◌≤◌, ◌+◌, ◌/◌, ℕ, false, List, [], ◌++◌, length, All, Contains, Option, Some, None, IfSome, Result, Ok, Err, string_bytes}
+use Rattle.std.specs.Prelude.{◌≡◌, ◌≢◌, ◌≤◌, ◌+◌, ◌/◌, ℕ, true, false, List, [], ◌++◌, length, All, Contains, Option, Some, None, IfSome, Result, Ok, Err, string_bytes}
 use Rattle.fd_disk.specs.Folders.{Contents, Holdings, WhereTold, folder_at}
 use Rattle.fd_sections.specs.declared.bad.Bad.TheVariants as bads
+use Rattle.fd_recovery.specs.Recovered.{IsUndamaged}
 use Rattle.fd_key.specs.Pairs as keys
 use Rattle.fd_key.specs.Pairs.{key_text}
 use Rattle.fd_schema.specs.Rules.{Rule}
@@ -28,6 +29,8 @@ module _ {D : Type 0} (has : D → Option Contents) where
     pub each_is : (name : List ℕ) (b : List (List Pair)) → held_of s name ≡ Some b → AddsBy workers (pairs_for all name) b (held_with has each t name)
     -- what a pass counts from are the batches that were there
     pub openings : All (λ h. (b : List (List Pair)) → held_of s h.name ≡ Some b → IfSome h.pass (λ p. length b ≡ p.view.opening)) each
+    -- the open datasets weren't damaged
+    pub sound : (name : List ℕ) → among name (names_of each) ≡ true → IsUndamaged name (folder_at s name)
     -- a dataset that isn't open has the files that it had, and its table as it was, synced, or founded
     pub keeps : (name : List ℕ) → among name (names_of each) ≡ false → KeepsFolder name (folder_at s name) (folder_at t name)
 
@@ -37,6 +40,8 @@ module _ {D : Type 0} (has : D → Option Contents) where
     pub each_is : (name : List ℕ) (b : List (List Pair)) → held_of s name ≡ Some b → AddsAllBy workers (pairs_for all name) b (held_with has each t name)
     -- the datasets of the messages are open
     pub only : (name : List ℕ) → among name (names_of each) ≡ false → pairs_for all name ≡ []
+    -- and weren't damaged
+    pub sound : (name : List ℕ) → among name (names_of each) ≡ true → IsUndamaged name (folder_at s name)
     -- a dataset that isn't open has the files that it had, and its table as it was, synced, or founded
     pub keeps : (name : List ℕ) → among name (names_of each) ≡ false → KeepsFolder name (folder_at s name) (folder_at t name)
 

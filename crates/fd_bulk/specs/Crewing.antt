@@ -16,6 +16,7 @@ use Rattle.fd_archiver.specs.Writing.{Writing}
 use Rattle.fd_archiver.specs.declared.fault.FlushFault.{FlushFault}
 use Rattle.fd_recovery.specs.declared.fault.OpenFault.{OpenFault}
 use Rattle.fd_recovery.specs.declared.fault.OpenFault.TheVariants as opens
+use Rattle.fd_recovery.specs.Recovered.{IsUndamaged}
 use Rattle.fd_library.specs.Open.{OpenDataset, OpenDatasets, among, names_of, seat_of}
 use Rattle.fd_library.specs.Stores.{KeepsFolder, held_by_pass, held_of}
 use Rattle.fd_outcome.specs.Archiving.{Stored, datasets_in, pairs_for}
@@ -58,8 +59,8 @@ module _ {D H X Y : Type 0} (has : D → Option Contents) where
     pub bounded : d.archiver.writer ≤ h.last
 
   -- A dataset was opened in the run: its pass is out, and lists nothing; the other parts of it are the workers', each of which
-  -- has an archiver of a number of its own, behind those that are listed. The folder holds what the store held at first.
-  -- At most so many archivers were asked for in vain.
+  -- has an archiver of a number of its own, behind those that are listed. The folder holds what the store held at first, and nothing of
+  -- that was damaged. At most so many archivers were asked for in vain.
   pub record HasBegun (start : Option Holdings) (lost : ℕ) (b : BoardId) (h : OpenDataset D) (p : Pass X Y) (ds : List (Desk (Writing H) (Pass X Y))) : Type 0 where
     pub own : IsOf b p
     pub out : h.pass ≡ None
@@ -76,6 +77,7 @@ module _ {D H X Y : Type 0} (has : D → Option Contents) where
     pub each : All (IsLent h) ds
     pub differ : Differ (writers_of ds)
     pub holds : (s : Holdings) (t : List (List Pair)) → start ≡ Some s → held_of s h.name ≡ Some t → held_by_pass (has h.folder) (Some (seat_of p)) ≡ Some t
+    pub undamaged : IfSome start (λ s. IsUndamaged h.name (folder_at s h.name))
 
 -- ---- all datasets
 

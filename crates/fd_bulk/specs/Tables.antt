@@ -1,5 +1,5 @@
 -- What a dataset's table holds once several workers have listed in it, and their files are in its folder.
-use Rattle.std.specs.Prelude.{◌≡◌, ◌≤◌, ◌<◌, ◌+◌, ◌*◌, ℕ, List, [], ◌∷◌, ◌++◌, length, take, Option, Some, Ok}
+use Rattle.std.specs.Prelude.{◌≡◌, ◌≢◌, ◌≤◌, ◌<◌, ◌+◌, ◌*◌, ℕ, List, [], ◌∷◌, ◌++◌, length, take, Option, Some, Ok}
 use Rattle.fd_disk.specs.declared.folders.FileName.{FileName}
 use Rattle.fd_entries.specs.declared.batch.Listing.{Listing}
 use Rattle.fd_entries.specs.declared.batch.Pair.{Pair}
@@ -24,8 +24,9 @@ abbrev pub Every : (ℕ × Sealing → Type 0) → List (ℕ × Sealing) → Typ
 Every P [] = Unit {0}
 Every P (r ∷ rs) = P r × Every P rs
 
--- the folder's files give a batch that is alike to the pairs that were put
+-- pairs were put, and the folder's files give a batch that is alike to them
 pub record IsHeld (files : FileName → Option (List ℕ)) (r : ℕ × Sealing) : Type 0 where
+  pub some : r.1.pairs ≢ []
   pub batch : List Pair
   pub is : batch_of (files_of files r.1.segment.files.entry) ≡ Some batch
   pub alike : Alike r.1.pairs batch

@@ -1,8 +1,10 @@
 //! The fields of an input, archived by several workers.
 ghost use Rattle.std.specs.Prelude.{◌≡◌, ◌≤◌, [], List, ℕ, Option, Some, Ok, IfSome, OnOk, false, is_some, length};
 ghost use Rattle.fd_bytes.specs.Causes.{Rose};
+ghost use Rattle.fd_disk.specs.Folders.{WhereTold};
 ghost use Rattle.fd_schema.specs.Grammar.{IsSchema};
 ghost use Rattle.fd_library.specs.Open.{OutAre};
+ghost use Rattle.fd_outcome.specs.Noticing.{SparesDamaged};
 ghost use Rattle.fd_bulk.specs.declared.bulk.BulkFault.TheVariants as faults;
 ghost use Rattle.fd_bulk.specs.Archived.{Archived, IsRead, OnDisk, OnInput};
 ghost use Rattle.fd_bulk.specs.Crewing.{Deals};
@@ -107,7 +109,7 @@ impl<X> From<NoMemory> for BulkFault<X> {
 /// the gate with w and r before its share of round r, from 1, also where its share is empty. All is listed at the end, and
 /// before a refusal of the input or a failed read is told; else a batch is listed only where it is full. A fault of the
 /// store is handed to the store's count; of several refusals that of the lowest message is told. Where a listing is in doubt
-/// after a fault, its files are in the dataset's folder.
+/// after a fault, its files are in the dataset's folder. A damaged dataset keeps its files, and its table as it was, or synced.
 pub fn archive_all<
     F: Send + Drop,
     X: Drop,
@@ -132,6 +134,7 @@ where
     requires none { (opener.old.library.each ≡ []) × (opener.old.library.boards ≡ []) }
     requires home { (name : List ℕ) → S.out store.old name ≡ false }
     ensures archived { Archived S.Folder.has workers schema.now given.now (I.left input.old) (I.left input.new) (S.has store.old) (S.has store.new) opener.new.library.each result }
+    ensures spares { WhereTold (S.has store.old) (S.has store.new) SparesDamaged }
     ensures out { OutAre opener.new.library.each (S.out store.new) }
     ensures to_end { IfSome (I.left input.old) (λ octets. OnOk result (I.left input.new ≡ Some [])) }
     ensures calm { IsRead result (I.faults input.new ≡ I.faults input.old) }

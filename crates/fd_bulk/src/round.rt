@@ -8,13 +8,14 @@ ghost use Rattle.fd_bulk.specs.Working.{Filling, Stage};
 
 use crate::working::{list, store};
 use fd_archiver::{Archiver, FlushFault};
+use fd_beside::for_each_beside;
 use fd_dataset::{Dataset, DatasetPass};
 use fd_disk::{Disk, Folder, Sealed, Shelf};
 use fd_io::{Gate, Source};
 use fd_key::Given;
 use fd_schema::{Place, Schema};
 use fd_segment::Field;
-use fd_sheets::{Batch, Names, Reader, for_each_beside, read_on};
+use fd_sheets::{Batch, Names, Reader, read_on};
 use std::alloc::Global;
 use std::sync::Wait;
 use std::thread;

@@ -1,10 +1,10 @@
 -- Keys that a request can name, and what is told of keys.
-use Rattle.std.proofs.Common.{◌≡◌, ◌∙◌, ◌≤◌, ◌<◌, ℕ, suc, Bool, true, false, true≢false, ◌||◌, cond, List, [], ◌∷◌, length, Option, Some, None, is_some, refl, sym, ap, subst, arith, nat_lt, inl, inr}
-use Rattle.std.specs.Prelude.{option_map, slice_get, ◌+◌, drop, ◌⊎◌, map, Ok, Err, Result, IfOk, Vec, String}
+use Rattle.std.proofs.Common.{◌≡◌, ◌∙◌, ◌≤◌, ℕ, Bool, true, false, true≢false, ◌||◌, cond, List, [], ◌∷◌, length, Some, None, is_some, refl, sym, ap, subst, nat_lt, inl, inr}
+use Rattle.std.specs.Prelude.{option_map, slice_get, ◌+◌, drop, map, Ok, Err, Result, IfOk, Vec, String}
 use Rattle.std.specs.declared.alloc.Global.{Global}
 use Rattle.fd_schema.specs.Seen.{texts}
 use Rattle.std.specs.List.Sorted.{IsPermutation}
-use Rattle.std.specs.List.{All, list_any}
+use Rattle.std.specs.List.{All}
 use Rattle.std.proofs.lemmas.Bool.{cond-false, le-ltb}
 use Rattle.std.proofs.lemmas.List.Elements.{All-cons, All-head, All-nil, All-tail, All-weaker}
 use Rattle.fd_key.specs.Pairs.{Pair}

@@ -1,8 +1,9 @@
 -- The exits of `cubes`.
-use Rattle.std.proofs.Common.{◌≡◌, ◌∙◌, ◌≤◌, ◌++◌, ℕ, Bool, true, false, true≢false, List, [], ◌∷◌, Option, Some, None, IfSome, refl, sym, ap, subst, inl, inr, append-nil, string_bytes, arith}
+use Rattle.std.proofs.Common.{◌≡◌, ◌∙◌, ℕ, false, true≢false, List, [], Option, Some, None, IfSome, refl, sym, ap, subst, inl, inr, append-nil, string_bytes}
 use Rattle.std.specs.Prelude.{◌⊎◌, Contains, Ok, Err, is_some}
+use Rattle.std.specs.Result.{is_ok}
 use Rattle.fd_bytes.specs.Causes.{Rose}
-use Rattle.fd_io.specs.Streams.{Takes, TakesFront}
+use Rattle.fd_io.specs.Streams.{Takes}
 use Rattle.fd_disk.specs.Folders.{Holdings, WhereTold, folder_at}
 use Rattle.fd_request.specs.Expansion.{Keyword}
 use Rattle.fd_request.specs.Reading.{seen_kind}
@@ -16,28 +17,31 @@ use Rattle.fd_outcome.specs.declared.status.Status.{Status}
 use Rattle.fd_outcome.specs.declared.status.Status.TheVariants.{Done, Missed, Words, Refused, InputFault, OutputFault, DiskFault, NoMemory, Damaged, Limit}
 use Rattle.fd_outcome.specs.Causes as causes
 use Rattle.fd_outcome.specs.Causes.{Cause, damaged_line, telling}
-use Rattle.fd_outcome.specs.Ends.{AreSound, Calm, Ends, ReadsOut, Troubles, disk_failed, input_failed, no_memory, output_failed, troubles}
+use Rattle.fd_outcome.specs.Ends.{AreSound, Calm, Ends, ReadsOut, Troubles, disk_failed, input_failed, no_memory, troubles}
 use Rattle.fd_outcome.specs.Cubing.{keys_refusal}
 use Rattle.fd_outcome.specs.Matching.{Keys, matching}
+use Rattle.fd_outcome.specs.Noticing.{AreUndamaged, ReadsFitly}
 use Rattle.fd_outcome.specs.Objects.{Failed, Failures, IsCalm, Object, failures, object}
-use Rattle.fd_outcome.specs.Outcome.{Early, Outcome, lines_early, nothing_early, printed, refused}
-use Rattle.fd_outcome.specs.Store.{AreNames, Stands, Stays}
+use Rattle.fd_outcome.specs.Outcome.{Early, Outcome, lines_early, printed, refused}
+use Rattle.fd_outcome.specs.Store.{AreNames, IsLookedThrough, Stands}
 use Rattle.fd_outcome.specs.Told.{Told, ToldOrNoMemory}
 use Rattle.fd_outcome.proofs.Damaging.{damaged_held}
 use Rattle.fd_outcome.proofs.Endings.{CanStop, ends_at_once, ends_early, ends_unwritten, ends_with_line, takes_nothing}
-use Rattle.fd_outcome.proofs.Exits.{apart, by_cause, cause_calm, cause_told, either_of, is_disk_fault, is_input_fault, is_output_fault, is_whole, is_words, neither, never_whole, rose_of}
+use Rattle.fd_outcome.proofs.Exits.{apart, by_cause, cause_calm, cause_told, either_of, is_disk_fault, is_input_fault, is_output_fault, is_whole, is_words, neither, rose_of}
 use Rattle.fd_telling.specs.declared.stop.Stop.{Stop}
 use Rattle.fd_telling.specs.declared.stop.Stop.TheVariants as stops
-use Rattle.fd_retrieve.specs.Ready.{IsBrokenOf}
+use Rattle.fd_retrieve.specs.Ready.{IsBrokenOf, NoneIsDamaged}
 use Rattle.fd_telling.specs.Stops.{OfDataset, OnDisk, OnInput, OnRefusal, ToldSome, ToldStop, seen_broken}
 use Rattle.fd_retrieve.proofs.ReadyLemmas.{contains_among}
 use Rattle.fd_contents.specs.Asked.{IsEarly, Refuses, asked_in}
 use Rattle.fd_contents.specs.Cubing.{AreCubes, Comes, CubesRan, CubesTo, HasPrinted, HasRefused, IsComplete, IsRefused, WhereCubed}
 use Rattle.fd_contents.specs.Told.{AreStarved, AreUnwritten, AreWritten, KeysPrinted, KeysRefused, KeysStarved, ToldKeys, ToldLines}
-use Rattle.fd_contents.proofs.Exits.{store_at}
+use Rattle.fd_contents.proofs.Exits.{both_at, store_at}
 use Rattle.fd_contents.proofs.Gathered.{KeepsAll, all_kept, chosen}
+use Rattle.fd_contents.proofs.Noticed.{undamaged_at}
 
-module _ (root : List ℕ) (before now : Option Holdings) (sm sn : ℕ) (input output report : Object (List ℕ)) (result : Status) (stays : WhereTold before now Stays) where
+module _ (root : List ℕ) (before now : Option Holdings) (sm sn : ℕ) (input output report : Object (List ℕ)) (result : Status) (looks : WhereTold before now IsLookedThrough)
+    (unread : ReadsFitly (commands.Cubes root) (object before now sm sn) input) where
   abbrev S : Object Holdings
   S = object before now sm sn
 
@@ -106,12 +110,18 @@ module _ (root : List ℕ) (before now : Option Holdings) (sm sn : ℕ) (input o
       go (inl (o, to, ends)) sound n1 n2 n3 = elim (come octets h i names o (lines_early o.output) result ends sound n1 n2 n3) as (λ _. ((o : Outcome) × CubesTo h names octets o × (result ≡ o.status)) ⊎ (result ≡ NoMemory)) [ inl is ↦ inl (o, to, is) | inr is ↦ inr is ]
       go (inr (never, ends)) sound n1 n2 n3 = elim (come octets h i names (printed []) (lines_early []) result ends sound n1 n2 n3) as (λ _. ((o : Outcome) × CubesTo h names octets o × (result ≡ o.status)) ⊎ (result ≡ NoMemory)) [ inl is ↦ absurd (never is) | inr is ↦ inr is ]
 
-  ran_by : Each ComesTo → ¬ (result ≡ Words) → (result ≡ InputFault → Failed input) → (result ≡ OutputFault → Failed output ⊎ Failed report) → (result ≡ DiskFault → Failed S) → Calm command result input output report
+  -- none of the datasets that it opens is damaged
+  abbrev AreWell : Type 0
+  AreWell = Each (λ octets h i names. AreUndamaged command h names octets)
+
+  ran_by : Each ComesTo → (result ≡ Done → AreWell) → ¬ (result ≡ Words) → (result ≡ InputFault → Failed input) → (result ≡ OutputFault → Failed output ⊎ Failed report) → (result ≡ DiskFault → Failed S) → Calm command result input output report
       → (((result ≡ Done) ⊎ (result ≡ Missed)) → ReadsOut command input.before input.now) → Out
-  ran_by ends words input_fault output_fault disk_fault calm read = record {
+  ran_by ends undamaged words input_fault output_fault disk_fault calm read = record {
     ends = where_cubed ComesTo ends;
     complete = where_cubed (λ octets h i names. IsComplete root result S input output report octets h names) (λ octets h i names d e f an. complete_by octets h i names (ends octets h i names d e f an) input_fault output_fault disk_fault);
-    stays = stays;
+    undamaged = λ done. where_cubed (λ octets h i names. AreUndamaged command h names octets) (undamaged done);
+    unread = unread;
+    looks = looks;
     words = words;
     to_end = read;
     calm = calm;
@@ -124,7 +134,7 @@ module _ (root : List ℕ) (before now : Option Holdings) (sm sn : ℕ) (input o
   told_ran : (s : Status) (text : List ℕ) → ToldAs s text → is_words s ≡ false → is_output_fault s ≡ false → is_whole s ≡ false → (s ≡ InputFault → Failed input) → (s ≡ DiskFault → Failed S) → Calm command s input output report → Each ComesTo → Out
   told_ran s text told words output_no whole input_fault disk calm ends =
       let e = either_of s result text report.before report.now report.faults_before report.faults_now told in
-      ran_by ends (neither s result Words e (apart is_words s Words words refl) (apart is_words OutputFault Words refl refl))
+      ran_by ends (λ done. absurd (neither s result Done e (apart is_whole s Done whole refl) (apart is_whole OutputFault Done refl refl) done)) (neither s result Words e (apart is_words s Words words refl) (apart is_words OutputFault Words refl refl))
       (λ x. input_fault (elim e as (λ _. s ≡ InputFault) [ inl is ↦ sym is ∙ x | inr is ↦ absurd (apart is_input_fault OutputFault InputFault refl refl (sym is ∙ x)) ]))
       (λ x. inr (rose_of s result text report.before report.now report.faults_before report.faults_now (apart is_output_fault s OutputFault output_no refl) told x))
       (λ x. disk (elim e as (λ _. s ≡ DiskFault) [ inl is ↦ sym is ∙ x | inr is ↦ absurd (apart is_disk_fault OutputFault DiskFault refl refl (sym is ∙ x)) ]))
@@ -159,26 +169,30 @@ module _ (root : List ℕ) (before now : Option Holdings) (sm sn : ℕ) (input o
     input_ran : ToldAs InputFault input_failed → Failed input → Out
     input_ran told rose = early_ran InputFault input_failed told refl refl refl (λ e. rose) (λ e. absurd (apart is_disk_fault InputFault DiskFault refl refl e)) tt (λ octets h i names d e f an. (rose, refl))
 
-    broken_ran : (name : List ℕ) (broken : causes.Broken) → ((h : Holdings) (names : List (List ℕ)) → before ≡ Some h → AreNames h names → Contains names name × Stands name (folder_at h name) broken) → ToldAs Damaged (damaged_line name broken) → Out
-    broken_ran name broken says told = early_ran Damaged (damaged_line name broken) told refl refl refl (λ e. absurd (apart is_input_fault Damaged InputFault refl refl e)) (λ e. absurd (apart is_disk_fault Damaged DiskFault refl refl e)) tt
-        (λ octets h i names d e f an. let s = says h names e an in (name, broken, s.0, s.1, refl))
+    -- what is asked for
+    abbrev pub Asks : List Keyword → Type 0
+    Asks keywords = IfSome before (λ h. IfSome input.before (λ octets. asked_in h octets ≡ Ok keywords))
+
+    broken_ran : (keywords : List Keyword) → Asks keywords → (name : List ℕ) (broken : causes.Broken) → ((h : Holdings) (names : List (List ℕ)) → before ≡ Some h → AreNames h names → Contains names name × Stands name (folder_at h name) broken) → ToldAs Damaged (damaged_line name broken) → Out
+    broken_ran keywords asked name broken says told = early_ran Damaged (damaged_line name broken) told refl refl refl (λ e. absurd (apart is_input_fault Damaged InputFault refl refl e)) (λ e. absurd (apart is_disk_fault Damaged DiskFault refl refl e)) tt
+        (λ octets h i names d e f an. let s = says h names e an in (name, broken, (ap is_ok (both_at before input.before (λ octets h. asked_in h octets ≡ Ok keywords) asked octets h d e), s.0), s.1, refl))
 
     -- the store or a dataset ends the search
-    pub halted_ran : {A : Type 0} (stop : Stop A) → ToldStop stop result report.before report.now report.faults_before report.faults_now → OfDataset stop → IfSome before (λ h. (names : List (List ℕ)) → AreNames h names → IsBrokenOf stop h names) → OnDisk stop (Rose sm sn) → Out
-    halted_ran (stops.Disk f) told of says disk = disk_ran told disk
-    halted_ran stops.Input told of says disk = absurd of
-    halted_ran stops.Missing told of says disk = absurd of
-    halted_ran (stops.Schema line kind) told of says disk = absurd of
-    halted_ran (stops.Request at kind) told of says disk = absurd of
-    halted_ran (stops.NoRule text) told of says disk = absurd of
-    halted_ran (stops.NoLayer layer text) told of says disk = absurd of
-    halted_ran stops.TooMany told of says disk = absurd of
-    halted_ran {A = A} (stops.Broken dataset broken) told of says disk = elim told as (λ _. Out) [
-      | inl t ↦ broken_ran (string_bytes dataset) (seen_broken broken)
+    pub halted_ran : {A : Type 0} (keywords : List Keyword) → Asks keywords → (stop : Stop A) → ToldStop stop result report.before report.now report.faults_before report.faults_now → OfDataset stop → IfSome before (λ h. (names : List (List ℕ)) → AreNames h names → IsBrokenOf stop h names) → OnDisk stop (Rose sm sn) → Out
+    halted_ran keywords asked (stops.Disk f) told of says disk = disk_ran told disk
+    halted_ran keywords asked stops.Input told of says disk = absurd of
+    halted_ran keywords asked stops.Missing told of says disk = absurd of
+    halted_ran keywords asked (stops.Schema line kind) told of says disk = absurd of
+    halted_ran keywords asked (stops.Request at kind) told of says disk = absurd of
+    halted_ran keywords asked (stops.NoRule text) told of says disk = absurd of
+    halted_ran keywords asked (stops.NoLayer layer text) told of says disk = absurd of
+    halted_ran keywords asked stops.TooMany told of says disk = absurd of
+    halted_ran {A = A} keywords asked (stops.Broken dataset broken) told of says disk = elim told as (λ _. Out) [
+      | inl t ↦ broken_ran keywords asked (string_bytes dataset) (seen_broken broken)
           (λ h names e an. let b = subst (λ o. IfSome o (λ h. (names : List (List ℕ)) → AreNames h names → IsBrokenOf {F = A} (stops.Broken dataset broken) h names)) e says names an in (contains_among names (string_bytes dataset) b.0, b.1)) t
       | inr t ↦ starved_ran t
     ]
-    halted_ran stops.NoMemory told of says disk = starved_ran told
+    halted_ran keywords asked stops.NoMemory told of says disk = starved_ran told
 
     -- ---- what is refused
 
@@ -248,17 +262,18 @@ module _ (root : List ℕ) (before now : Option Holdings) (sm sn : ℕ) (input o
   -- ---- what becomes of the keys that were found
 
   -- lines were written, or a front of them
-  lines_ran : (lines : List (List ℕ)) → IsCalm input → ReadsOut command input.before input.now → Each (λ octets h i names. CubesTo h names octets (printed (text_lines lines))) → ToldLines result output report lines → Out
-  lines_ran lines calm_in read to (AreWritten is took calm quiet) =
+  lines_ran : (lines : List (List ℕ)) → AreWell → IsCalm input → ReadsOut command input.before input.now → Each (λ octets h i names. CubesTo h names octets (printed (text_lines lines))) → ToldLines result output report lines → Out
+  lines_ran lines well calm_in read to (AreWritten is took calm quiet) =
       ran_by (λ octets h i names d e f an. inl (
         printed (text_lines lines),
         to octets h i names d e f an,
         subst (λ s. EndsBy octets h i names s (printed (text_lines lines)) (lines_early (text_lines lines))) (sym is)
             (record { status = refl; output = took; report = subst (λ r. Takes report.before r []) (sym quiet) (takes_nothing report.before) }),
       ))
+      (λ done. well)
       (λ e. apart is_words Done Words refl refl (sym is ∙ e)) (λ e. absurd (apart is_input_fault Done InputFault refl refl (sym is ∙ e))) (λ e. absurd (apart is_output_fault Done OutputFault refl refl (sym is ∙ e))) (λ e. absurd (apart is_disk_fault Done DiskFault refl refl (sym is ∙ e)))
       (subst (λ y. Calm command y input output report) (sym is) (calm_in, calm)) (λ w. read)
-  lines_ran lines calm_in read to (AreStarved front calm told) =
+  lines_ran lines well calm_in read to (AreStarved front calm told) =
       told_ran NoMemory no_memory told refl refl refl (λ e. absurd (apart is_input_fault NoMemory InputFault refl refl e)) (λ e. absurd (apart is_disk_fault NoMemory DiskFault refl refl e)) tt
       (λ octets h i names d e f an. inl (
         printed (text_lines lines),
@@ -266,7 +281,7 @@ module _ (root : List ℕ) (before now : Option Holdings) (sm sn : ℕ) (input o
         ends_early F output.before output.now report.before report.before report.now (lines_early (text_lines lines)) (T h i names octets) (Some (printed (text_lines lines))) NoMemory result no_memory [] report.faults_before report.faults_now
             ([], sym (append-nil (text_lines lines))) refl (record { output = front; rest = []; is = refl; report = takes_nothing report.before }) (λ r. r) told,
       ))
-  lines_ran lines calm_in read to (AreUnwritten front failed told) =
+  lines_ran lines well calm_in read to (AreUnwritten front failed told) =
       let so : result ≡ OutputFault = elim told.told as (λ _. result ≡ OutputFault) [ inl x ↦ x.status | inr x ↦ x.status ] in
       ran_by (λ octets h i names d e f an. inl (
         printed (text_lines lines),
@@ -274,14 +289,15 @@ module _ (root : List ℕ) (before now : Option Holdings) (sm sn : ℕ) (input o
         ends_unwritten F output.before output.now report.before report.before report.now (lines_early (text_lines lines)) (T h i names octets) (Some (printed (text_lines lines))) result [] report.faults_before report.faults_now
             front failed (record { rest = []; is = refl; report = takes_nothing report.before }) (λ r. r) told,
       ))
+      (λ done. absurd (apart is_whole OutputFault Done refl refl (sym so ∙ done)))
       (λ e. apart is_words OutputFault Words refl refl (sym so ∙ e)) (λ e. absurd (apart is_input_fault OutputFault InputFault refl refl (sym so ∙ e))) (λ e. inl failed) (λ e. absurd (apart is_disk_fault OutputFault DiskFault refl refl (sym so ∙ e)))
       (subst (λ y. Calm command y input output report) (sym so) tt)
       (λ w. absurd (elim w as (λ _. ⊥) [ inl x ↦ apart is_whole OutputFault Done refl refl (sym so ∙ x) | inr x ↦ apart is_whole OutputFault Missed refl refl (sym so ∙ x) ]))
 
   module _ (keywords : List Keyword) (kept : Keys) (asked : IfSome before (λ h. IfSome input.before (λ octets. asked_in h octets ≡ Ok keywords))) (calm_in : IsCalm input) (read : ReadsOut command input.before input.now)
-      (keeps : IfSome before (λ h. (names : List (List ℕ)) → AreNames h names → KeepsAll kept (matching keywords h names))) where
+      (sound : IfSome before (λ h. (names : List (List ℕ)) → AreNames h names → NoneIsDamaged h names)) (keeps : IfSome before (λ h. (names : List (List ℕ)) → AreNames h names → KeepsAll kept (matching keywords h names))) where
     asked_at : (octets : List ℕ) (h : Holdings) → input.before ≡ Some octets → before ≡ Some h → asked_in h octets ≡ Ok keywords
-    asked_at octets h d e = subst (λ i. IfSome i (λ octets. asked_in h octets ≡ Ok keywords)) d (store_at before (λ h. IfSome input.before (λ octets. asked_in h octets ≡ Ok keywords)) asked h e)
+    asked_at octets h d e = both_at before input.before (λ octets h. asked_in h octets ≡ Ok keywords) asked octets h d e
 
     keeps_at : (h : Holdings) (names : List (List ℕ)) → before ≡ Some h → AreNames h names → KeepsAll kept (matching keywords h names)
     keeps_at h names e an = store_at before (λ h. (names : List (List ℕ)) → AreNames h names → KeepsAll kept (matching keywords h names)) keeps h e names an
@@ -295,7 +311,10 @@ module _ (root : List ℕ) (before now : Option Holdings) (sm sn : ℕ) (input o
     prints none lines cubes octets h i names d e f an =
         HasPrinted keywords (asked_at octets h d e) kept (all_kept kept (matching keywords h names) (keeps_at h names e an) none) none lines cubes refl
 
+    well : AreWell
+    well octets h i names d e f an = λ name opens. undamaged_at h names (store_at before (λ h. (names : List (List ℕ)) → AreNames h names → NoneIsDamaged h names) sound h e names an) name opens.1
+
     pub keys_ran : ToldKeys result output report kept → Out
     keys_ran (KeysRefused cause is nothing calm told) = refused_ran nothing cause (refuses_keys cause is) calm_in calm told
     keys_ran (KeysStarved nothing calm told) = starved_ran nothing told
-    keys_ran (KeysPrinted none lines cubes told) = lines_ran lines calm_in read (prints none lines cubes) told
+    keys_ran (KeysPrinted none lines cubes told) = lines_ran lines well calm_in read (prints none lines cubes) told

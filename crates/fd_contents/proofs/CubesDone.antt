@@ -1,5 +1,5 @@
 -- What `cubes` has done is what a command has done that ran.
-use Rattle.std.proofs.Common.{◌≡◌, ℕ, List, Option, Some, None, refl}
+use Rattle.std.proofs.Common.{ℕ, List, Option, Some, None, refl}
 use Rattle.std.specs.Prelude.{IfSome}
 use Rattle.fd_disk.specs.Folders.{Holdings}
 use Rattle.fd_words.specs.declared.command.Command.{Command}
@@ -10,14 +10,15 @@ use Rattle.fd_outcome.specs.Ends.{no_memory}
 use Rattle.fd_outcome.specs.Objects.{Object, object}
 use Rattle.fd_outcome.specs.Ran.{Ran}
 use Rattle.fd_outcome.specs.Told.{Told}
-use Rattle.fd_retrieve.proofs.Staying.{stays_told}
+use Rattle.fd_retrieve.proofs.Looking.{looked_told}
+use Rattle.fd_retrieve.proofs.Unread.{unread_same}
 use Rattle.fd_contents.specs.Cubing.{CubesRan, OfCubes}
 use Rattle.fd_contents.proofs.CubeExits.{starved_ran}
 
 pub cubes_ran : (root : List ℕ) (s : Status) (store : Object Holdings) (input output report : Object (List ℕ)) → CubesRan root s store input output report → Ran (commands.Cubes root) s store input output report
 cubes_ran root s store input output report ran = record {
   ends = tt;
-  store_is = ran.stays;
+  store_is = ran.looks;
   words = ran.words;
   to_end = ran.to_end;
   calm = ran.calm;
@@ -50,4 +51,4 @@ pub starved_cubes : (s : Status) (has : Option Holdings) (k : ℕ) (left : Optio
     → (command : Option Command) → IfSome command (λ x. OfCubes x (λ root. CubesRan root s (object has has k k) (object left left l l) (object taken taken o o) (object c d m n)))
 starved_cubes s has k left l taken o c d m n told None = tt
 starved_cubes s has k left l taken o c d m n told (Some command) =
-    of_cubes command (λ root. CubesRan root s (object has has k k) (object left left l l) (object taken taken o o) (object c d m n)) (λ root. starved_ran root has has k k (object left left l l) (object taken taken o o) (object c d m n) s (stays_told has) refl told)
+    of_cubes command (λ root. CubesRan root s (object has has k k) (object left left l l) (object taken taken o o) (object c d m n)) (λ root. starved_ran root has has k k (object left left l l) (object taken taken o o) (object c d m n) s (looked_told has) (unread_same has left l) refl told)

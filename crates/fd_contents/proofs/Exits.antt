@@ -1,6 +1,7 @@
 -- The exits of `list`, `axes` and `stats`.
-use Rattle.std.proofs.Common.{◌≡◌, ◌∙◌, ◌≤◌, ◌++◌, ℕ, Bool, true, false, List, [], ◌∷◌, Option, Some, None, refl, sym, ap, subst, inl, inr, append-nil, string_bytes, arith}
-use Rattle.std.specs.Prelude.{◌⊎◌, IfSome, Contains, Result, Ok, Err, codes, option_map}
+use Rattle.std.proofs.Common.{◌≡◌, ◌∙◌, ◌≤◌, ◌++◌, ℕ, false, List, [], ◌∷◌, Option, Some, None, refl, sym, ap, subst, inl, inr, append-nil, string_bytes, arith}
+use Rattle.std.specs.Prelude.{◌⊎◌, IfSome, Contains, Ok, Err, option_map}
+use Rattle.std.specs.Result.{is_ok}
 use Rattle.fd_bytes.specs.Causes.{Rose}
 use Rattle.fd_io.specs.Streams.{Takes, TakesFront}
 use Rattle.fd_disk.specs.Folders.{Holdings, WhereTold, folder_at}
@@ -23,7 +24,7 @@ use Rattle.fd_outcome.specs.Objects.{Failed, Failures, IsCalm, Object, failures,
 use Rattle.fd_outcome.specs.Outcome.{Early, Outcome, both, early, lines_early, lines_of, nothing_early, outcome, output_early, printed, printed_of, refused, stats_lines, stats_of, stats_printed}
 use Rattle.fd_outcome.specs.Ran.{Ran}
 use Rattle.fd_outcome.specs.Rows.{axes_text, list_text}
-use Rattle.fd_outcome.specs.Store.{AreNames, Stands, Stays, entries_in, table_at}
+use Rattle.fd_outcome.specs.Store.{AreNames, IsLookedThrough, Stands, entries_in, table_at}
 use Rattle.fd_outcome.specs.Told.{Told, ToldOrNoMemory}
 use Rattle.fd_outcome.proofs.AnyCommand.{Seen, ran_of, told_of}
 use Rattle.fd_outcome.proofs.Endings.{CanStop, ends_early, ends_told, ends_unwritten, takes_nothing, nothing_of}
@@ -35,7 +36,7 @@ use Rattle.fd_telling.specs.Stops.{OfDataset, OnDisk, OnInput, OnRefusal, ToldSo
 use Rattle.fd_retrieve.proofs.ReadyLemmas.{contains_among}
 use Rattle.fd_contents.specs.declared.lines.Lines.{Lines}
 use Rattle.fd_contents.specs.declared.lines.Lines.TheVariants as lines
-use Rattle.fd_contents.specs.Asked.{Begins, IsEarly, IsListing, Refuses, WhereSeen, asked_in}
+use Rattle.fd_contents.specs.Asked.{IsEarly, IsListing, Refuses, WhereSeen, asked_in}
 use Rattle.fd_contents.specs.Texts.{text_for, texts_for}
 
 -- ---- what a listing is
@@ -58,25 +59,6 @@ uses (commands.Cubes root) is = absurd is
 uses (commands.Purge root dataset) is = absurd is
 uses (commands.Wipe root dataset) is = absurd is
 uses (commands.Trial root count workers) is = absurd is
-
-opens : (command : Command) → IsListing command → (h : Holdings) (names : List (List ℕ)) (octets name : List ℕ) → Contains names name → Opens command h names octets name
-opens (commands.Pick wanted) is h names octets name c = absurd is
-opens commands.Describe is h names octets name c = absurd is
-opens commands.Split is h names octets name c = absurd is
-opens (commands.Values decimals) is h names octets name c = absurd is
-opens (commands.Generate count) is h names octets name c = absurd is
-opens (commands.Create root) is h names octets name c = absurd is
-opens (commands.Archive root given workers) is h names octets name c = absurd is
-opens (commands.Retrieve root workers) is h names octets name c = absurd is
-opens (commands.RetrieveOver root layers workers) is h names octets name c = absurd is
-opens (commands.List root) is h names octets name c = c
-opens (commands.Axes root) is h names octets name c = c
-opens (commands.Stats root) is h names octets name c = c
-opens (commands.Session root) is h names octets name c = absurd is
-opens (commands.Cubes root) is h names octets name c = absurd is
-opens (commands.Purge root dataset) is h names octets name c = absurd is
-opens (commands.Wipe root dataset) is h names octets name c = absurd is
-opens (commands.Trial root count workers) is h names octets name c = absurd is
 
 -- what is broken stands there before
 broken_there : (command : Command) → IsListing command → (h i : Holdings) (name : List ℕ) (broken : Broken) → Stands name (folder_at h name) broken → IsBroken command h i name broken
@@ -117,24 +99,24 @@ early_is (commands.Purge root dataset) is h names octets = absurd is
 early_is (commands.Wipe root dataset) is h names octets = absurd is
 early_is (commands.Trial root count workers) is h names octets = absurd is
 
-leaves_by : (command : Command) → IsListing command → (s : Status) (calm full : Type 0) (input left : Option (List ℕ)) (before now : Option Holdings) → WhereTold before now Stays → WhereTold before now (Leaves command s calm full input left)
-leaves_by (commands.Pick wanted) is s calm full input left before now stays = absurd is
-leaves_by commands.Describe is s calm full input left before now stays = absurd is
-leaves_by commands.Split is s calm full input left before now stays = absurd is
-leaves_by (commands.Values decimals) is s calm full input left before now stays = absurd is
-leaves_by (commands.Generate count) is s calm full input left before now stays = absurd is
-leaves_by (commands.Create root) is s calm full input left before now stays = absurd is
-leaves_by (commands.Archive root given workers) is s calm full input left before now stays = absurd is
-leaves_by (commands.Retrieve root workers) is s calm full input left before now stays = absurd is
-leaves_by (commands.RetrieveOver root layers workers) is s calm full input left before now stays = absurd is
-leaves_by (commands.List root) is s calm full input left before now stays = stays
-leaves_by (commands.Axes root) is s calm full input left before now stays = stays
-leaves_by (commands.Stats root) is s calm full input left before now stays = stays
-leaves_by (commands.Session root) is s calm full input left before now stays = absurd is
-leaves_by (commands.Cubes root) is s calm full input left before now stays = absurd is
-leaves_by (commands.Purge root dataset) is s calm full input left before now stays = absurd is
-leaves_by (commands.Wipe root dataset) is s calm full input left before now stays = absurd is
-leaves_by (commands.Trial root count workers) is s calm full input left before now stays = absurd is
+leaves_by : (command : Command) → IsListing command → (s : Status) (calm full : Type 0) (input left : Option (List ℕ)) (before now : Option Holdings) → WhereTold before now IsLookedThrough → WhereTold before now (Leaves command s calm full input left)
+leaves_by (commands.Pick wanted) is s calm full input left before now looks = absurd is
+leaves_by commands.Describe is s calm full input left before now looks = absurd is
+leaves_by commands.Split is s calm full input left before now looks = absurd is
+leaves_by (commands.Values decimals) is s calm full input left before now looks = absurd is
+leaves_by (commands.Generate count) is s calm full input left before now looks = absurd is
+leaves_by (commands.Create root) is s calm full input left before now looks = absurd is
+leaves_by (commands.Archive root given workers) is s calm full input left before now looks = absurd is
+leaves_by (commands.Retrieve root workers) is s calm full input left before now looks = absurd is
+leaves_by (commands.RetrieveOver root layers workers) is s calm full input left before now looks = absurd is
+leaves_by (commands.List root) is s calm full input left before now looks = looks
+leaves_by (commands.Axes root) is s calm full input left before now looks = looks
+leaves_by (commands.Stats root) is s calm full input left before now looks = looks
+leaves_by (commands.Session root) is s calm full input left before now looks = absurd is
+leaves_by (commands.Cubes root) is s calm full input left before now looks = absurd is
+leaves_by (commands.Purge root dataset) is s calm full input left before now looks = absurd is
+leaves_by (commands.Wipe root dataset) is s calm full input left before now looks = absurd is
+leaves_by (commands.Trial root count workers) is s calm full input left before now looks = absurd is
 
 -- what holds where the objects tell
 pub seen_at : (command : Command) (input : Option (List ℕ)) (store : Option Holdings) (P : List ℕ → Holdings → Type 0) → WhereSeen command input store P → (octets : List ℕ) (h : Holdings) → Seen command input octets → store ≡ Some h → P octets h
@@ -194,7 +176,7 @@ module _ (f : Failures) (tr : Troubles) (a b c d : Option (List ℕ)) where
 
 -- ---- the exits of any of the commands
 
-module _ (command : Command) (is : IsListing command) (before now : Option Holdings) (sm sn : ℕ) (input output report : Object (List ℕ)) (result : Status) (stays : WhereTold before now Stays) where
+module _ (command : Command) (is : IsListing command) (before now : Option Holdings) (sm sn : ℕ) (input output report : Object (List ℕ)) (result : Status) (looks : WhereTold before now IsLookedThrough) where
   abbrev S : Object Holdings
   S = object before now sm sn
 
@@ -215,7 +197,7 @@ module _ (command : Command) (is : IsListing command) (before now : Option Holdi
   InPart = (octets : List ℕ) (h : Holdings) (names : List (List ℕ)) → Seen command input.before octets → before ≡ Some h → AreNames h names → IfSome (outcome command h names octets) (λ x. TakesFront output.before output.now x.output)
 
   leaves : WhereTold before now (Leaves command result (¬ (Failed S)) (Takes report.before report.now table_full) input.before input.now)
-  leaves = leaves_by command is result (¬ (Failed S)) (Takes report.before report.now table_full) input.before input.now before now stays
+  leaves = leaves_by command is result (¬ (Failed S)) (Takes report.before report.now table_full) input.before input.now before now looks
 
   ends_as : (h i : Holdings) (names : List (List ℕ)) (octets : List ℕ) → EndsBy h i names octets (outcome command h names octets) (output_early (outcome command h names octets)) → EndsBy h i names octets (outcome command h names octets) (early command h names octets)
   ends_as h i names octets e = subst (EndsBy h i names octets (outcome command h names octets)) (sym (early_is command is h names octets)) e
@@ -233,27 +215,31 @@ module _ (command : Command) (is : IsListing command) (before now : Option Holdi
   disk_ran : InPart → ToldAs DiskFault disk_failed → Rose sm sn → Out
   disk_ran part told rose = early_ran part DiskFault disk_failed told refl refl (λ e. absurd (apart is_input_fault DiskFault InputFault refl refl e)) refl (λ e. rose) tt (λ octets h i names d e an. (uses command is, rose, refl))
 
-  broken_ran : InPart → (name : List ℕ) (broken : causes.Broken) → ((h : Holdings) (names : List (List ℕ)) → before ≡ Some h → AreNames h names → Contains names name × Stands name (folder_at h name) broken) → ToldAs Damaged (damaged_line name broken) → Out
-  broken_ran part name broken says told = early_ran part Damaged (damaged_line name broken) told refl refl (λ e. absurd (apart is_input_fault Damaged InputFault refl refl e)) refl (λ e. absurd (apart is_disk_fault Damaged DiskFault refl refl e)) tt
-      (λ octets h i names d e an. let s = says h names e an in (name, broken, opens command is h names octets name s.0, broken_there command is h i name broken s.1, refl))
+  -- each dataset is opened
+  abbrev pub OpensAll : Type 0
+  OpensAll = WhereSeen command input.before before (λ octets h. (names : List (List ℕ)) (name : List ℕ) → Contains names name → Opens command h names octets name)
+
+  broken_ran : InPart → OpensAll → (name : List ℕ) (broken : causes.Broken) → ((h : Holdings) (names : List (List ℕ)) → before ≡ Some h → AreNames h names → Contains names name × Stands name (folder_at h name) broken) → ToldAs Damaged (damaged_line name broken) → Out
+  broken_ran part opens name broken says told = early_ran part Damaged (damaged_line name broken) told refl refl (λ e. absurd (apart is_input_fault Damaged InputFault refl refl e)) refl (λ e. absurd (apart is_disk_fault Damaged DiskFault refl refl e)) tt
+      (λ octets h i names d e an. let s = says h names e an in (name, broken, seen_at command input.before before (λ octets h. (names : List (List ℕ)) (name : List ℕ) → Contains names name → Opens command h names octets name) opens octets h d e names name s.0, broken_there command is h i name broken s.1, refl))
 
   -- the store or a dataset ends the lines
   pub halted : {A : Type 0} (stop : Stop A) → ToldStop stop result report.before report.now report.faults_before report.faults_now → OfDataset stop → IfSome before (λ h. (names : List (List ℕ)) → AreNames h names → IsBrokenOf stop h names)
-      → OnDisk stop (Rose sm sn) → InPart → Out
-  halted (stops.Disk f) told of says disk part = disk_ran part told disk
-  halted stops.Input told of says disk part = absurd of
-  halted stops.Missing told of says disk part = absurd of
-  halted (stops.Schema line kind) told of says disk part = absurd of
-  halted (stops.Request at kind) told of says disk part = absurd of
-  halted (stops.NoRule text) told of says disk part = absurd of
-  halted (stops.NoLayer layer text) told of says disk part = absurd of
-  halted stops.TooMany told of says disk part = absurd of
-  halted {A = A} (stops.Broken dataset broken) told of says disk part = elim told as (λ _. Out) [
-    | inl t ↦ broken_ran part (string_bytes dataset) (seen_broken broken)
+      → OnDisk stop (Rose sm sn) → InPart → OpensAll → Out
+  halted (stops.Disk f) told of says disk part opens = disk_ran part told disk
+  halted stops.Input told of says disk part opens = absurd of
+  halted stops.Missing told of says disk part opens = absurd of
+  halted (stops.Schema line kind) told of says disk part opens = absurd of
+  halted (stops.Request at kind) told of says disk part opens = absurd of
+  halted (stops.NoRule text) told of says disk part opens = absurd of
+  halted (stops.NoLayer layer text) told of says disk part opens = absurd of
+  halted stops.TooMany told of says disk part opens = absurd of
+  halted {A = A} (stops.Broken dataset broken) told of says disk part opens = elim told as (λ _. Out) [
+    | inl t ↦ broken_ran part opens (string_bytes dataset) (seen_broken broken)
         (λ h names e an. let b = subst (λ o. IfSome o (λ h. (names : List (List ℕ)) → AreNames h names → IsBrokenOf {F = A} (stops.Broken dataset broken) h names)) e says names an in (contains_among names (string_bytes dataset) b.0, b.1)) t
     | inr t ↦ memory_ran part t
   ]
-  halted stops.NoMemory told of says disk part = memory_ran part told
+  halted stops.NoMemory told of says disk part opens = memory_ran part told
 
   -- the output fails
   pub unwritten_ran : ToldAs OutputFault output_failed → Failed output → InPart → Out
@@ -283,7 +269,7 @@ module _ (command : Command) (is : IsListing command) (before now : Option Holdi
 
 -- ---- the exits before the first dataset is opened
 
-module _ (command : Command) (is : IsListing command) (before now : Option Holdings) (sm sn : ℕ) (input : Object (List ℕ)) (a : Option (List ℕ)) (k : ℕ) (report : Object (List ℕ)) (result : Status) (stays : WhereTold before now Stays) where
+module _ (command : Command) (is : IsListing command) (before now : Option Holdings) (sm sn : ℕ) (input : Object (List ℕ)) (a : Option (List ℕ)) (k : ℕ) (report : Object (List ℕ)) (result : Status) (looks : WhereTold before now IsLookedThrough) where
   abbrev S0 : Object Holdings
   S0 = object before now sm sn
 
@@ -299,7 +285,7 @@ module _ (command : Command) (is : IsListing command) (before now : Option Holdi
   abbrev ToldSo : Status → List ℕ → Type 0
   ToldSo s text = Told s text result report.before report.now report.faults_before report.faults_now
 
-  nothing_yet : InPart command is before now sm sn input O0 report result stays
+  nothing_yet : InPart command is before now sm sn input O0 report result looks
   nothing_yet octets h names d e an = go (outcome command h names octets)
     where
       go : (o : Option Outcome) → IfSome o (λ x. TakesFront a a x.output)
@@ -307,7 +293,7 @@ module _ (command : Command) (is : IsListing command) (before now : Option Holdi
       go (Some o) = nothing_of a o.output
 
   leaves0 : WhereTold before now (Leaves command result (¬ (Failed S0)) (Takes report.before report.now table_full) input.before input.now)
-  leaves0 = leaves_by command is result (¬ (Failed S0)) (Takes report.before report.now table_full) input.before input.now before now stays
+  leaves0 = leaves_by command is result (¬ (Failed S0)) (Takes report.before report.now table_full) input.before input.now before now looks
 
   abbrev EndsSo : Holdings → Holdings → List (List ℕ) → List ℕ → Option Outcome → Type 0
   EndsSo h i names octets o = Ends F0 result o (early command h names octets) (troubles command F0 h i names octets) a a report.before report.now
@@ -322,7 +308,7 @@ module _ (command : Command) (is : IsListing command) (before now : Option Holdi
       (ends_told F0 a a report.before report.before report.now (early command h names octets) (troubles command F0 h i names octets) (refused cause) result (telling cause).line [] report.faults_before report.faults_now (cause_told cause) refl (takes_nothing a) (takes_nothing report.before) (λ r. r) told)
 
   starved0 : ToldSo NoMemory no_memory → Out0
-  starved0 told = memory_ran command is before now sm sn input O0 report result stays nothing_yet told
+  starved0 told = memory_ran command is before now sm sn input O0 report result looks nothing_yet told
 
   memory_ends : (octets : List ℕ) (h i : Holdings) (names : List (List ℕ)) → Seen command input.before octets → before ≡ Some h → AreNames h names → ToldSo NoMemory no_memory → EndsSo h i names octets (outcome command h names octets)
   memory_ends octets h i names d e an told =
@@ -343,7 +329,7 @@ module _ (command : Command) (is : IsListing command) (before now : Option Holdi
   either_ran cause says calm told = elim told as (λ _. Out0) [ inl t ↦ refused_ran cause says calm t | inr t ↦ starved0 t ]
 
   input_ran : ToldSo InputFault input_failed → Failed input → Out0
-  input_ran told rose = early_ran command is before now sm sn input O0 report result stays nothing_yet InputFault input_failed told refl refl (λ e. rose) refl (λ e. absurd (apart is_disk_fault InputFault DiskFault refl refl e)) tt (λ octets h i names d e an. (rose, refl))
+  input_ran told rose = early_ran command is before now sm sn input O0 report result looks nothing_yet InputFault input_failed told refl refl (λ e. rose) refl (λ e. absurd (apart is_disk_fault InputFault DiskFault refl refl e)) tt (λ octets h i names d e an. (rose, refl))
 
   abbrev SchemaSays : ℕ → SchemaKind → List ℕ → Holdings → Type 0
   SchemaSays line kind octets h = (text : List ℕ) × (fault : schemas.Fault) × IsFirst text line kind fault × IsRefused octets h (causes.InStored text fault)
@@ -371,7 +357,7 @@ module _ (command : Command) (is : IsListing command) (before now : Option Holdi
   -- why nothing is listed
   pub stopped : {A : Type 0} (stop : Stop A) → ToldStop stop result report.before report.now report.faults_before report.faults_now → IsEarly stop → ((octets : List ℕ) (h : Holdings) → Seen command input.before octets → before ≡ Some h → Refuses stop (IsRefused octets h))
       → OnInput stop (Failed input) → OnDisk stop (Rose sm sn) → OnRefusal stop (IsCalm input) → Out0
-  stopped (stops.Disk f) told soon says rose disk calm = disk_ran command is before now sm sn input O0 report result stays nothing_yet told disk
+  stopped (stops.Disk f) told soon says rose disk calm = disk_ran command is before now sm sn input O0 report result looks nothing_yet told disk
   stopped stops.Input told soon says rose disk calm = input_ran told rose
   stopped stops.Missing told soon says rose disk calm = either_ran causes.SchemaMissing says calm told
   stopped (stops.Schema line kind) told soon says rose disk calm = schema_ran line kind told.0 told.1 says calm
@@ -401,6 +387,17 @@ axes_prints root octets h keywords asked names = ap (printed_of axes_text h name
 pub stats_prints : (root octets : List ℕ) (h : Holdings) (rules : List Rule) → rules_of h.schema ≡ Ok rules → (names : List (List ℕ)) → outcome (commands.Stats root) h names octets ≡ option_map printed (texts_for lines.Stats h names)
 stats_prints root octets h rules ruled names = ap (stats_printed h names) ruled ∙ ap (option_map printed) (stats_same h names)
 
+-- ---- and opens
+
+pub list_opens : (root octets : List ℕ) (h : Holdings) (keywords : List Keyword) → asked_in h octets ≡ Ok keywords → (names : List (List ℕ)) (name : List ℕ) → Contains names name → Opens (commands.List root) h names octets name
+list_opens root octets h keywords asked names name there = (ap is_ok asked, there)
+
+pub axes_opens : (root octets : List ℕ) (h : Holdings) (keywords : List Keyword) → asked_in h octets ≡ Ok keywords → (names : List (List ℕ)) (name : List ℕ) → Contains names name → Opens (commands.Axes root) h names octets name
+axes_opens root octets h keywords asked names name there = (ap is_ok asked, there)
+
+pub stats_opens : (root octets : List ℕ) (h : Holdings) (rules : List Rule) → rules_of h.schema ≡ Ok rules → (names : List (List ℕ)) (name : List ℕ) → Contains names name → Opens (commands.Stats root) h names octets name
+stats_opens root octets h rules ruled names name there = (ap is_ok ruled, there)
+
 -- ---- and of what is refused
 
 pub list_refused : (root octets : List ℕ) (h : Holdings) (cause : Cause) → asked_in h octets ≡ Err cause → (names : List (List ℕ)) → outcome (commands.List root) h names octets ≡ Some (refused cause)
@@ -424,8 +421,8 @@ store_at has P w h e = subst (λ b. IfSome b P) e w
 pub later_both : (m k n : ℕ) → m ≤ k → k ≤ n → m ≤ n
 later_both m k n a b = omega (arith, a, b)
 
-pub stays_since : (before first now : Option Holdings) → first ≡ before → WhereTold first now Stays → WhereTold before now Stays
-stays_since before first now same stays = subst (λ o. WhereTold o now Stays) same stays
+pub looks_since : (before first now : Option Holdings) → first ≡ before → WhereTold first now IsLookedThrough → WhereTold before now IsLookedThrough
+looks_since before first now same looks = subst (λ o. WhereTold o now IsLookedThrough) same looks
 
 pub told_since : (before first : Option Holdings) (P : Holdings → Type 0) → first ≡ before → IfSome first P → IfSome before P
 told_since before first P same p = subst (λ o. IfSome o P) same p

@@ -1,7 +1,6 @@
 -- The keys of datasets, one after the other, of a store that stays.
-use Rattle.std.proofs.Common.{◌≡◌, ◌∙◌, ◌<◌, ℕ, Bool, true, false, true≢false, cond, List, [], ◌∷◌, ◌++◌, length, map, Option, Some, None, IfSome, refl, sym, ap, subst, inl, inr, arith}
-use Rattle.std.specs.Prelude.{◌⊎◌, is_some, nat_lt, option_map, IfOk, Result, Ok, Err}
-use Rattle.std.specs.List.{All, list_any}
+use Rattle.std.proofs.Common.{◌≡◌, ◌∙◌, ◌<◌, ℕ, false, true≢false, List, [], ◌∷◌, ◌++◌, length, map, Option, Some, None, IfSome, refl, sym, ap, subst, inl, inr}
+use Rattle.std.specs.Prelude.{is_some, nat_lt, option_map, IfOk, Result, Ok, Err}
 use Rattle.std.proofs.lemmas.Bool.{cond-true, lt-ltb}
 use Rattle.fd_disk.specs.Folders.{Holdings, WhereTold, folder_at}
 use Rattle.fd_disk.specs.declared.file.File.{File}

@@ -1,8 +1,12 @@
 mod Names
 mod Texts
+mod Looked
+mod Printing
+mod Whole
 mod Opened
 mod Partial
 mod Exits
+mod Noticed
 mod Gathered
 mod Askable
 mod CubeExits

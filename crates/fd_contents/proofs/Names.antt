@@ -1,5 +1,5 @@
 -- The names of a store's datasets: two lists in order with the same names are one.
-use Rattle.std.proofs.Common.{◌≡◌, ◌∙◌, ℕ, Bool, true, false, true≢false, ◌||◌, List, [], ◌∷◌, map, Option, Some, None, IfSome, Ordering, Less, Equal, Greater, refl, sym, ap, subst, bytes_eq, string_bytes, inl, inr, ◌⊎◌}
+use Rattle.std.proofs.Common.{◌≡◌, ◌∙◌, ℕ, Bool, true, false, true≢false, ◌||◌, List, [], ◌∷◌, Option, Some, None, IfSome, Ordering, Less, Equal, Greater, refl, sym, ap, subst, bytes_eq, string_bytes, inl, inr}
 use Rattle.std.specs.Prelude.{String, is_some}
 use Rattle.std.specs.declared.alloc.Global.{Global}
 use Rattle.std.specs.List.{AllByRecursion, list_any}

@@ -1,19 +1,21 @@
 -- What a dataset that was opened says of its lines and of its damage.
-use Rattle.std.proofs.Common.{◌≡◌, ◌∙◌, ℕ, Bool, true, false, true≢false, ◌||◌, List, [], ◌∷◌, length, map, Option, Some, None, IfSome, refl, sym, ap, subst, inl, inr}
-use Rattle.std.specs.Prelude.{◌⊎◌, is_some, option_map, Contains, Ok, Err, OnErr, OnOk, Result}
+use Rattle.std.proofs.Common.{◌≡◌, ◌∙◌, ℕ, true, false, true≢false, ◌||◌, List, [], ◌∷◌, map, Option, Some, None, IfSome, refl, sym, ap, subst, inl, inr}
+use Rattle.std.specs.Prelude.{MatchOption, is_some, option_map, Contains, Ok, Err, OnErr, OnOk, Result}
+use Rattle.std.specs.List.{AllZip}
 use Rattle.fd_bytes.specs.Causes.{Rose}
+use Rattle.fd_disk.specs.declared.file.File.{File}
 use Rattle.fd_disk.specs.Folders.{Contents, Holdings, folder_at}
 use Rattle.fd_entries.specs.declared.batch.Pair.{Pair}
 use Rattle.fd_entries.specs.declared.table.Entry.{Entry}
 use Rattle.fd_entries.specs.Table.{listed}
 use Rattle.fd_dataset.specs.Listed.{listing}
-use Rattle.fd_io.specs.Streams.{Takes, TakesFront}
 use Rattle.fd_recovery.specs.Damages.{index_file}
-use Rattle.fd_recovery.specs.Recovered.{all_of, files_of, held}
-use Rattle.fd_segment.specs.Causes.{IsBadIndex, IsFindDamage}
+use Rattle.fd_recovery.specs.Recovered.{all_of, files_of}
+use Rattle.fd_segment.specs.Causes.{IsBadIndex}
 use Rattle.fd_segment.specs.Held.{Files, Standing}
 use Rattle.fd_segment.specs.declared.fault.Damage.{Damage}
 use Rattle.fd_inventory.specs.Indexes.{IsAmongBad, Tells}
+use Rattle.fd_inventory.specs.Recorded.{AreRecorded, IsRecorded, IsTextBy, TakesBy}
 use Rattle.fd_inventory.specs.Written.{HasLinesCause}
 use Rattle.fd_inventory.proofs.Upserting.{self}
 use Rattle.fd_outcome.specs.Asking.{is_among}
@@ -23,8 +25,8 @@ use Rattle.fd_request.specs.Expansion.{Keyword}
 use Rattle.fd_outcome.specs.Causes.{BadFile}
 use Rattle.fd_outcome.specs.Outcome.{stats_of}
 use Rattle.fd_outcome.specs.Rows.{axes_text, list_text, stats_text}
-use Rattle.fd_outcome.specs.Store.{Stands, Stays, entries_in, if_listed, table_at}
-use Rattle.fd_retrieve.specs.Open.{AreListed, IsOpenIn, IsOpenOf, Open, table_of}
+use Rattle.fd_outcome.specs.Store.{Stands, entries_in, if_listed, table_at}
+use Rattle.fd_retrieve.specs.Open.{IsOpenIn, Open}
 use Rattle.fd_retrieve.proofs.DatasetLemmas.{contains_mapped, contains_of}
 use Rattle.fd_contents.specs.declared.lines.Lines.{Lines}
 use Rattle.fd_contents.specs.declared.lines.Lines.TheVariants as lines
@@ -32,6 +34,8 @@ use Rattle.fd_telling.specs.declared.stop.Stop.{Stop}
 use Rattle.fd_contents.specs.declared.datasets.Halt.{Halt}
 use Rattle.fd_contents.specs.declared.datasets.Halt.TheVariants as halts
 use Rattle.fd_contents.specs.Halts.{IsWrite, OnStop}
+use Rattle.fd_contents.specs.Printed.{IsText, TakesText}
+use Rattle.fd_contents.specs.Recorded.{AreRecordedIn}
 use Rattle.fd_contents.specs.Texts.{text_for}
 
 some_is : {A : Type 0} (x y : A) → (let o : Option A = Some x in o ≡ Some y) → x ≡ y
@@ -100,6 +104,33 @@ module _ (h : Holdings) (o : Open) (open_ : IsOpenIn h o) where
       by None is h = absurd (true≢false (sym (ap is_some h)))
       by (Some t) is h = (t, tells_all o.shown t (open_.held ∙ is), ap (λ es. stats_text o.name es t) shown_entries ∙ some_is (stats_text o.name open_.listed.entries t) text h)
 
+  -- ---- what its indexes have records of
+
+  open_recorded : (t : List (List Pair)) → AreRecorded o.shown t → AreRecordedIn o.name (folder_at h o.name) t
+  open_recorded t all =
+      subst (λ (q : Option File). MatchOption q (t ≡ []) (λ f. (es : List Entry) × (listed o.name f.reads ≡ Ok es) × AllZip IsRecorded (map (files_of (folder_at h o.name).files) es) t)) (sym open_.listed.table_is)
+      (open_.listed.entries, open_.listed.lists, subst (λ fs. AllZip IsRecorded fs t) open_.listed.files all)
+
+  sound_by : (f : List (List Pair) → List ℕ) (x : List ℕ) → ((t : List (List Pair)) → Tells (map listing o.shown) t → x ≡ f t) → (q : Option (List (List Pair))) → table_at h o.name ≡ q → IfSome (option_map f q) (λ y. x ≡ y)
+  sound_by f x is None e = tt
+  sound_by f x is (Some t) e = is t (tells_all o.shown t (open_.held ∙ e))
+
+  list_is : (keywords : List Keyword) (x : List ℕ) → IsTextBy (list_text keywords o.name) o.shown x → IsText (lines.List keywords) h o.name x
+  list_is keywords x by = record { sound = sound_by (list_text keywords o.name) x by.sound (table_at h o.name) refl; recorded = (by.table, open_recorded by.table by.recorded, ap (λ (y : List ℕ). Some y) (sym by.is)) }
+
+  axes_is : (keywords : List Keyword) (x : List ℕ) → IsTextBy (axes_text keywords o.name) o.shown x → IsText (lines.Axes keywords) h o.name x
+  axes_is keywords x by = record { sound = sound_by (axes_text keywords o.name) x by.sound (table_at h o.name) refl; recorded = (by.table, open_recorded by.table by.recorded, ap (λ (y : List ℕ). Some y) (sym by.is)) }
+
+  stats_is : (x : List ℕ) → IsTextBy (stats_text o.name (map (λ s. s.files.entry) o.shown)) o.shown x → IsText lines.Stats h o.name x
+  stats_is x by = record {
+    sound = subst (λ es. IfSome (stats_of o.name es (table_at h o.name)) (λ y. x ≡ y)) (sym table_entries) (told (table_at h o.name) refl);
+    recorded = (by.table, open_recorded by.table by.recorded, ap (λ es. stats_of o.name es (Some by.table)) table_entries ∙ ap (λ (y : List ℕ). Some y) (sym (by.is ∙ ap (λ es. stats_text o.name es by.table) shown_entries)));
+  }
+    where
+      told : (q : Option (List (List Pair))) → table_at h o.name ≡ q → IfSome (stats_of o.name (Some open_.listed.entries) q) (λ y. x ≡ y)
+      told None e = tt
+      told (Some t) e = by.sound t (tells_all o.shown t (open_.held ∙ e)) ∙ ap (λ es. stats_text o.name es t) shown_entries
+
 -- ---- damage
 
 pub stands_at : (h : Holdings) (o : Open) (d : Damage) → IsOpenIn h o → IsAmongBad o.shown d → Stands o.name (folder_at h o.name) (BadFile d)
@@ -151,3 +182,25 @@ module _ (o : Open) (l : Lines) (shown : List Standing) (name : List ℕ) (P : L
   stats_took is took h text open_ e =
       let x = stats_told h o open_ text (subst (λ k. text_for k h o.name ≡ Some text) is e) in
       subst P x.2 (subst (λ n. P (stats_text n (map (λ s. s.files.entry) o.shown) x.0)) name_is (subst (λ s. P (stats_text name (map (λ y. y.files.entry) s) x.0)) shown_is (took x.0 (subst (λ s. Tells (map listing s) x.0) (sym shown_is) x.1))))
+
+-- ---- which text was taken
+
+module _ (o : Open) (l : Lines) (shown : List Standing) (name : List ℕ) (a b : Option (List ℕ)) (shown_is : shown ≡ o.shown) (name_is : name ≡ o.name) where
+  -- such a text of the dataset, wherever it is open
+  abbrev TakesIt : Type 0
+  TakesIt = (h : Holdings) → IsOpenIn h o → TakesText l h o.name a b
+
+  pub list_taken : (ks : List Keyword) → l ≡ lines.List ks → TakesBy (list_text ks name) shown a b → TakesIt
+  list_taken ks is took h open_ =
+      let t = subst (λ n. TakesBy (list_text ks n) o.shown a b) name_is (subst (λ ss. TakesBy (list_text ks name) ss a b) shown_is took) in
+      (t.0, subst (λ k. IsText k h o.name t.0) (sym is) (list_is h o open_ ks t.0 t.1), t.2)
+
+  pub axes_taken : (ks : List Keyword) → l ≡ lines.Axes ks → TakesBy (axes_text ks name) shown a b → TakesIt
+  axes_taken ks is took h open_ =
+      let t = subst (λ n. TakesBy (axes_text ks n) o.shown a b) name_is (subst (λ ss. TakesBy (axes_text ks name) ss a b) shown_is took) in
+      (t.0, subst (λ k. IsText k h o.name t.0) (sym is) (axes_is h o open_ ks t.0 t.1), t.2)
+
+  pub stats_taken : l ≡ lines.Stats → TakesBy (stats_text name (map (λ s. s.files.entry) shown)) shown a b → TakesIt
+  stats_taken is took h open_ =
+      let t = subst (λ n. TakesBy (stats_text n (map (λ s. s.files.entry) o.shown)) o.shown a b) name_is (subst (λ (ss : List Standing). TakesBy (stats_text name (map (λ s. s.files.entry) ss)) ss a b) shown_is took) in
+      (t.0, subst (λ k. IsText k h o.name t.0) (sym is) (stats_is h o open_ t.0 t.1), t.2)

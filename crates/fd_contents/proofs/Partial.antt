@@ -1,5 +1,5 @@
 -- The partial request that an input is.
-use Rattle.std.proofs.Common.{◌≡◌, ◌∙◌, ◌<◌, ◌≤◌, ℕ, Bool, true, false, List, [], ◌∷◌, ◌++◌, length, take, Option, Some, None, IfSome, refl, sym, ap, subst, inl, inr, arith}
+use Rattle.std.proofs.Common.{◌≡◌, ◌∙◌, ◌<◌, ◌≤◌, ℕ, Bool, true, false, List, [], length, Option, Some, None, IfSome, ap, inl, inr, arith}
 use Rattle.std.specs.Prelude.{◌⊎◌, Result, Ok, Err, nat_lt, codes, if◌then◌else◌}
 use Rattle.std.proofs.lemmas.Bool.Decides.{nat_tests}
 use Rattle.fd_io.specs.Streams.{Gives}
@@ -8,7 +8,7 @@ use Rattle.fd_schema.specs.Rules.{Rule}
 use Rattle.fd_request.specs.Expansion.{Keyword}
 use Rattle.fd_request.specs.Grammar.{Fault, TooLong, keywords_of}
 use Rattle.fd_request.specs.Limits.{partial_of, too_long, within_size}
-use Rattle.fd_outcome.specs.Asking.{in_request, partial_in, rules_of, ◌then◌}
+use Rattle.fd_outcome.specs.Asking.{in_request, partial_in, ◌then◌}
 use Rattle.fd_outcome.specs.Causes.{Cause, InRequest}
 use Rattle.fd_telling.specs.declared.stop.Stop.{Stop}
 use Rattle.fd_telling.specs.declared.stop.Stop.TheVariants as stops

@@ -1,9 +1,10 @@
 -- The lines of datasets, one after the other, of a store that stays.
-use Rattle.std.proofs.Common.{◌≡◌, ◌∙◌, ℕ, Bool, true, false, true≢false, List, [], ◌∷◌, ◌++◌, Option, Some, None, IfSome, refl, sym, ap, subst, append_assoc, ◌+◌, ◌<◌, length, map, take, drop, get_or}
+use Rattle.std.proofs.Common.{◌≡◌, ◌∙◌, ℕ, false, true≢false, List, [], ◌∷◌, ◌++◌, Option, Some, None, IfSome, refl, sym, ap, subst, append_assoc, ◌+◌, ◌<◌, length, map, take, drop, get_or}
 use Rattle.std.specs.Prelude.{is_some, option_map, Result}
 use Rattle.fd_io.specs.Streams.{Takes, TakesFront}
 use Rattle.fd_disk.specs.declared.file.File.{File}
 use Rattle.fd_disk.specs.Folders.{Holdings, WhereTold, folder_at}
+use Rattle.fd_entries.specs.declared.batch.Pair.{Pair}
 use Rattle.fd_entries.specs.declared.table.Entry.{Entry}
 use Rattle.fd_entries.specs.declared.table.NotATable.{NotATable}
 use Rattle.fd_entries.specs.Table.{listed}
@@ -12,25 +13,25 @@ use Rattle.fd_request.specs.Expansion.{Keyword}
 use Rattle.fd_outcome.specs.Outcome.{both, stats_of}
 use Rattle.fd_outcome.specs.Rows.{axes_text, list_text}
 use Rattle.fd_outcome.specs.Store.{Stays, entries_in, has_table, if_listed, table_at}
-use Rattle.fd_outcome.proofs.Endings.{front_more, nothing_of, takes_both, takes_nothing, takes_then_front}
+use Rattle.fd_outcome.proofs.Endings.{front_more, nothing_of, takes_then_front}
 use Rattle.fd_retrieve.specs.Open.{IsOpenIn, Open}
 use Rattle.fd_retrieve.proofs.PrepareLemmas.{take_more, take_rest}
 use Rattle.fd_retrieve.proofs.Staying.{same_at}
 use Rattle.fd_contents.specs.declared.lines.Lines.{Lines}
 use Rattle.fd_contents.specs.declared.lines.Lines.TheVariants as lines
-use Rattle.fd_contents.specs.Texts.{text_for, texts_for}
+use Rattle.fd_contents.specs.Texts.{text_for, text_with, texts_for}
 
-some_is : {A : Type 0} (x y : A) → (let o : Option A = Some x in o ≡ Some y) → x ≡ y
+pub some_is : {A : Type 0} (x y : A) → (let o : Option A = Some x in o ≡ Some y) → x ≡ y
 some_is x y e = cc e
 
-record Parts (a b : Option (List ℕ)) (text : List ℕ) : Type 0 where
-  one : List ℕ
-  other : List ℕ
-  one_is : a ≡ Some one
-  other_is : b ≡ Some other
-  text_is : text ≡ one ++ other
+pub record Parts (a b : Option (List ℕ)) (text : List ℕ) : Type 0 where
+  pub one : List ℕ
+  pub other : List ℕ
+  pub one_is : a ≡ Some one
+  pub other_is : b ≡ Some other
+  pub text_is : text ≡ one ++ other
 
-both_some : (a b : Option (List ℕ)) (text : List ℕ) → both a b ≡ Some text → Parts a b text
+pub both_some : (a b : Option (List ℕ)) (text : List ℕ) → both a b ≡ Some text → Parts a b text
 both_some (Some x) (Some y) text e = record { one = x; other = y; one_is = refl; other_is = refl; text_is = sym (some_is (x ++ y) text e) }
 both_some (Some x) None text e = absurd (true≢false (sym (ap is_some e)))
 both_some None b text e = absurd (true≢false (sym (ap is_some e)))
@@ -60,16 +61,25 @@ module _ (l : Lines) where
   entries_by name None = refl
   entries_by name (Some f) = refl
 
+  entries_stay : (h i : Holdings) (name : List ℕ) → Stays h i → entries_in name (folder_at i name).table ≡ entries_in name (folder_at h name).table
+  entries_stay h i name stays = entries_by name (folder_at i name).table ∙ ap entries_or_none (stays.folders name).table ∙ sym (entries_by name (folder_at h name).table)
+
   pub text_stays : (h i : Holdings) (name : List ℕ) → Stays h i → text_for l i name ≡ text_for l h name
   text_stays h i name stays = go l
     where
-      entries_stay : entries_in name (folder_at i name).table ≡ entries_in name (folder_at h name).table
-      entries_stay = entries_by name (folder_at i name).table ∙ ap entries_or_none (stays.folders name).table ∙ sym (entries_by name (folder_at h name).table)
-
       go : (k : Lines) → text_for k i name ≡ text_for k h name
       go (lines.List keywords) = ap (option_map (list_text keywords name)) (same_at h i stays name)
       go (lines.Axes keywords) = ap (option_map (axes_text keywords name)) (same_at h i stays name)
-      go lines.Stats = ap (λ es. stats_of name es (table_at i name)) entries_stay ∙ ap (stats_of name (entries_in name (folder_at h name).table)) (same_at h i stays name)
+      go lines.Stats = ap (λ es. stats_of name es (table_at i name)) (entries_stay h i name stays) ∙ ap (stats_of name (entries_in name (folder_at h name).table)) (same_at h i stays name)
+
+  -- and with given batches
+  pub with_stays : (h i : Holdings) (name : List ℕ) (t : Option (List (List Pair))) → Stays h i → text_with l i name t ≡ text_with l h name t
+  with_stays h i name t stays = go l
+    where
+      go : (k : Lines) → text_with k i name t ≡ text_with k h name t
+      go (lines.List keywords) = refl
+      go (lines.Axes keywords) = refl
+      go lines.Stats = ap (λ es. stats_of name es t) (entries_stay h i name stays)
 
   -- ---- a dataset without a table
 
@@ -81,7 +91,7 @@ module _ (l : Lines) where
   unfolding axes_text
   no_axes keywords name = refl
 
-  no_text : (h : Holdings) (name : List ℕ) → false ≡ has_table h name → text_for l h name ≡ Some []
+  pub no_text : (h : Holdings) (name : List ℕ) → false ≡ has_table h name → text_for l h name ≡ Some []
   no_text h name none = go (folder_at h name).table refl none
     where
       by : (k : Lines) → (folder_at h name).table ≡ None → text_for k h name ≡ Some []
@@ -93,34 +103,21 @@ module _ (l : Lines) where
       go None e n = by l e
       go (Some f) e n = absurd (true≢false (sym n))
 
-  pub none_takes : (has : Option Holdings) (name : List ℕ) (a : Option (List ℕ)) → IfSome has (λ h. false ≡ has_table h name) → IfSome has (λ h. (text : List ℕ) → text_for l h name ≡ Some text → Takes a a text)
-  none_takes None name a none = tt
-  none_takes (Some h) name a none = λ text e. subst (Takes a a) (some_is [] text (sym (no_text h name none) ∙ e)) (takes_nothing a)
+  no_table : (h : Holdings) (name : List ℕ) → false ≡ has_table h name → table_at h name ≡ Some []
+  no_table h name none = go (folder_at h name).table refl none
+    where
+      go : (o : Option File) → (folder_at h name).table ≡ o → false ≡ is_some o → table_at h name ≡ Some []
+      go None e n = ap (λ o. held_by name (folder_at h name).files o) e
+      go (Some f) e n = absurd (true≢false (sym n))
+
+  pub no_text_with : (h : Holdings) (name : List ℕ) → false ≡ has_table h name → text_with l h name (Some []) ≡ Some []
+  no_text_with h name none = ap (text_with l h name) (sym (no_table h name none)) ∙ no_text h name none
 
   -- ---- one dataset more
 
   -- what the lines are by now
   abbrev pub Taken : Option Holdings → List (List ℕ) → Option (List ℕ) → Option (List ℕ) → Type 0
   Taken has names a b = IfSome has (λ h. (text : List ℕ) → texts_for l h names ≡ Some text → Takes a b text)
-
-  pub none_yet : (has : Option Holdings) (a : Option (List ℕ)) → Taken has [] a a
-  none_yet None a = tt
-  none_yet (Some h) a = λ text e. subst (Takes a a) (some_is [] text e) (takes_nothing a)
-
-  pub one_more : (old mid : Option Holdings) (before : List (List ℕ)) (name : List ℕ) (a b c : Option (List ℕ)) → WhereTold old mid Stays → Taken old before a b
-      → IfSome mid (λ h. (text : List ℕ) → text_for l h name ≡ Some text → Takes b c text) → Taken old (before ++ name ∷ []) a c
-  one_more None mid before name a b c stays so_far took = tt
-  one_more (Some h) None before name a b c stays so_far took = absurd stays
-  one_more (Some h) (Some i) before name a b c stays so_far took = λ text e.
-      let p = texts_parts h before (name ∷ []) text e in
-      let q = both_some (text_for l h name) (Some []) p.other p.other_is in
-      let last : q.one ≡ p.other = sym (append_nothing q.one) ∙ ap (λ t. q.one ++ t) (some_is [] q.other q.other_is) ∙ sym q.text_is in
-      let own : Takes b c p.other = subst (Takes b c) last (took q.one (text_stays h i name stays ∙ q.one_is)) in
-      subst (Takes a c) (sym p.text_is) (takes_both a b c p.one p.other (so_far p.one p.one_is) own)
-    where
-      append_nothing : (xs : List ℕ) → xs ++ [] ≡ xs
-      append_nothing [] = refl
-      append_nothing (x ∷ xs) = ap (λ k. x ∷ k) (append_nothing xs)
 
   -- a dataset at which it ends
   pub cut_at : (old mid : Option Holdings) (before later : List (List ℕ)) (name : List ℕ) (a b c : Option (List ℕ)) → WhereTold old mid Stays → Taken old before a b

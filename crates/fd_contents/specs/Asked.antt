@@ -1,5 +1,5 @@
 -- What a listing of a store asks for, and why it is refused.
-use Rattle.std.specs.Prelude.{◌≡◌, ◌≤◌, ℕ, List, [], option_map, Option, Some, Result, Ok, Err}
+use Rattle.std.specs.Prelude.{◌≡◌, ◌≤◌, ℕ, List, [], Contains, option_map, Option, Some, Result, Ok, Err}
 use Rattle.fd_disk.specs.Folders.{Holdings}
 use Rattle.fd_schema.specs.Grammar as schemas
 use Rattle.fd_schema.specs.Reading.{IsFirst}
@@ -11,7 +11,7 @@ use Rattle.fd_words.specs.declared.command.Command.TheVariants as commands
 use Rattle.fd_outcome.specs.Asking.{partial_in, rules_of, ◌then◌}
 use Rattle.fd_outcome.specs.Causes as causes
 use Rattle.fd_outcome.specs.Causes.{Cause}
-use Rattle.fd_outcome.specs.Ends.{ReadsOut}
+use Rattle.fd_outcome.specs.Ends.{Opens, ReadsOut}
 use Rattle.fd_outcome.specs.Objects.{IsCalm, Object}
 use Rattle.fd_outcome.specs.Outcome.{outcome, printed}
 use Rattle.fd_telling.specs.declared.stop.Stop.{Stop}
@@ -97,11 +97,12 @@ WhereSeen (commands.Cubes root) input store P = (octets : List ℕ) (h : Holding
 WhereSeen (commands.Purge root dataset) input store P = (h : Holdings) → store ≡ Some h → P [] h
 WhereSeen (commands.Wipe root dataset) input store P = (h : Holdings) → store ≡ Some h → P [] h
 
--- A listing is about to begin, which writes these lines: the input was read to its end without a fault, where the command
--- reads it, and the store, whose count of faults was m and is n, is as it was.
+-- A listing is about to begin, which writes these lines and opens each dataset: the input was read to its end without a fault, where
+-- the command reads it, and the store, whose count of faults was m and is n, is as it was.
 pub record Begins (command : Command) (lines : Lines) (before now : Option Holdings) (m n : ℕ) (input : Object (List ℕ)) : Type 0 where
   pub is_listing : IsListing command
   pub prints : WhereSeen command input.before before (λ octets h. (names : List (List ℕ)) → outcome command h names octets ≡ option_map printed (texts_for lines h names))
+  pub opens : WhereSeen command input.before before (λ octets h. (names : List (List ℕ)) (name : List ℕ) → Contains names name → Opens command h names octets name)
   pub same : now ≡ before
   pub later : m ≤ n
   pub calm : IsCalm input

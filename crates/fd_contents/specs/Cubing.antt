@@ -1,8 +1,8 @@
 -- What `cubes` does: which lines it prints of the keys that match, and what each status tells of them.
 use Rattle.std.specs.Prelude.{◌≡◌, ◌⊎◌, ◌≤◌, ℕ, List, [], map, Option, Some, None, Ok, Err, IfSome}
 use Rattle.std.specs.List.{All}
+use Rattle.std.specs.Result.{IsErr}
 use Rattle.std.specs.List.Sorted.{IsPermutation}
-use Rattle.fd_io.specs.Streams.{TakesFront}
 use Rattle.fd_disk.specs.Folders.{Holdings, WhereTold}
 use Rattle.fd_request.specs.Expansion.{Keyword}
 use Rattle.fd_request.specs.Limits.{request_of}
@@ -14,13 +14,15 @@ use Rattle.fd_cubes.specs.Joining.{NoneCanJoin}
 use Rattle.fd_inventory.specs.Written.{text_lines}
 use Rattle.fd_outcome.specs.declared.status.Status.{Status}
 use Rattle.fd_outcome.specs.declared.status.Status.TheVariants.{Done, Missed, Words, InputFault, OutputFault, DiskFault, NoMemory}
+use Rattle.fd_outcome.specs.Asking.{rules_of}
 use Rattle.fd_outcome.specs.Causes.{Cause}
 use Rattle.fd_outcome.specs.Cubing.{keys_refusal}
 use Rattle.fd_outcome.specs.Ends.{AreSound, Calm, Ends, ReadsOut, troubles}
 use Rattle.fd_outcome.specs.Matching.{Keys, matching}
+use Rattle.fd_outcome.specs.Noticing.{AreUndamaged, IsUnread, ReadsFitly}
 use Rattle.fd_outcome.specs.Objects.{Failed, IsCalm, Object, failures}
-use Rattle.fd_outcome.specs.Outcome.{Outcome, lines_early, nothing_early, printed, refused}
-use Rattle.fd_outcome.specs.Store.{AreNames, Stays}
+use Rattle.fd_outcome.specs.Outcome.{Outcome, lines_early, printed, refused}
+use Rattle.fd_outcome.specs.Store.{AreNames, IsLookedThrough}
 use Rattle.fd_contents.specs.Asked.{asked_in}
 
 -- ---- which lines are printed
@@ -70,11 +72,14 @@ module _ (root : List ℕ) (s : Status) (store : Object Holdings) (input output 
   abbrev pub WhereCubed : (List ℕ → Holdings → Holdings → List (List ℕ) → Type 0) → Type 0
   WhereCubed P = IfSome input.before (λ octets. IfSome store.before (λ h. IfSome store.now (λ i. (names : List (List ℕ)) → AreNames h names → P octets h i names)))
 
-  -- What `cubes` has done: the store stays, and a fault is told only where a count rose.
+  -- What `cubes` has done: each table is as it was, or synced, and a fault is told only where a count rose. At 0 none of the datasets
+  -- has a damage that an opening can notice; and where the store has no schema that is one, nothing of the input was read.
   pub record CubesRan : Type 0 where
     pub ends : WhereCubed Comes
     pub complete : WhereCubed (λ octets h i names. IsComplete octets h names)
-    pub stays : WhereTold store.before store.now Stays
+    pub undamaged : s ≡ Done → WhereCubed (λ octets h i names. AreUndamaged (commands.Cubes root) h names octets)
+    pub unread : ReadsFitly (commands.Cubes root) store input
+    pub looks : WhereTold store.before store.now IsLookedThrough
     pub words : ¬ (s ≡ Words)
     pub to_end : ((s ≡ Done) ⊎ (s ≡ Missed)) → ReadsOut (commands.Cubes root) input.before input.now
     pub calm : Calm (commands.Cubes root) s input output report
@@ -103,10 +108,11 @@ OfCubes (commands.Wipe root dataset) P = Unit {0}
 OfCubes (commands.Trial root count workers) P = Unit {0}
 
 -- `cubes` is about to look for the keys that these keywords ask for: the input was read to its end without a fault, and the
--- store, whose count of faults was m and is n, is as it was.
+-- store, whose count of faults was m and is n, is as it was; it has a schema, or nothing was read.
 pub record BeginsCubes (keywords : List Keyword) (before now : Option Holdings) (m n : ℕ) (input : Object (List ℕ)) : Type 0 where
   pub asked : IfSome before (λ h. IfSome input.before (λ octets. asked_in h octets ≡ Ok keywords))
   pub same : now ≡ before
   pub later : m ≤ n
   pub calm : IsCalm input
   pub read : IfSome input.before (λ octets. input.now ≡ Some [])
+  pub unread : IfSome before (λ h. IsErr (rules_of h.schema) → IsUnread input)

@@ -3,3 +3,5 @@ pub mod Asked
 pub mod Halts
 pub mod Cubing
 pub mod Told
+pub mod Recorded
+pub mod Printed

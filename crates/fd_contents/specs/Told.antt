@@ -1,5 +1,5 @@
 -- What is told of keys that were found.
-use Rattle.std.specs.Prelude.{◌≡◌, ℕ, List, Option, Some, None}
+use Rattle.std.specs.Prelude.{◌≡◌, ℕ, List, Some, None}
 use Rattle.fd_io.specs.Streams.{Takes, TakesFront}
 use Rattle.fd_inventory.specs.Written.{text_lines}
 use Rattle.fd_outcome.specs.declared.status.Status.{Status}

@@ -1,11 +1,16 @@
 // The commands.
-ghost use Rattle.std.specs.Prelude.{◌≡◌, List, ℕ, Option, false};
+ghost use Rattle.std.specs.Prelude.{◌≡◌, ◌⊎◌, List, ℕ, Option, false};
 ghost use Rattle.fd_disk.specs.Folders.{Holdings};
 ghost use Rattle.fd_words.specs.declared.command.Command.{Command};
 ghost use Rattle.fd_words.specs.declared.command.Command.TheVariants as commands;
+ghost use Rattle.fd_outcome.specs.declared.status.Status.TheVariants.{Done, Missed};
+ghost use Rattle.fd_outcome.specs.Noticing.{Notices, ReadsFitly};
 ghost use Rattle.fd_outcome.specs.Objects.{Object, object};
 ghost use Rattle.fd_outcome.specs.Ran.{Ran};
+ghost use Rattle.fd_outcome.specs.Rows.{axes_text, list_text};
 ghost use Rattle.fd_contents.specs.Asked.{Begins};
+ghost use Rattle.fd_contents.specs.Printed.{PrintsAll};
+ghost use Rattle.fd_contents.specs.Recorded.{CountsRecords, ListsRecords};
 
 use crate::datasets::{Halt, print};
 use crate::lines::Lines;
@@ -32,6 +37,9 @@ pub fn list<F: Send + Drop, X: Drop, S: Store<F>, I: Source<X>, K: Sink<X>, E: S
 where
     requires home { (name : List ℕ) → S.out store.old name ≡ false }
     ensures ran { Ran (commands.List root.now) result (object (S.has store.old) (S.has store.new) (S.faults store.old) (S.faults store.new)) (object (I.left input.old) (I.left input.new) (I.faults input.old) (I.faults input.new)) (object (K.taken output.old) (K.taken output.new) (K.faults output.old) (K.faults output.new)) (object (E.taken report.old) (E.taken report.new) (E.faults report.old) (E.faults report.new)) }
+    ensures notices { Notices (commands.List root.now) result (object (S.has store.old) (S.has store.new) (S.faults store.old) (S.faults store.new)) (object (I.left input.old) (I.left input.new) (I.faults input.old) (I.faults input.new)) (object (K.taken output.old) (K.taken output.new) (K.faults output.old) (K.faults output.new)) (object (E.taken report.old) (E.taken report.new) (E.faults report.old) (E.faults report.new)) }
+    ensures recorded { ListsRecords list_text result (I.left input.old) (S.has store.old) (object (K.taken output.old) (K.taken output.new) (K.faults output.old) (K.faults output.new)) }
+    ensures unread { ReadsFitly (commands.List root.now) (object (S.has store.old) (S.has store.new) (S.faults store.old) (S.faults store.new)) (object (I.left input.old) (I.left input.new) (I.faults input.old) (I.faults input.new)) }
     ensures home { (name : List ℕ) → S.out store.new name ≡ false }
 {
     match partial(alloc, root.as_str(), store, input) {
@@ -54,6 +62,9 @@ pub fn axes<F: Send + Drop, X: Drop, S: Store<F>, I: Source<X>, K: Sink<X>, E: S
 where
     requires home { (name : List ℕ) → S.out store.old name ≡ false }
     ensures ran { Ran (commands.Axes root.now) result (object (S.has store.old) (S.has store.new) (S.faults store.old) (S.faults store.new)) (object (I.left input.old) (I.left input.new) (I.faults input.old) (I.faults input.new)) (object (K.taken output.old) (K.taken output.new) (K.faults output.old) (K.faults output.new)) (object (E.taken report.old) (E.taken report.new) (E.faults report.old) (E.faults report.new)) }
+    ensures notices { Notices (commands.Axes root.now) result (object (S.has store.old) (S.has store.new) (S.faults store.old) (S.faults store.new)) (object (I.left input.old) (I.left input.new) (I.faults input.old) (I.faults input.new)) (object (K.taken output.old) (K.taken output.new) (K.faults output.old) (K.faults output.new)) (object (E.taken report.old) (E.taken report.new) (E.faults report.old) (E.faults report.new)) }
+    ensures recorded { ListsRecords axes_text result (I.left input.old) (S.has store.old) (object (K.taken output.old) (K.taken output.new) (K.faults output.old) (K.faults output.new)) }
+    ensures unread { ReadsFitly (commands.Axes root.now) (object (S.has store.old) (S.has store.new) (S.faults store.old) (S.faults store.new)) (object (I.left input.old) (I.left input.new) (I.faults input.old) (I.faults input.new)) }
     ensures home { (name : List ℕ) → S.out store.new name ≡ false }
 {
     match partial(alloc, root.as_str(), store, input) {
@@ -74,6 +85,8 @@ pub fn stats<F: Send + Drop, X: Drop, S: Store<F>, K: Sink<X>, E: Sink<X>>(
 where
     requires home { (name : List ℕ) → S.out store.old name ≡ false }
     ensures ran { (a : Option (List ℕ)) (k : ℕ) → Ran (commands.Stats root.now) result (object (S.has store.old) (S.has store.new) (S.faults store.old) (S.faults store.new)) (object a a k k) (object (K.taken output.old) (K.taken output.new) (K.faults output.old) (K.faults output.new)) (object (E.taken report.old) (E.taken report.new) (E.faults report.old) (E.faults report.new)) }
+    ensures notices { (a : Option (List ℕ)) (k : ℕ) → Notices (commands.Stats root.now) result (object (S.has store.old) (S.has store.new) (S.faults store.old) (S.faults store.new)) (object a a k k) (object (K.taken output.old) (K.taken output.new) (K.faults output.old) (K.faults output.new)) (object (E.taken report.old) (E.taken report.new) (E.faults report.old) (E.faults report.new)) }
+    ensures recorded { CountsRecords result (S.has store.old) (object (K.taken output.old) (K.taken output.new) (K.faults output.old) (K.faults output.new)) }
     ensures home { (name : List ℕ) → S.out store.new name ≡ false }
 {
     match ruled(alloc, root.as_str(), store) {
@@ -94,6 +107,7 @@ where
     requires home { (name : List ℕ) → S.out store.old name ≡ false }
     ensures ran { (command : Command) (before : Option Holdings) (faults : ℕ) (input : Object (List ℕ)) → Begins command lines.now before (S.has store.old) faults (S.faults store.old) input
         → Ran command result (object before (S.has store.new) faults (S.faults store.new)) input (object (K.taken output.old) (K.taken output.new) (K.faults output.old) (K.faults output.new)) (object (E.taken report.old) (E.taken report.new) (E.faults report.old) (E.faults report.new)) }
+    ensures whole { (result ≡ Done) ⊎ (result ≡ Missed) → PrintsAll lines.now result (S.has store.old) (object (K.taken output.old) (K.taken output.new) (K.faults output.old) (K.faults output.new)) (object (E.taken report.old) (E.taken report.new) (E.faults report.old) (E.faults report.new)) }
     ensures home { (name : List ℕ) → S.out store.new name ≡ false }
 {
     match print(alloc, lines, store, output) {

@@ -1,15 +1,17 @@
 // The lines of all datasets, one dataset after the other.
 ghost use Rattle.std.specs.Prelude.{◌≡◌, ◌≤◌, [], ◌∷◌, List, ℕ, Some, false, is_some, length, IfOk, IfErr, IfSome, OnErr, OnOk};
 ghost use Rattle.fd_bytes.specs.Causes.{Rose};
-ghost use Rattle.fd_disk.specs.Folders.{Holdings, WhereTold};
-ghost use Rattle.fd_io.specs.Streams.{Takes, TakesFront};
+ghost use Rattle.fd_disk.specs.Folders.{Holdings, WhereTold, folder_at};
+ghost use Rattle.fd_io.specs.Streams.{TakesFront};
 ghost use Rattle.fd_schema.specs.Seen.{texts};
+ghost use Rattle.fd_recovery.specs.Recovered.{IsUndamaged};
 ghost use Rattle.fd_inventory.specs.Indexes.{IsAmongBad, OnLines};
-ghost use Rattle.fd_outcome.specs.Store.{AreNames, Stays, has_table};
+ghost use Rattle.fd_outcome.specs.Store.{AreNames, IsLookedThrough, has_table};
 ghost use Rattle.fd_retrieve.specs.Open.{IsOpenIn};
 ghost use Rattle.fd_retrieve.specs.Ready.{IsBrokenOf};
 ghost use Rattle.fd_telling.specs.Stops.{OfDataset};
 ghost use Rattle.fd_contents.specs.Halts.{IsWrite, OnStop, OnUnwritten};
+ghost use Rattle.fd_contents.specs.Printed.{ArePrinted, IsPrinted};
 ghost use Rattle.fd_contents.specs.Texts.{text_for, texts_for};
 
 use crate::lines::{Lines, write_lines};
@@ -42,9 +44,10 @@ where
     ensures opened { IfOk result (λ o. IfSome o (λ r. (r.name ≡ name.now) × IfSome (S.has store.old) (λ h. IsOpenIn h r))) }
     ensures short { IfOk result (λ o. IfSome o (λ r. length r.name ≤ 255)) }
     ensures none { IfOk result (λ o. IfSome (S.has store.old) (λ h. is_some o ≡ has_table h name.now)) }
+    ensures undamaged { IfOk result (λ o. IfSome (S.has store.old) (λ h. IsUndamaged name.now (folder_at h name.now))) }
     ensures broken { IfErr result (λ e. IfSome (S.has store.old) (λ h. IsBrokenOf e h (name.now ∷ []))) }
     ensures of { IfErr result OfDataset }
-    ensures stays { WhereTold (S.has store.old) (S.has store.new) Stays }
+    ensures looks { WhereTold (S.has store.old) (S.has store.new) IsLookedThrough }
     ensures home { (n : List ℕ) → S.out store.new n ≡ false }
     ensures later { S.faults store.old ≤ S.faults store.new }
 {
@@ -111,13 +114,13 @@ fn print_one<F: Send + Drop, X: Drop, S: Store<F>, K: Sink<X>>(
 ) -> Result<(), Halt<F, X>>
 where
     requires home { (n : List ℕ) → S.out store.old n ≡ false }
-    ensures took { OnOk result (IfSome (S.has store.old) (λ h. (text : List ℕ) → text_for lines.now h name.now ≡ Some text → Takes (K.taken output.old) (K.taken output.new) text)) }
+    ensures printed { OnOk result (IfSome (S.has store.old) (λ h. IsPrinted lines.now h name.now (K.taken output.old) (K.taken output.new))) }
     ensures front { OnErr result (IfSome (S.has store.old) (λ h. (text : List ℕ) → text_for lines.now h name.now ≡ Some text → TakesFront (K.taken output.old) (K.taken output.new) text)) }
     ensures broken { IfErr result (λ e. OnStop e (λ stop. IfSome (S.has store.old) (λ h. IsBrokenOf stop h (name.now ∷ [])))) }
     ensures of { IfErr result (λ e. OnStop e OfDataset) }
     ensures calm { OnOk result (K.faults output.new ≡ K.faults output.old) }
     ensures write { IfErr result (λ e. OnUnwritten e (Rose (K.faults output.old) (K.faults output.new))) }
-    ensures stays { WhereTold (S.has store.old) (S.has store.new) Stays }
+    ensures looks { WhereTold (S.has store.old) (S.has store.new) IsLookedThrough }
     ensures home { (n : List ℕ) → S.out store.new n ≡ false }
     ensures later { S.faults store.old ≤ S.faults store.new }
 {
@@ -142,13 +145,13 @@ fn print_each<F: Send + Drop, X: Drop, S: Store<F>, K: Sink<X>>(
 ) -> Result<(), Halt<F, X>>
 where
     requires home { (n : List ℕ) → S.out store.old n ≡ false }
-    ensures took { OnOk result (IfSome (S.has store.old) (λ h. (text : List ℕ) → texts_for lines.now h (texts names.now) ≡ Some text → Takes (K.taken output.old) (K.taken output.new) text)) }
+    ensures printed { OnOk result (IfSome (S.has store.old) (λ h. ArePrinted lines.now h (texts names.now) (K.taken output.old) (K.taken output.new))) }
     ensures front { OnErr result (IfSome (S.has store.old) (λ h. (text : List ℕ) → texts_for lines.now h (texts names.now) ≡ Some text → TakesFront (K.taken output.old) (K.taken output.new) text)) }
     ensures broken { IfErr result (λ e. OnStop e (λ stop. IfSome (S.has store.old) (λ h. IsBrokenOf stop h (texts names.now)))) }
     ensures of { IfErr result (λ e. OnStop e OfDataset) }
     ensures calm { OnOk result (K.faults output.new ≡ K.faults output.old) }
     ensures write { IfErr result (λ e. OnUnwritten e (Rose (K.faults output.old) (K.faults output.new))) }
-    ensures stays { WhereTold (S.has store.old) (S.has store.new) Stays }
+    ensures looks { WhereTold (S.has store.old) (S.has store.new) IsLookedThrough }
     ensures home { (n : List ℕ) → S.out store.new n ≡ false }
     ensures later { S.faults store.old ≤ S.faults store.new }
 {
@@ -170,13 +173,13 @@ pub(crate) fn print<F: Send + Drop, X: Drop, S: Store<F>, K: Sink<X>>(
 ) -> Result<(), Halt<F, X>>
 where
     requires home { (n : List ℕ) → S.out store.old n ≡ false }
-    ensures took { OnOk result (IfSome (S.has store.old) (λ h. (names : List (List ℕ)) (text : List ℕ) → AreNames h names → texts_for lines.now h names ≡ Some text → Takes (K.taken output.old) (K.taken output.new) text)) }
+    ensures printed { OnOk result (IfSome (S.has store.old) (λ h. (names : List (List ℕ)) → AreNames h names → ArePrinted lines.now h names (K.taken output.old) (K.taken output.new))) }
     ensures front { OnErr result (IfSome (S.has store.old) (λ h. (names : List (List ℕ)) (text : List ℕ) → AreNames h names → texts_for lines.now h names ≡ Some text → TakesFront (K.taken output.old) (K.taken output.new) text)) }
     ensures broken { IfErr result (λ e. OnStop e (λ stop. IfSome (S.has store.old) (λ h. (names : List (List ℕ)) → AreNames h names → IsBrokenOf stop h names))) }
     ensures of { IfErr result (λ e. OnStop e OfDataset) }
     ensures calm { OnOk result (K.faults output.new ≡ K.faults output.old) }
     ensures write { IfErr result (λ e. OnUnwritten e (Rose (K.faults output.old) (K.faults output.new))) }
-    ensures stays { WhereTold (S.has store.old) (S.has store.new) Stays }
+    ensures looks { WhereTold (S.has store.old) (S.has store.new) IsLookedThrough }
     ensures home { (n : List ℕ) → S.out store.new n ≡ false }
     ensures later { S.faults store.old ≤ S.faults store.new }
 {

@@ -1,15 +1,16 @@
 // The keys of all datasets that a partial request asks for.
-ghost use Rattle.std.specs.Prelude.{◌≡◌, ◌≤◌, [], ◌∷◌, List, ℕ, Some, false, IfOk, IfErr, IfSome, length};
-ghost use Rattle.fd_disk.specs.Folders.{Holdings, WhereTold};
+ghost use Rattle.std.specs.Prelude.{◌≡◌, ◌≤◌, [], ◌∷◌, List, ℕ, Some, false, IfOk, IfErr, IfSome, OnOk, length};
+ghost use Rattle.fd_disk.specs.Folders.{Holdings, WhereTold, folder_at};
 ghost use Rattle.fd_entries.specs.declared.batch.Pair.{Pair};
 ghost use Rattle.fd_schema.specs.Seen.{texts};
 ghost use Rattle.fd_segment.specs.Causes.{OnDamaged};
+ghost use Rattle.fd_recovery.specs.Recovered.{IsUndamaged};
 ghost use Rattle.fd_inventory.specs.Found.{Keeps};
 ghost use Rattle.fd_inventory.specs.Indexes.{IsAmongBad};
 ghost use Rattle.fd_outcome.specs.Matching.{Keys, matching, with_dataset};
-ghost use Rattle.fd_outcome.specs.Store.{AreNames, Stays, table_at};
+ghost use Rattle.fd_outcome.specs.Store.{AreNames, IsLookedThrough, table_at};
 ghost use Rattle.fd_retrieve.specs.Open.{IsOpenIn};
-ghost use Rattle.fd_retrieve.specs.Ready.{IsBrokenOf};
+ghost use Rattle.fd_retrieve.specs.Ready.{IsBrokenOf, NoneIsDamaged};
 ghost use Rattle.fd_telling.specs.Stops.{OfDataset};
 
 use crate::datasets::{damaged, opened_at};
@@ -65,9 +66,10 @@ fn keys_in<F: Send + Drop, S: Store<F>>(
 where
     requires home { (n : List ℕ) → S.out store.old n ≡ false }
     ensures found { IfOk result (λ f. IfSome (S.has store.old) (λ h. (all : Keys) (t : List (List Pair)) → table_at h name.now ≡ Some t → Keeps found all → Keeps f (with_dataset partial.now name.now t all))) }
+    ensures undamaged { OnOk result (IfSome (S.has store.old) (λ h. IsUndamaged name.now (folder_at h name.now))) }
     ensures broken { IfErr result (λ stop. IfSome (S.has store.old) (λ h. IsBrokenOf stop h (name.now ∷ []))) }
     ensures of { IfErr result OfDataset }
-    ensures stays { WhereTold (S.has store.old) (S.has store.new) Stays }
+    ensures looks { WhereTold (S.has store.old) (S.has store.new) IsLookedThrough }
     ensures home { (n : List ℕ) → S.out store.new n ≡ false }
     ensures later { S.faults store.old ≤ S.faults store.new }
 {
@@ -92,9 +94,10 @@ fn keys_in_each<F: Send + Drop, S: Store<F>>(
 where
     requires home { (n : List ℕ) → S.out store.old n ≡ false }
     ensures found { IfOk result (λ f. IfSome (S.has store.old) (λ h. (ks : Keys) → matching partial.now h (texts names.now) ≡ Some ks → Keeps f ks)) }
+    ensures undamaged { OnOk result (IfSome (S.has store.old) (λ h. NoneIsDamaged h (texts names.now))) }
     ensures broken { IfErr result (λ stop. IfSome (S.has store.old) (λ h. IsBrokenOf stop h (texts names.now))) }
     ensures of { IfErr result OfDataset }
-    ensures stays { WhereTold (S.has store.old) (S.has store.new) Stays }
+    ensures looks { WhereTold (S.has store.old) (S.has store.new) IsLookedThrough }
     ensures home { (n : List ℕ) → S.out store.new n ≡ false }
     ensures later { S.faults store.old ≤ S.faults store.new }
 {
@@ -118,9 +121,10 @@ pub(crate) fn keys_asked<F: Send + Drop, S: Store<F>>(
 where
     requires home { (n : List ℕ) → S.out store.old n ≡ false }
     ensures found { IfOk result (λ f. IfSome (S.has store.old) (λ h. (names : List (List ℕ)) → AreNames h names → (ks : Keys) → matching partial.now h names ≡ Some ks → Keeps f ks)) }
+    ensures undamaged { OnOk result (IfSome (S.has store.old) (λ h. (names : List (List ℕ)) → AreNames h names → NoneIsDamaged h names)) }
     ensures broken { IfErr result (λ stop. IfSome (S.has store.old) (λ h. (names : List (List ℕ)) → AreNames h names → IsBrokenOf stop h names)) }
     ensures of { IfErr result OfDataset }
-    ensures stays { WhereTold (S.has store.old) (S.has store.new) Stays }
+    ensures looks { WhereTold (S.has store.old) (S.has store.new) IsLookedThrough }
     ensures home { (n : List ℕ) → S.out store.new n ≡ false }
     ensures later { S.faults store.old ≤ S.faults store.new }
 {

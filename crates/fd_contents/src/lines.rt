@@ -1,10 +1,11 @@
 // The lines of one dataset.
 ghost use Rattle.std.specs.Prelude.{◌≡◌, ◌≤◌, List, ℕ, Some, IfErr, OnErr, OnOk, length};
 ghost use Rattle.fd_disk.specs.Folders.{Holdings};
-ghost use Rattle.fd_io.specs.Streams.{Takes, TakesFront};
+ghost use Rattle.fd_io.specs.Streams.{TakesFront};
 ghost use Rattle.fd_inventory.specs.Indexes.{IsAmongBad, OnLines};
 ghost use Rattle.fd_inventory.specs.Written.{HasLinesCause};
 ghost use Rattle.fd_retrieve.specs.Open.{IsOpenIn};
+ghost use Rattle.fd_contents.specs.Printed.{TakesText};
 ghost use Rattle.fd_contents.specs.Texts.{text_for};
 
 use fd_disk::Sealed;
@@ -34,7 +35,7 @@ pub(crate) fn write_lines<F: Send, Z: Sealed<F>, X, K: Sink<X>>(
 ) -> Result<(), LinesFault<F, X>>
 where
     requires short { length dataset.now.name ≤ 255 }
-    ensures took { OnOk result ((h : Holdings) (text : List ℕ) → IsOpenIn h dataset.now → text_for lines.now h dataset.now.name ≡ Some text → Takes (K.taken sink.old) (K.taken sink.new) text) }
+    ensures printed { OnOk result ((h : Holdings) → IsOpenIn h dataset.now → TakesText lines.now h dataset.now.name (K.taken sink.old) (K.taken sink.new)) }
     ensures front { OnErr result ((h : Holdings) (text : List ℕ) → IsOpenIn h dataset.now → text_for lines.now h dataset.now.name ≡ Some text → TakesFront (K.taken sink.old) (K.taken sink.new) text) }
     ensures damaged { IfErr result (λ e. OnLines e (IsAmongBad dataset.now.shown)) }
     ensures cause { HasLinesCause result (K.faults sink.old) (K.faults sink.new) }

@@ -122,7 +122,15 @@ fn refused_streams_in_pieces(rt: HostRuntime) {
         (7, 1, Bad::Edition(1)),
         (12, 8, Bad::TooLong { len: 134_217_911 }),
         (15, 182, Bad::NoEnd { at: 179 }),
-        (15, 5, Bad::Length { said: 5, found: 16 }),
+        (15, 5, Bad::Short { section: 0, len: 5 }),
+        (
+            15,
+            15,
+            Bad::Short {
+                section: 0,
+                len: 15,
+            },
+        ),
     ] {
         let want = Ending::Bad(BadAt { number: 1, bad });
         assert!(rt;

@@ -1,5 +1,5 @@
 -- The axes of rows: their values, row by row from the last one on.
-use Rattle.std.proofs.Common.{◌≡◌, ◌∙◌, ◌≤◌, ◌+◌, ℕ, Bool, true, false, true≢false, ◌||◌, ◌&&◌, cond, List, [], ◌∷◌, ◌++◌, length, map, drop, Option, Some, None, is_some, Ordering, Less, Equal, Greater, refl, sym, ap, subst, bytes_eq, string_bytes, arith, append_assoc, length-drop, nat_le, leb, leb-true}
+use Rattle.std.proofs.Common.{◌≡◌, ◌∙◌, ◌≤◌, ◌+◌, ℕ, Bool, true, false, true≢false, ◌&&◌, cond, List, [], ◌∷◌, ◌++◌, length, map, drop, Option, Some, None, is_some, Ordering, Less, Equal, Greater, refl, sym, ap, subst, bytes_eq, string_bytes, arith, append_assoc, length-drop, nat_le, leb-true}
 use Rattle.std.specs.Prelude.{String, IsSome, nat_lt, ◌==◌, ◌<◌}
 use Rattle.std.specs.List.{after_first, before_first, position_or_len}
 use Rattle.std.specs.declared.alloc.Global.{Global}
@@ -13,9 +13,9 @@ use Rattle.fd_schema.specs.Grammar.{is_ascii}
 use Rattle.fd_request.specs.Expansion.{Keyword}
 use Rattle.fd_outcome.specs.Asking.{is_among}
 use Rattle.fd_outcome.specs.Rows.{Row, Stored, axes_text, axis_lines, if_new, if_pair, if_short, index_lines, indexes, matches, names_in, of_index, order, put, put_by, put_matching, put_names, put_value, row_of, row_order, rows, rows_from, rows_of_batch, stored, stored_at, values_in, with_piece, with_pieces, with_text}
-use Rattle.fd_inventory.specs.Axes.{AddsIndex, AreApart, AreAxes, AreHalfway, At, HasDatum, HaveData, KeptNames, Values, axes_lines, axes_of, axis_line, names_lines, names_of, put_pair, put_pairs, seen_axes, seen_values, text_order, upsert}
+use Rattle.fd_inventory.specs.Axes.{AddsIndex, AreApart, AreAxes, AreHalfway, HasDatum, HaveData, KeptNames, axes_lines, axes_of, axis_line, names_lines, names_of, put_pair, put_pairs, seen_axes, upsert}
 use Rattle.fd_inventory.specs.Shown.{AreRows, Kept, Shown, kept, shown}
-use Rattle.fd_inventory.proofs.Upserting.{Rise, among_put, differs, not_same, rise_put, self, turned, upsert_put}
+use Rattle.fd_inventory.proofs.Upserting.{Rise, among_put, not_same, rise_put, self, turned, upsert_put}
 
 -- ---- names and index texts in order
 

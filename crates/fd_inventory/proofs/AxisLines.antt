@@ -1,5 +1,5 @@
 -- The lines of axes, piece by piece.
-use Rattle.std.proofs.Common.{◌≡◌, ◌∙◌, ℕ, Bool, true, false, cond, List, [], ◌∷◌, ◌++◌, Option, refl, sym, ap, subst, map, string_bytes, append_assoc, append-nil}
+use Rattle.std.proofs.Common.{◌≡◌, ◌∙◌, ℕ, Bool, true, false, cond, List, [], ◌∷◌, ◌++◌, Option, refl, sym, ap, subst, string_bytes, append_assoc, append-nil}
 use Rattle.std.specs.Prelude.{String}
 use Rattle.std.specs.declared.alloc.Global.{Global}
 use Rattle.fd_io.specs.Streams.{Takes}
@@ -10,7 +10,7 @@ use Rattle.std.specs.Ordering.{match_ordering}
 use Rattle.std.specs.declared.cmp.Ordering.{Ordering}
 use Rattle.std.specs.declared.cmp.Ordering.TheVariants.{Less, Equal, Greater}
 use Rattle.std.specs.BTreeMap.{insert_entry}
-use Rattle.fd_inventory.specs.Axes.{At, KeptNames, KeptValues, Values, axes_lines, axis_line, names_lines, seen_axes, seen_index, seen_name, seen_names, seen_values, text_order}
+use Rattle.fd_inventory.specs.Axes.{KeptNames, KeptValues, Values, axes_lines, axis_line, names_lines, seen_axes, seen_name, seen_names, seen_values, text_order}
 
 -- a value that is inserted is put among the values
 pub values_insert : (k : String Global) (es : List (String Global × Unit {0})) → seen_values (insert_entry text_order es k tt) ≡ put order (string_bytes k) (seen_values es)

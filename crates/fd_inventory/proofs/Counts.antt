@@ -1,5 +1,5 @@
 -- Distinct keys and sums, from the last batch on.
-use Rattle.std.proofs.Common.{◌≡◌, ◌∙◌, ℕ, zero, suc, ◌+◌, ◌-◌, ◌*◌, ◌^◌, ◌≤◌, ◌<◌, Bool, true, false, List, [], ◌∷◌, ◌++◌, length, map, take, drop, slice_get, Option, Some, None, Ordering, Less, Equal, Greater, refl, sym, ap, subst, arith}
+use Rattle.std.proofs.Common.{◌≡◌, ◌∙◌, ℕ, suc, ◌+◌, ◌≤◌, List, [], ◌∷◌, length, drop, slice_get, Some, Ordering, Less, Equal, Greater, refl, sym, ap, subst, arith}
 use Rattle.std.specs.Ordering.{nat_cmp, match_ordering}
 use Rattle.std.specs.Cmp.Lexicographic.{slice_cmp}
 use Rattle.std.specs.BTreeMap.{insert_entry}
@@ -13,7 +13,7 @@ use Rattle.fd_outcome.specs.Rows.{keys_in, order, put, put_by, put_keys, stats_t
 use Rattle.fd_inventory.specs.Counted.{AreKeys, Kept, kept_keys, stats_line}
 use Rattle.fd_inventory.specs.Indexes.{Tells}
 use Rattle.fd_inventory.specs.Shown.{AreLengths}
-use Rattle.fd_inventory.proofs.Batches.{Stands, none_left, pair_at, stands, tells_length}
+use Rattle.fd_inventory.proofs.Batches.{none_left, pair_at, stands, tells_length}
 
 abbrev pub keys_order : Vec ℕ → Vec ℕ → Ordering
 keys_order x y = slice_cmp nat_cmp x.items y.items

@@ -1,7 +1,7 @@
 -- The keys of rows are those of their texts.
-use Rattle.std.proofs.Common.{◌≡◌, ◌∙◌, ◌≤◌, ◌+◌, ℕ, Bool, true, false, true≢false, ◌||◌, ◌&&◌, not, cond, List, [], ◌∷◌, ◌++◌, length, map, Option, Some, None, is_some, Ordering, Less, Equal, Greater, refl, sym, ap, subst, bytes_eq, arith, nat_le, leb-true, append-nil, append_assoc}
+use Rattle.std.proofs.Common.{◌≡◌, ◌∙◌, ◌≤◌, ℕ, Bool, true, false, true≢false, ◌||◌, ◌&&◌, not, cond, List, [], ◌∷◌, ◌++◌, length, Option, Some, None, is_some, Ordering, Less, Equal, Greater, refl, sym, ap, subst, bytes_eq, arith, nat_le, leb-true, append-nil, append_assoc}
 use Rattle.std.specs.Prelude.{drop}
-use Rattle.std.specs.List.{All, list_all}
+use Rattle.std.specs.List.{All}
 use Rattle.std.proofs.lemmas.Bool.{and_from, and_parts, cond-true}
 use Rattle.std.proofs.lemmas.List.Elements.{All-nil, All-push}
 use Rattle.std.proofs.lemmas.Slice.Eq.{bytes_eq-Decides}
@@ -10,12 +10,12 @@ use Rattle.fd_key.specs.Pairs as keys
 use Rattle.fd_key.specs.Pairs.{key_text, text_of}
 use Rattle.fd_key.specs.Given.{pieces_of}
 use Rattle.fd_spelling.specs.Canonical.{canonical}
-use Rattle.fd_spelling.specs.Names.{is_name, is_value}
+use Rattle.fd_spelling.specs.Names.{is_name}
 use Rattle.fd_spelling.specs.Numerals.{cut, ◌>>=◌}
 use Rattle.fd_spelling.proofs.AsciiLaws.{value_is_ascii}
 use Rattle.fd_spelling.proofs.PieceLaws.{cut_lengths}
 use Rattle.fd_spelling.proofs.Spelled.{spelled_again}
-use Rattle.fd_schema.specs.Grammar.{is_ascii, spelled}
+use Rattle.fd_schema.specs.Grammar.{is_ascii}
 use Rattle.fd_request.specs.Expansion.{Keyword}
 use Rattle.fd_request.specs.Grammar.{has_name}
 use Rattle.fd_request.specs.Keywords.{differ_after}

@@ -1,9 +1,8 @@
 -- The lengths of the bytes that an index's records stand for.
-use Rattle.std.proofs.Common.{◌≡◌, ◌≤◌, ◌+◌, ◌-◌, ℕ, Bool, true, false, true≢false, ◌&&◌, nat_le, leb-true, leb, cond, if◌then◌else◌, List, [], ◌∷◌, length, map, take, drop, Option, Some, None, Result, Ok, Err, refl, sym, ap, ◌∙◌, subst, arith, length-take, length-drop}
+use Rattle.std.proofs.Common.{◌≡◌, ◌≤◌, ◌+◌, ℕ, Bool, true, false, true≢false, ◌&&◌, leb-true, leb, cond, List, [], ◌∷◌, length, take, drop, Option, Some, None, Result, Ok, refl, sym, ap, ◌∙◌, subst, arith, length-take, length-drop}
 use Rattle.fd_entries.specs.declared.batch.Pair.{Pair}
-use Rattle.fd_entries.specs.declared.table.Entry.{Entry}
 use Rattle.fd_index.specs.Records.{Record}
-use Rattle.fd_segment.specs.Held.{Files, IsIndexOf, batch_by_records, batch_in, batch_of, batch_told, behind, digests_stand, end_by, pairs_of, pairs_within, records_in}
+use Rattle.fd_segment.specs.Held.{Files, IsIndexOf, batch_by_records, batch_of, batch_told, behind, digests_stand, end_by, pairs_of, pairs_within, records_in}
 use Rattle.fd_inventory.specs.Shown.{AreLengths}
 
 each : (more : ℕ) (fields : List ℕ) (n : ℕ) (rs : List Record) → n ≤ length fields → end_by more n rs ≡ true → AreLengths rs (pairs_of fields rs)

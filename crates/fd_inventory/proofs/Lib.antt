@@ -11,4 +11,5 @@ mod Newness
 mod Pieces
 mod Placing
 mod Printed
+mod Recording
 pub mod Upserting

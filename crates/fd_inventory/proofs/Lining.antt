@@ -1,6 +1,6 @@
 -- The lines of rows, one after the other.
-use Rattle.std.proofs.Common.{◌≡◌, ◌∙◌, ℕ, List, [], ◌∷◌, ◌++◌, Option, Some, None, refl, sym, ap, subst, map, append_assoc}
-use Rattle.fd_io.specs.Streams.{Takes, TakesFront}
+use Rattle.std.proofs.Common.{◌≡◌, ◌∙◌, ℕ, List, [], ◌∷◌, ◌++◌, Option, refl, sym, ap, subst, map, append_assoc}
+use Rattle.fd_io.specs.Streams.{Takes}
 use Rattle.fd_listing.specs.Sinks.{TakesAllBut}
 use Rattle.fd_listing.proofs.Taking.{all_taken, one_more}
 use Rattle.fd_entries.specs.declared.batch.Pair.{Pair}

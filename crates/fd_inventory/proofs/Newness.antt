@@ -1,7 +1,7 @@
 -- The newest bytes of a key whose row is new.
-use Rattle.std.proofs.Common.{◌≡◌, ◌∙◌, ℕ, ◌+◌, Bool, true, false, true≢false, not, ◌&&◌, ◌||◌, cond, List, [], ◌∷◌, ◌++◌, length, Option, Some, None, is_some, Ordering, Less, Equal, Greater, refl, sym, ap, subst, bytes_eq, arith}
+use Rattle.std.proofs.Common.{◌≡◌, ◌∙◌, ℕ, ◌+◌, Bool, true, false, true≢false, ◌&&◌, ◌||◌, cond, List, [], ◌∷◌, ◌++◌, length, Option, Some, None, Ordering, Less, Equal, Greater, refl, sym, ap, subst, bytes_eq, arith}
 use Rattle.std.specs.List.{list_any}
-use Rattle.std.specs.Ordering.{nat_cmp, ordering_then, is_lt, is_gt, is_eq}
+use Rattle.std.specs.Ordering.{nat_cmp, ordering_then, is_lt, is_gt}
 use Rattle.std.specs.Cmp.Lexicographic.{slice_cmp}
 use Rattle.std.proofs.lemmas.Map.Lookups.{exact_bytes}
 use Rattle.std.proofs.lemmas.Slice.Eq.{bytes_eq-Decides}
@@ -10,7 +10,7 @@ use Rattle.fd_entries.specs.Batches.{same_bytes, or_older, of_batch, newest, has
 use Rattle.fd_segment.proofs.Keys.{same_as_eq}
 use Rattle.fd_request.specs.Expansion.{Keyword}
 use Rattle.fd_inventory.specs.Shown.{IsNewestUnless, has_row}
-use Rattle.fd_outcome.specs.Rows.{Row, Stored, matches, newest_number, order, put, put_by, put_matching, row_of, row_order, rows_from, rows_of_batch, stored}
+use Rattle.fd_outcome.specs.Rows.{Row, Stored, matches, newest_number, put, put_by, put_matching, row_of, row_order, rows_from, rows_of_batch, stored}
 
 bytes_same : (a : List ℕ) → bytes_eq a a ≡ true
 bytes_same a = (bytes_eq-Decides a a).1 refl

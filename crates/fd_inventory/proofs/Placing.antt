@@ -1,7 +1,5 @@
 -- Rows in their order: one that is put among them, and one that is there.
-use Rattle.std.proofs.Common.{◌≡◌, ◌∙◌, ℕ, Bool, true, false, true≢false, ◌&&◌, ◌||◌, cond, List, [], ◌∷◌, ◌++◌, length, map, Option, Some, None, is_some, Ordering, Less, Equal, Greater, refl, sym, ap, subst, bytes_eq, string_bytes, inl, inr, ◌⊎◌}
-use Rattle.std.specs.Prelude.{String}
-use Rattle.std.specs.declared.alloc.Global.{Global}
+use Rattle.std.proofs.Common.{◌≡◌, ◌∙◌, ℕ, Bool, true, false, true≢false, ◌&&◌, ◌||◌, cond, List, [], ◌∷◌, map, Option, Some, None, is_some, Ordering, Less, Equal, Greater, refl, sym, ap, subst, bytes_eq, string_bytes}
 use Rattle.std.specs.List.{list_any}
 use Rattle.std.specs.List.Sorted.{IsStrictlySortedBy}
 use Rattle.std.specs.Ordering.{nat_cmp, is_eq, match_ordering, ordering_then}
@@ -12,11 +10,10 @@ use Rattle.std.specs.BTreeMap.{insert_entry, is_at}
 use Rattle.std.proofs.lemmas.Map.{lookup-none}
 use Rattle.std.proofs.lemmas.Map.Entries.{none_below_head}
 use Rattle.std.proofs.lemmas.Map.Keys.{sorted_tail}
-use Rattle.std.proofs.lemmas.Map.Lookups.{exact_bytes}
 use Rattle.std.proofs.lemmas.Map.Text.{is_eq-slice_cmp}
 use Rattle.fd_inventory.specs.declared.rows.Newest.{Newest}
 use Rattle.fd_inventory.specs.Shown.{AddsRow, AreRows, Kept, Shown, Texts, has_row, kept, shown, shown_order, texts_order}
-use Rattle.fd_outcome.specs.Rows.{Row, order, put, put_by, row_order}
+use Rattle.fd_outcome.specs.Rows.{Row, put, put_by, row_order}
 
 texts_total : IsTotalOrder texts_order
 texts_total = then_total (on_texts (λ (x : Texts). string_bytes x.0)) (on_texts (λ (x : Texts). string_bytes x.1))

@@ -1,8 +1,7 @@
 -- Texts as lines, one after the other.
-use Rattle.std.proofs.Common.{◌≡◌, ◌∙◌, ◌<◌, ◌≤◌, ℕ, List, [], ◌∷◌, ◌++◌, ◌+◌, Option, refl, sym, ap, subst, map, drop, length, get_or, string_bytes, append_assoc}
+use Rattle.std.proofs.Common.{◌≡◌, ◌∙◌, ℕ, List, [], ◌∷◌, ◌++◌, Option, refl, sym, ap, subst, string_bytes, append_assoc}
 use Rattle.std.specs.Prelude.{String}
 use Rattle.std.specs.declared.alloc.Global.{Global}
-use Rattle.std.proofs.lemmas.List.{at_drop_all, at_drop_more}
 use Rattle.fd_io.specs.Streams.{Takes}
 use Rattle.fd_listing.specs.Lines.{line}
 use Rattle.fd_listing.specs.Sinks.{TakesAllBut}

@@ -1,12 +1,12 @@
 -- What stands at texts: a change at one of them, as maps keep it and as lists in order show it.
-use Rattle.std.proofs.Common.{◌≡◌, ◌∙◌, ℕ, Bool, true, false, true≢false, ◌||◌, cond, List, [], ◌∷◌, length, map, Option, Some, None, Ordering, Less, Equal, Greater, refl, sym, ap, subst, bytes_eq, string_bytes, inl, inr, ◌⊎◌}
+use Rattle.std.proofs.Common.{◌≡◌, ◌∙◌, ℕ, Bool, true, false, true≢false, ◌||◌, cond, List, [], ◌∷◌, map, Some, Ordering, Less, Equal, Greater, refl, sym, ap, subst, bytes_eq, string_bytes, inl, inr}
 use Rattle.std.specs.Prelude.{String}
 use Rattle.std.specs.declared.alloc.Global.{Global}
 use Rattle.std.specs.List.{AllByRecursion}
 use Rattle.std.specs.List.Sorted.{IsStrictlySortedBy}
-use Rattle.std.specs.Ordering.{nat_cmp, is_eq, match_ordering, ordering_reverse}
+use Rattle.std.specs.Ordering.{is_eq, match_ordering, ordering_reverse}
 use Rattle.std.specs.Cmp.{IsTotalOrder}
-use Rattle.std.specs.Cmp.Lexicographic.{slice_cmp, on_texts}
+use Rattle.std.specs.Cmp.Lexicographic.{on_texts}
 use Rattle.std.specs.Map.{lookup, keys_of, remove_entry}
 use Rattle.std.specs.BTreeMap.{BTreeMap, insert_entry}
 use Rattle.std.proofs.lemmas.Cmp.{nat_list_cmp_total}

@@ -1,13 +1,12 @@
 -- The indexes of the segments of a snapshot, and what ends their reading.
-use Rattle.std.specs.Prelude.{◌≡◌, ℕ, List, map, Option, Some, Contains}
+use Rattle.std.specs.Prelude.{◌≡◌, List, map, Some, Contains}
 use Rattle.fd_entries.specs.declared.batch.Listing.{Listing}
 use Rattle.fd_entries.specs.declared.batch.Pair.{Pair}
-use Rattle.fd_index.specs.Records.{Record}
 use Rattle.fd_segment.specs.declared.fault.Damage.{Damage}
 use Rattle.fd_segment.specs.declared.fault.LensFault.{LensFault}
 use Rattle.fd_segment.specs.declared.fault.LensFault.TheVariants as lenses
 use Rattle.fd_segment.specs.Causes.{IsBadIndex}
-use Rattle.fd_segment.specs.Held.{Files, IsIndexOf, Standing}
+use Rattle.fd_segment.specs.Held.{Standing}
 use Rattle.fd_inventory.specs.declared.fault.LinesFault.{LinesFault}
 use Rattle.fd_inventory.specs.declared.fault.LinesFault.TheVariants as lines
 

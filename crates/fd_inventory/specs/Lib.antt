@@ -5,3 +5,4 @@ pub mod Written
 pub mod Counted
 pub mod Axes
 pub mod Found
+pub mod Recorded

@@ -1,5 +1,5 @@
 -- Rows as they are kept, in the order of their texts.
-use Rattle.std.specs.Prelude.{◌≡◌, ◌+◌, ◌&&◌, ℕ, Bool, false, List, [], ◌∷◌, ◌++◌, length, map, string_bytes, Option, Some, None, if◌then◌else◌}
+use Rattle.std.specs.Prelude.{◌≡◌, ◌&&◌, ℕ, Bool, false, List, length, map, string_bytes, Some}
 use Rattle.std.specs.List.{AllZip, list_any}
 use Rattle.std.specs.Str.{bytes_eq}
 use Rattle.std.specs.Prelude.{String}
@@ -12,7 +12,6 @@ use Rattle.std.specs.Map.{keys_of}
 use Rattle.fd_entries.specs.declared.batch.Pair.{Pair}
 use Rattle.fd_entries.specs.Batches.{newest}
 use Rattle.fd_index.specs.Records.{Record}
-use Rattle.fd_request.specs.Expansion.{Keyword}
 use Rattle.fd_inventory.specs.declared.rows.Newest.{Newest}
 use Rattle.fd_outcome.specs.Rows.{Row, Stored, newest_number, order, put, row_order}
 

@@ -9,6 +9,7 @@ ghost use Rattle.fd_io.specs.Streams.{Takes, TakesFront};
 ghost use Rattle.fd_listing.specs.Sinks.{HasSinkCause};
 ghost use Rattle.fd_inventory.specs.Axes.{AddsIndex, AreAxes, HaveData, at_text, axes_lines, axis_line, entries_or_none, names_lines, put_pair, put_pairs, seen_axes, seen_names, seen_values, text_order};
 ghost use Rattle.fd_inventory.specs.Indexes.{IsAmongBad, OnLines, Tells};
+ghost use Rattle.fd_inventory.specs.Recorded.{TakesBy};
 ghost use Rattle.fd_inventory.specs.Shown.{AreRows};
 ghost use Rattle.fd_inventory.specs.Written.{HasLinesCause};
 ghost use Rattle.fd_outcome.specs.Rows.{Row, axes_text, order, put, values_text, with_text};
@@ -233,6 +234,7 @@ pub fn axes<F: Send, Z: Sealed<F>, X, K: Sink<X>>(
 where
     requires short { length dataset.now ≤ 255 }
     ensures took { OnOk result ((t : List (List Pair)) → Tells (map listing snapshot.now) t → Takes (K.taken sink.old) (K.taken sink.new) (axes_text partial.now dataset.now t)) }
+    ensures recorded { OnOk result (TakesBy (axes_text partial.now dataset.now) snapshot.now (K.taken sink.old) (K.taken sink.new)) }
     ensures front { OnErr result ((t : List (List Pair)) → Tells (map listing snapshot.now) t → TakesFront (K.taken sink.old) (K.taken sink.new) (axes_text partial.now dataset.now t)) }
     ensures damaged { IfErr result (λ e. OnLines e (IsAmongBad snapshot.now)) }
     ensures cause { HasLinesCause result (K.faults sink.old) (K.faults sink.new) }

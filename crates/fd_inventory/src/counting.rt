@@ -7,6 +7,7 @@ ghost use Rattle.fd_io.specs.Streams.{Takes, TakesFront};
 ghost use Rattle.fd_segment.specs.Causes.{OnDamaged};
 ghost use Rattle.fd_inventory.specs.Counted.{AreKeys, Kept, stats_line};
 ghost use Rattle.fd_inventory.specs.Indexes.{IsAmongBad, OnLines, Tells};
+ghost use Rattle.fd_inventory.specs.Recorded.{ByRecords, TakesBy};
 ghost use Rattle.fd_inventory.specs.Shown.{AreLengths};
 ghost use Rattle.fd_inventory.specs.Written.{HasLinesCause};
 ghost use Rattle.fd_outcome.specs.Rows.{keys_in, put_keys, stats_text, sum_bytes, sum_fields};
@@ -45,7 +46,7 @@ fn keys_of<F: Send, Z: Sealed<F>>(
     snapshot: &Snapshot<F, Z>,
 ) -> Result<Keys, LensFault<F>>
 where
-    ensures keys { IfOk result (λ m. (t : List (List Pair)) → Tells (map listing snapshot.now) t → AreKeys m.entries (keys_in t)) }
+    ensures keys { IfOk result (λ m. ByRecords snapshot.now (λ t. AreKeys m.entries (keys_in t))) }
     ensures damaged { IfErr result (λ e. OnDamaged e (IsAmongBad snapshot.now)) }
 {
     let mut keys = BTreeMap::new(alloc);
@@ -138,6 +139,7 @@ pub fn stats<F: Send, Z: Sealed<F>, X, K: Sink<X>>(
 ) -> Result<(), LinesFault<F, X>>
 where
     ensures took { OnOk result ((t : List (List Pair)) → Tells (map listing snapshot.now) t → Takes (K.taken sink.old) (K.taken sink.new) (stats_text dataset.now (map (λ s. s.files.entry) snapshot.now) t)) }
+    ensures recorded { OnOk result (TakesBy (stats_text dataset.now (map (λ s. s.files.entry) snapshot.now)) snapshot.now (K.taken sink.old) (K.taken sink.new)) }
     ensures front { OnErr result ((t : List (List Pair)) → Tells (map listing snapshot.now) t → TakesFront (K.taken sink.old) (K.taken sink.new) (stats_text dataset.now (map (λ s. s.files.entry) snapshot.now) t)) }
     ensures damaged { IfErr result (λ e. OnLines e (IsAmongBad snapshot.now)) }
     ensures cause { HasLinesCause result (K.faults sink.old) (K.faults sink.new) }

@@ -5,6 +5,7 @@ ghost use Rattle.fd_dataset.specs.Listed.{listing};
 ghost use Rattle.fd_io.specs.Streams.{Takes, TakesFront};
 ghost use Rattle.fd_listing.specs.Sinks.{HasSinkCause, TakesAllBut};
 ghost use Rattle.fd_inventory.specs.Indexes.{IsAmongBad, OnLines, Tells};
+ghost use Rattle.fd_inventory.specs.Recorded.{TakesBy};
 ghost use Rattle.fd_inventory.specs.Shown.{kept};
 ghost use Rattle.fd_inventory.specs.Written.{HasLinesCause, shown_line, shown_lines};
 ghost use Rattle.fd_outcome.specs.Rows.{list_text};
@@ -120,6 +121,7 @@ pub fn list<F: Send, Z: Sealed<F>, X, K: Sink<X>>(
 where
     requires short { length dataset.now ≤ 255 }
     ensures took { OnOk result ((t : List (List Pair)) → Tells (map listing snapshot.now) t → Takes (K.taken sink.old) (K.taken sink.new) (list_text partial.now dataset.now t)) }
+    ensures recorded { OnOk result (TakesBy (list_text partial.now dataset.now) snapshot.now (K.taken sink.old) (K.taken sink.new)) }
     ensures front { OnErr result ((t : List (List Pair)) → Tells (map listing snapshot.now) t → TakesFront (K.taken sink.old) (K.taken sink.new) (list_text partial.now dataset.now t)) }
     ensures damaged { IfErr result (λ e. OnLines e (IsAmongBad snapshot.now)) }
     ensures cause { HasLinesCause result (K.faults sink.old) (K.faults sink.new) }

@@ -1,11 +1,11 @@
 // The rows of a dataset: for each of its keys that are asked for, where its newest field stands.
 ghost use Rattle.std.specs.Prelude.{◌≡◌, ◌≤◌, ◌+◌, ◌++◌, ◌∷◌, ◌-◌, [], true, List, ℕ, Some, IfOk, IfErr, OnOk, length, map};
 ghost use Rattle.fd_entries.specs.declared.batch.Pair.{Pair};
-ghost use Rattle.fd_dataset.specs.Listed.{listing};
 ghost use Rattle.fd_segment.specs.Causes.{IsBadIndex, OnDamaged};
 ghost use Rattle.fd_segment.specs.Held.{IsIndexOf};
 ghost use Rattle.fd_inventory.specs.Shown.{AddsRow, AreLengths, AreRows, IsNewestUnless};
-ghost use Rattle.fd_inventory.specs.Indexes.{IsAmongBad, Tells};
+ghost use Rattle.fd_inventory.specs.Indexes.{IsAmongBad};
+ghost use Rattle.fd_inventory.specs.Recorded.{ByRecords};
 ghost use Rattle.fd_outcome.specs.Rows.{Row, Stored, matches, put_matching, rows, rows_from, stored};
 
 use crate::stored_key::{StoredKey, stored_key};
@@ -113,7 +113,7 @@ pub(crate) fn rows_of<F: Send, Z: Sealed<F>>(
 ) -> Result<Rows, LensFault<F>>
 where
     requires { length dataset.now ≤ 255 }
-    ensures rows { IfOk result (λ m. (t : List (List Pair)) → Tells (map listing snapshot.now) t → AreRows m.entries (rows dataset.now partial.now t)) }
+    ensures rows { IfOk result (λ m. ByRecords snapshot.now (λ t. AreRows m.entries (rows dataset.now partial.now t))) }
     ensures damaged { IfErr result (λ e. OnDamaged e (IsAmongBad snapshot.now)) }
 {
     let mut rows = BTreeMap::new(alloc);

@@ -3,3 +3,4 @@ pub mod Laying
 pub mod NearestLemmas
 pub mod PreparingLemmas
 pub mod Over
+pub mod Noticing

@@ -18,6 +18,7 @@ use Rattle.fd_outcome.specs.Layered.{Laid, all_places, laid_answers, places_unde
 use Rattle.fd_retrieve.specs.Located.{AreAt, IsAt, IsLocated}
 use Rattle.fd_retrieve.specs.Open.{Open, table_in}
 use Rattle.fd_retrieve.proofs.LocatingLemmas.{bytes_at}
+use Rattle.fd_retrieve.proofs.Noticing.{zip_of}
 use Rattle.fd_layered.specs.Chains.{AreChains, IsChain, first_some, firsts, laid_by}
 use Rattle.fd_layered.specs.Finding.{AreNearest}
 
@@ -26,17 +27,10 @@ some_is x y e = cc
 
 -- ---- lists
 
-zip_parts : {A B : Type 0} (R : A → B → Type 0) (xs ys : List A) (zs : List B) → AllZip R (xs ++ ys) zs → AllZip R xs (take (length xs) zs) × AllZip R ys (drop (length xs) zs)
+pub zip_parts : {A B : Type 0} (R : A → B → Type 0) (xs ys : List A) (zs : List B) → AllZip R (xs ++ ys) zs → AllZip R xs (take (length xs) zs) × AllZip R ys (drop (length xs) zs)
 zip_parts R [] ys zs h = (tt, h)
 zip_parts R (x ∷ xs) ys [] h = absurd h
 zip_parts R (x ∷ xs) ys (z ∷ zs) h = let later = zip_parts R xs ys zs h.1 in ((h.0, later.0), later.1)
-
--- what is located, place by place
-zip_of : (os : List Open) (ps : List Place) (ls : List (Option Located)) → length ls ≡ length ps → ((k : ℕ) (p : Place) (d : Option Located) → k < length ps → IsLocated os (seen_place (get_or ps k p)) (get_or ls k d)) → AllZip (IsLocated os) (map seen_place ps) ls
-zip_of os [] [] long each = tt
-zip_of os [] (l ∷ ls) long each = absurd (omega (arith, long))
-zip_of os (p ∷ ps) [] long each = absurd (omega (arith, long))
-zip_of os (p ∷ ps) (l ∷ ls) long each = (each 0 p l (omega arith), zip_of os ps ls (omega (arith, long)) (λ k q d lt. each (suc k) q d (omega (arith, lt))))
 
 all_of : (P : Option Located → Type 0) (ls : List (Option Located)) → ((k : ℕ) (d : Option Located) → k < length ls → P (get_or ls k d)) → All P ls
 all_of P [] each = All-nil P
@@ -131,7 +125,7 @@ firsts_in P n (suc m) os all = All-cons (λ o. IfSome o P) (first_some (take n o
 -- ---- one key
 
 module _ (os : List Open) (fk : List ℕ) where
-  chain_at : (ps : List Texts) (ls : List (Option Located)) (ts : List (List (List batches.Pair))) → All (λ p. file_key p ≡ fk) ps → AllZip (IsLocated os) ps ls → tables_at (table_in os) ps ≡ Some ts → IsAt os (newest (laid ts) fk) (first_some ls)
+  pub chain_at : (ps : List Texts) (ls : List (Option Located)) (ts : List (List (List batches.Pair))) → All (λ p. file_key p ≡ fk) ps → AllZip (IsLocated os) ps ls → tables_at (table_in os) ps ≡ Some ts → IsAt os (newest (laid ts) fk) (first_some ls)
   chain_at [] [] ts same there told = subst (λ (x : List (List (List batches.Pair))). newest (laid x) fk ≡ None) (some_is [] ts told) refl
   chain_at [] (l ∷ ls) ts same there told = absurd there
   chain_at (p ∷ ps) [] ts same there told = absurd there

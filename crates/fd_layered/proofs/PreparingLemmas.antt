@@ -22,10 +22,10 @@ use Rattle.fd_telling.specs.declared.stop.Stop.{Stop}
 use Rattle.fd_telling.specs.Stops.{IsOfPlaces, IsOfRequest, IsRefused, NotRefused, OnRequest, OnTooMany, Says}
 use Rattle.fd_telling.proofs.StopLemmas.{many_says, places_stop, request_stop, says_of}
 use Rattle.fd_retrieve.specs.Open.{Open, table_in}
-use Rattle.fd_retrieve.specs.Ready.{AreOpen, IsBrokenOf}
+use Rattle.fd_retrieve.specs.Ready.{AreOpen, IsBrokenOf, NoneIsDamaged}
 use Rattle.fd_retrieve.specs.Tables.{AreTables, datasets_in}
-use Rattle.fd_retrieve.proofs.PrepareLemmas.{broken_says, opens_in}
-use Rattle.fd_retrieve.proofs.ReadyLemmas.{contains_among, named_among, table_is}
+use Rattle.fd_retrieve.proofs.PrepareLemmas.{broken_says, none_before, opens_in}
+use Rattle.fd_retrieve.proofs.ReadyLemmas.{contains_among, named_among, none_damaged, table_is}
 use Rattle.fd_layered.specs.Chains.{AreChains}
 use Rattle.fd_layered.specs.Ready.{IsReady, laid_in, laid_with}
 
@@ -88,10 +88,10 @@ request_told stop (Some h) (Some octets) layers s = says_of stop h (IsRefused (l
 
 -- ---- the tables of the datasets
 
-among_left : (xs ys : List (List ℕ)) (d : List ℕ) → is_among xs d ≡ true → is_among (xs ++ ys) d ≡ true
+pub among_left : (xs ys : List (List ℕ)) (d : List ℕ) → is_among xs d ≡ true → is_among (xs ++ ys) d ≡ true
 among_left xs ys d is = list_any-append (λ n. bytes_eq d n) xs ys ∙ ap (λ b. b || is_among ys d) is
 
-among_right : (xs ys : List (List ℕ)) (d : List ℕ) → is_among ys d ≡ true → is_among (xs ++ ys) d ≡ true
+pub among_right : (xs ys : List (List ℕ)) (d : List ℕ) → is_among ys d ≡ true → is_among (xs ++ ys) d ≡ true
 among_right xs ys d is = list_any-append (λ n. bytes_eq d n) xs ys ∙ or_true (is_among xs d) (is_among ys d) is
   where
     or_true : (a b : Bool) → b ≡ true → (a || b) ≡ true
@@ -101,11 +101,11 @@ among_right xs ys d is = list_any-append (λ n. bytes_eq d n) xs ys ∙ or_true 
 abbrev pub sets : List Texts → List (List ℕ)
 sets ps = map (λ p. p.dataset) ps
 
-sets_append : (ps qs : List Texts) → sets (ps ++ qs) ≡ sets ps ++ sets qs
+pub sets_append : (ps qs : List Texts) → sets (ps ++ qs) ≡ sets ps ++ sets qs
 sets_append [] qs = refl
 sets_append (p ∷ ps) qs = ap (λ l. p.dataset ∷ l) (sets_append ps qs)
 
-same_tables : (t u : Tables) (ps : List Texts) → ((d : List ℕ) → is_among (sets ps) d ≡ true → t d ≡ u d) → tables_at t ps ≡ tables_at u ps
+pub same_tables : (t u : Tables) (ps : List Texts) → ((d : List ℕ) → is_among (sets ps) d ≡ true → t d ≡ u d) → tables_at t ps ≡ tables_at u ps
 same_tables t u [] same = refl
 same_tables t u (p ∷ ps) same =
     let here : t p.dataset ≡ u p.dataset = same p.dataset (ap (λ b. b || is_among (sets ps) p.dataset) ((bytes_eq-Decides p.dataset p.dataset).1 refl)) in
@@ -154,12 +154,14 @@ module _ (h : Holdings) (layers : List (List Pair)) (octets : List ℕ) (ks : Li
     among_so : (name : List ℕ) → is_among names name ≡ true → AmongLaid (laid_of h layers octets) name
     among_so name there = subst (λ r. AmongLaid r name) (sym asked_so) (subst (λ ds. Contains ds name) (sym datasets_are) (contains_among (datasets_in ps) name (named_among h (datasets_in ps) names name tables there)))
 
-    ready_of : (os : List Open) → AreOpen h names os → IsReady h layers octets ks ps os
-    ready_of os opens = record {
+    ready_of : (os : List Open) → AreOpen h names os → NoneIsDamaged h names → IsReady h layers octets ks ps os
+    ready_of os opens sound = record {
       asked = asked_so;
       answered = same_answers (table_in os) (table_at h) asked (λ d among. table_is h (datasets_in ps) names os d tables opens (sym (ap (λ l. is_among l d) datasets_are) ∙ among));
       each = opens.each;
       among = λ n there. named_among h (datasets_in ps) names n tables (opens.from n there);
+      tables = λ d among. table_is h (datasets_in ps) names os d tables opens among;
+      undamaged = none_damaged h (datasets_in ps) names tables sound;
     }
 
 pub many_told_says : {F : Type 0} (stop : Stop F) (has : Option Holdings) (left : Option (List ℕ)) (layers : List (List Pair)) (ks : List Keyword) (ps : List Place) → AreChains (length layers) (expand ks) (map seen_place ps) → IfSome has (λ h. IfSome left (λ octets. laid_in h layers octets ≡ Ok (laid_with layers ks ps)))
@@ -177,9 +179,9 @@ broken_told_says stop (Some h) (Some octets) layers ks ps names chains is tables
     broken_says stop h names (IsRefused (laid_of h layers octets)) (AmongLaid (laid_of h layers octets)) (among_so h layers octets ks ps chains is names tables few) b
 
 pub ready_told : (has mid : Option Holdings) (left : Option (List ℕ)) (layers : List (List Pair)) (ks : List Keyword) (ps : List Place) (names : List (List ℕ)) (os : List Open) → AreChains (length layers) (expand ks) (map seen_place ps)
-    → IfSome has (λ h. IfSome left (λ octets. laid_in h layers octets ≡ Ok (laid_with layers ks ps))) → IfSome has (λ h. AreTables h (datasets_in ps) names) → length names ≤ 2048 → WhereTold has mid Stays → IfSome mid (λ h. AreOpen h names os)
+    → IfSome has (λ h. IfSome left (λ octets. laid_in h layers octets ≡ Ok (laid_with layers ks ps))) → IfSome has (λ h. AreTables h (datasets_in ps) names) → length names ≤ 2048 → WhereTold has mid Stays → IfSome mid (λ h. AreOpen h names os) → IfSome mid (λ h. NoneIsDamaged h names)
     → IfSome has (λ h. IfSome left (λ octets. IsReady h layers octets ks ps os))
-ready_told None mid left layers ks ps names os chains is tables few stays opens = tt
-ready_told (Some h) mid None layers ks ps names os chains is tables few stays opens = tt
-ready_told (Some h) None (Some octets) layers ks ps names os chains is tables few stays opens = absurd stays
-ready_told (Some h) (Some i) (Some octets) layers ks ps names os chains is tables few stays opens = ready_of h layers octets ks ps chains is names tables few os (opens_in h i names os stays opens)
+ready_told None mid left layers ks ps names os chains is tables few stays opens sound = tt
+ready_told (Some h) mid None layers ks ps names os chains is tables few stays opens sound = tt
+ready_told (Some h) None (Some octets) layers ks ps names os chains is tables few stays opens sound = absurd stays
+ready_told (Some h) (Some i) (Some octets) layers ks ps names os chains is tables few stays opens sound = ready_of h layers octets ks ps chains is names tables few os (opens_in h i names os stays opens) (none_before h i names stays sound)

@@ -18,7 +18,7 @@ use Rattle.fd_entries.specs.Table.{listed}
 use Rattle.fd_segment.specs.Held.{Standing, batch_of}
 use Rattle.fd_turn.specs.Passes.{BoardId}
 use Rattle.fd_turn.specs.Views.{first_view}
-use Rattle.fd_dataset.specs.Listed.{listing_of, listings}
+use Rattle.fd_dataset.specs.Listed.{entries_of, listing_of, listings}
 use Rattle.fd_segment.specs.Shared.{entries, entry_of, standings}
 use Rattle.fd_recovery.specs.Recovered.{ReadsIndex, TableFailed, all_of, batches_listed, held, held_by}
 use Rattle.fd_recovery.specs.declared.fault.OpenFault.{OpenFault}
@@ -28,7 +28,7 @@ use Rattle.fd_library.specs.Answers.{FolderFailed, HoldsAs, TableBroke, TableBro
 use Rattle.fd_library.specs.Calls.{Leaves, Opens}
 use Rattle.fd_library.specs.Open.{OpenDataset, OpenDatasets, Seated}
 use Rattle.fd_library.proofs.Named.{at_end}
-use Rattle.fd_library.specs.Stores.{KeepsTable, LooksInto, held_by_pass, held_in, held_of, held_with}
+use Rattle.fd_library.specs.Stores.{KeepsTable, ListsIn, LooksInto, held_by_pass, held_in, held_of, held_with}
 
 module _ {A : Type 0} where
   pub listed_entries : (xs : List (Arc Standing A)) → map (λ (l : Listing). l.entry) (listings xs) ≡ entries xs
@@ -73,14 +73,19 @@ module _ {A : Type 0} where
   -- by both it holds what the store held
   pub holds_as : {D : Type 0} (has : D → Option Contents) (h : OpenDataset D) (store : Option Holdings) (has0 : Option Contents) (name : List ℕ) (xs : List (Arc Standing A)) (es : List Entry) (b : BoardId) (tells : Bool) → h.name ≡ name
       → h.pass ≡ Some (record { board = b; view = first_view name tells (listings xs) }) → has0 ≡ option_map (λ s. folder_at s name) store → has h.folder ≡ option_map without_table has0 → entries xs ≡ es
-      → IfSome has0 (λ v. batches_listed v.files (Ok es) ≡ held name v) → IfSome has0 (λ v. all_of (map (λ s. batch_of s.files) (standings xs)) ≡ held name v) → IfSome store (λ s. HoldsAs has s h)
-  holds_as has h None has0 name xs es b tells text pass first later is files told = tt
-  holds_as has h (Some s) has0 name xs es b tells text pass first later is files told =
+      → IfSome has0 (λ v. batches_listed v.files (Ok es) ≡ held name v) → IfSome has0 (λ v. all_of (map (λ s. batch_of s.files) (standings xs)) ≡ held name v) → IfSome has0 (λ v. ListsIn name es v.table) → IfSome store (λ s. HoldsAs has s h)
+  holds_as has h None has0 name xs es b tells text pass first later is files told lists = tt
+  holds_as has h (Some s) has0 name xs es b tells text pass first later is files told lists =
+      let v = folder_at s name in
       let by_files = holds_files (Some s) has0 (has h.folder) name xs es b tells first later is files in
       let by_listings = holds_listings (Some s) has0 name xs first told in
       record {
         files = ap (held_by_pass (has h.folder)) pass ∙ (by_files ∙ sym (ap (held_of s) text));
         listings = subst (λ (o : Option Seated). IfSome o (λ p. all_of (map (λ (l : Listing). l.batch) p.view.history) ≡ held_of s h.name)) (sym pass) (by_listings ∙ sym (ap (held_of s) text));
+        lists = subst (λ (o : Option Seated). IfSome o (λ p. ListsIn h.name (entries_of p.view.history) (folder_at s h.name).table)) (sym pass)
+            (subst (λ (n : List ℕ). ListsIn n (entries_of (listings xs)) (folder_at s n).table) (sym text)
+            (subst (λ (l : List Entry). ListsIn name l v.table) (sym (listed_entries xs ∙ is)) (subst (λ (o : Option Contents). IfSome o (λ w. ListsIn name es w.table)) first lists)));
+        same = subst (λ (o : Option Contents). IfSome o (λ w. w.files ≡ (folder_at s h.name).files)) (sym (later ∙ ap (option_map without_table) first)) (ap (λ (n : List ℕ). (folder_at s n).files) (sym text));
       }
 
 -- a folder that was looked into is back

@@ -4,12 +4,14 @@ use mathlib.Core.List.{map-append}
 use Rattle.std.specs.Str.{bytes_eq}
 use Rattle.std.proofs.lemmas.List.{length-set, length_push}
 use Rattle.std.proofs.lemmas.Slice.Eq.{bytes_eq-Decides}
+use Rattle.std.specs.Prelude.{max}
 use Rattle.std.proofs.Math.Seq.{take-suc}
 use Rattle.fd_disk.proofs.NameLemmas.{is_or_not}
 use Rattle.fd_turn.specs.Passes.{BoardId}
 use Rattle.std.proofs.lemmas.List.Elements.{All-more, All-weaker}
 use Rattle.fd_entries.specs.declared.table.Entry.{Entry}
 use Rattle.fd_entries.specs.Table.{AllFit, greatest_writer}
+use Rattle.fd_library.specs.Answers.{greatest_listed}
 use Rattle.fd_library.specs.Open.{OpenDataset, OutAre, Seated, among, names_of, AreDistinct, AreSeated}
 
 pub among_push : (n : List ℕ) (ms : List (List ℕ)) (m : List ℕ) → among n ms ≡ false → bytes_eq n m ≡ false → among n (ms ++ m ∷ []) ≡ false
@@ -47,6 +49,17 @@ distinct_front (m ∷ ms) n rest d = distinct_front ms n rest d.1
 pub greatest_more : (es : List Entry) (i n m : ℕ) (d : Entry) → i < length es → All (λ (e : Entry). e.writer ≤ n) (take i es) → n ≤ m → (get_or es i d).writer ≤ m → All (λ (e : Entry). e.writer ≤ m) (take (i + 1) es)
 greatest_more es i n m d within all grows one =
     All-more (λ (e : Entry). e.writer ≤ m) es i d within (All-weaker (λ (e : Entry). e.writer ≤ n) (λ (e : Entry). e.writer ≤ m) (λ e le. omega (arith, le, grows)) (take i es) all) one
+
+-- the greatest of one entry more
+greatest_append : (es : List Entry) (e : Entry) → greatest_listed (es ++ e ∷ []) ≡ max (greatest_listed es) e.writer
+greatest_append [] e = omega arith
+greatest_append (x ∷ es) e = let rest = greatest_append es e in omega (arith, rest)
+
+pub greatest_next : (es : List Entry) (i n m : ℕ) (d : Entry) → i < length es → n ≡ greatest_listed (take i es) → n ≤ m → (get_or es i d).writer ≤ m → (m ≡ n) ⊎ (m ≡ (get_or es i d).writer) → m ≡ greatest_listed (take (i + 1) es)
+greatest_next es i n m d within is grows one either =
+    let up : suc i ≡ i + 1 = omega arith in
+    let more = ap greatest_listed (sym (ap (λ (k : ℕ). take k es) up) ∙ take-suc es i d within) ∙ greatest_append (take i es) (get_or es i d) in
+    elim either as (λ _. m ≡ greatest_listed (take (i + 1) es)) [ inl same ↦ omega (arith, more, is, one, same) | inr same ↦ omega (arith, more, is, grows, same) ]
 
 -- each entry's writer has its bound
 fit_at : (j : ℕ) (es : List Entry) (i : ℕ) (d : Entry) → AllFit j es → i < length es → (get_or es i d).writer ≤ greatest_writer (j + i)

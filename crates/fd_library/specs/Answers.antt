@@ -1,16 +1,18 @@
 -- What the answers of an opening tell.
-use Rattle.std.specs.Prelude.{◌≡◌, ◌⊎◌, ◌<◌, ◌≤◌, ℕ, Bool, true, List, All, map, length, Option, Some, None, IfSome, Result, Ok, Err, is_some}
+use Rattle.std.specs.Prelude.{◌≡◌, ◌⊎◌, ◌<◌, ◌≤◌, ℕ, Bool, true, List, [], ◌∷◌, All, map, max, length, Option, Some, None, IfSome, Result, Ok, Err, is_some}
 use Rattle.fd_bytes.specs.Causes.{Rose}
 use Rattle.fd_disk.specs.Folders.{Contents, Holdings, folder_at}
 use Rattle.fd_recovery.specs.declared.fault.OpenFault.{OpenFault}
 use Rattle.fd_recovery.specs.declared.fault.OpenFault.TheVariants as whole
 use Rattle.fd_disk.specs.declared.file.File.{File}
 use Rattle.fd_entries.specs.declared.batch.Listing.{Listing}
+use Rattle.fd_entries.specs.declared.table.Entry.{Entry}
+use Rattle.fd_dataset.specs.Listed.{entries_of}
 use Rattle.fd_recovery.specs.Recovered.{ReadsIndex, TableFailed, all_of}
 use Rattle.fd_turn.specs.Passes.{BoardId}
 use Rattle.fd_turn.specs.Views.{first_view}
 use Rattle.fd_library.specs.Open.{OpenDataset}
-use Rattle.fd_library.specs.Stores.{held_in, held_of}
+use Rattle.fd_library.specs.Stores.{ListsIn, held_in, held_of}
 
 -- `TooMany` comes exactly where as many are open as may be, the name is new, and a dataset of it would be opened; and
 -- then it comes before the dataset is read
@@ -43,6 +45,11 @@ TableBroke file faults new name = ((old : Option Contents) × TableFailed file f
 abbrev pub TableBrokeIn : {T : Type 0} → (T → Option File) → (T → ℕ) → Option Holdings → List ℕ → Type 0
 TableBrokeIn file faults new name = (has : Option Contents) × IfSome new (λ t. has ≡ Some (folder_at t name)) × TableBroke file faults has name
 
+-- the greatest writer of entries, or 0
+abbrev pub greatest_listed : List Entry → ℕ
+greatest_listed [] = 0
+greatest_listed (e ∷ es) = max e.writer (greatest_listed es)
+
 -- a dataset that was opened just now, on this board
 pub record IsOpened {D : Type 0} (name : List ℕ) (b : BoardId) (h : OpenDataset D) : Type 0 where
   pub history : List Listing
@@ -52,8 +59,12 @@ pub record IsOpened {D : Type 0} (name : List ℕ) (b : BoardId) (h : OpenDatase
   pub opening : h.opening ≡ length history
   pub asked : (h.given ≡ 0) × (h.lent ≡ 0)
   pub writers : All (λ l. l.entry.writer ≤ h.last) history
+  pub last : h.last ≡ greatest_listed (map (λ l. l.entry) history)
 
--- It holds what the store held, as its files say, and as its listings say.
+-- It holds what the store held, as its files say, and as its listings say. It lists what the table of the store's folder listed,
+-- and its folder has the files that this one had.
 pub record HoldsAs {D : Type 0} (has : D → Option Contents) (s : Holdings) (h : OpenDataset D) : Type 0 where
   pub files : held_in has h ≡ held_of s h.name
   pub listings : IfSome h.pass (λ p. all_of (map (λ l. l.batch) p.view.history) ≡ held_of s h.name)
+  pub lists : IfSome h.pass (λ p. ListsIn h.name (entries_of p.view.history) (folder_at s h.name).table)
+  pub same : IfSome (has h.folder) (λ v. v.files ≡ (folder_at s h.name).files)

@@ -7,7 +7,7 @@ ghost use Rattle.fd_entries.specs.Table.{listed};
 ghost use Rattle.fd_turn.specs.Passes.{IsOf};
 ghost use Rattle.fd_recovery.specs.Causes.{OnDamaged, OnDisk, OnNotATable};
 ghost use Rattle.fd_recovery.specs.Damages.{IsFirst, damages};
-ghost use Rattle.fd_recovery.specs.Recovered.{WithTable};
+ghost use Rattle.fd_recovery.specs.Recovered.{IsUndamaged, WithTable};
 ghost use Rattle.fd_library.specs.Answers.{FolderFailed, HoldsAs, IsOpened, IsWanted, TableBrokeIn, TooManyAt};
 ghost use Rattle.fd_library.specs.Calls.{Adds, AsksWriter, Changes, IsNewWriter, Leaves, Opens, ShelfFailed, TakesWriter};
 ghost use Rattle.fd_library.specs.Open.{IsWhole, OpenDataset, OutAre, among, names_of, seat_of};
@@ -56,6 +56,8 @@ impl<F: Send, S: Store<F>> Library<F, S> {
     /// The number of the dataset with this text, which is opened by the first call; where it has no table, one is made
     /// first, if that is asked for, and else the answer is `None`. A dataset that is made has a text of at most 255 bytes.
     ///
+    /// A dataset that was opened has no damage of its table and of the files that this lists.
+    ///
     /// `NotATable` and `Damaged` are those of `recover`. `TooMany` comes exactly where 2,048 datasets are open, this one
     /// isn't, and it would be opened. `Disk` comes only where a count of faults rose: that of the store, of the folder,
     /// or of its table. Where nothing was opened, the store has the folder back: its table is as it was, or synced, or
@@ -75,6 +77,7 @@ impl<F: Send, S: Store<F>> Library<F, S> {
         ensures left { among name.now (names_of self.old.each) ≡ false → IfOk result (λ o. o ≡ None → Leaves name.now self.old self.new (S.has store.old) (S.has store.new)) }
         ensures left_err { OnErr result (Leaves name.now self.old self.new (S.has store.old) (S.has store.new)) }
         ensures none { among name.now (names_of self.old.each) ≡ false → IfOk result (λ o. IfSome (S.has store.old) (λ s. is_some o ≡ (is_some (folder_at s name.now).table || make))) }
+        ensures undamaged { among name.now (names_of self.old.each) ≡ false → IfOk result (λ o. IfSome o (λ n. IfSome (S.has store.old) (λ s. IsUndamaged name.now (folder_at s name.now)))) }
         ensures unmade { IfOk result (λ o. o ≡ None → make ≡ false) }
         ensures not_a_table { IfErr result (λ e. OnNotATable e (λ fault. IfSome (S.has store.old) (λ s. WithTable (folder_at s name.now).table (λ f. listed name.now f.reads ≡ Err fault)))) }
         ensures damaged { IfErr result (λ e. OnDamaged e (λ d. IfSome (S.has store.old) (λ s. WithTable (folder_at s name.now).table (λ f. (es : List Entry) × (listed name.now f.reads ≡ Ok es) × IsFirst d (damages (folder_at s name.now).files es))))) }
@@ -134,6 +137,7 @@ impl<F: Send, S: Store<F>> Library<F, S> {
         ensures left { IfOk result (λ o. o ≡ None → Leaves name.now self.old self.new (S.has store.old) (S.has store.new)) }
         ensures left_err { OnErr result (Leaves name.now self.old self.new (S.has store.old) (S.has store.new)) }
         ensures none { IfOk result (λ o. IfSome (S.has store.old) (λ s. is_some o ≡ (is_some (folder_at s name.now).table || make))) }
+        ensures undamaged { IfOk result (λ o. IfSome o (λ n. IfSome (S.has store.old) (λ s. IsUndamaged name.now (folder_at s name.now)))) }
         ensures unmade { IfOk result (λ o. o ≡ None → make ≡ false) }
         ensures not_a_table { IfErr result (λ e. OnNotATable e (λ fault. IfSome (S.has store.old) (λ s. WithTable (folder_at s name.now).table (λ f. listed name.now f.reads ≡ Err fault)))) }
         ensures damaged { IfErr result (λ e. OnDamaged e (λ d. IfSome (S.has store.old) (λ s. WithTable (folder_at s name.now).table (λ f. (es : List Entry) × (listed name.now f.reads ≡ Ok es) × IsFirst d (damages (folder_at s name.now).files es))))) }
@@ -234,6 +238,7 @@ where
     ensures left { IfOk result (λ o. o ≡ None → Leaves name.now (both datasets.old.items held.old.items) (both datasets.new.items held.new.items) (S.has store.old) (S.has store.new)) }
     ensures left_err { OnErr result (Leaves name.now (both datasets.old.items held.old.items) (both datasets.new.items held.new.items) (S.has store.old) (S.has store.new)) }
     ensures none { IfOk result (λ o. IfSome (S.has store.old) (λ s. is_some o ≡ (is_some (folder_at s name.now).table || make))) }
+    ensures undamaged { IfOk result (λ o. IfSome o (λ n. IfSome (S.has store.old) (λ s. IsUndamaged name.now (folder_at s name.now)))) }
     ensures unmade { IfOk result (λ o. o ≡ None → make ≡ false) }
     ensures not_a_table { IfErr result (λ e. OnNotATable e (λ fault. IfSome (S.has store.old) (λ s. WithTable (folder_at s name.now).table (λ f. listed name.now f.reads ≡ Err fault)))) }
     ensures damaged { IfErr result (λ e. OnDamaged e (λ d. IfSome (S.has store.old) (λ s. WithTable (folder_at s name.now).table (λ f. (es : List Entry) × (listed name.now f.reads ≡ Ok es) × IsFirst d (damages (folder_at s name.now).files es))))) }

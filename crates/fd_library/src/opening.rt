@@ -11,10 +11,10 @@ ghost use Rattle.fd_turn.specs.Views.{first_view};
 ghost use Rattle.fd_dataset.specs.Listed.{listings};
 ghost use Rattle.fd_recovery.specs.Causes.{NotTooMany, OnDamaged, OnDisk, OnNotATable};
 ghost use Rattle.fd_recovery.specs.Damages.{IsFirst, damages};
-ghost use Rattle.fd_recovery.specs.Recovered.{WithTable, all_of, batches_listed, held};
-ghost use Rattle.fd_library.specs.Answers.{FolderFailed, HoldsAs, IsOpened, TableBroke, TableBrokeIn};
+ghost use Rattle.fd_recovery.specs.Recovered.{IsUndamaged, WithTable, all_of, batches_listed, held};
+ghost use Rattle.fd_library.specs.Answers.{FolderFailed, HoldsAs, IsOpened, TableBroke, TableBrokeIn, greatest_listed};
 ghost use Rattle.fd_library.specs.Open.{AreBounded, IsWhole, seat_of};
-ghost use Rattle.fd_library.specs.Stores.{KeepsFolder, KeepsTable, LooksInto};
+ghost use Rattle.fd_library.specs.Stores.{KeepsFolder, KeepsTable, ListsIn, LooksInto};
 
 use crate::held::{FolderDataset, FolderPass, Held};
 use fd_dataset::Dataset;
@@ -64,6 +64,7 @@ impl<F: Send, D: Folder<F>> Start<F, D> {
 
 /// Opens the dataset of this folder, whose table isn't out; where there is none it is made first, if that is asked for.
 /// Where nothing is opened the folder has its table back.
+#[tactic(auto, using(crate::proofs::Undamaged::undamaged, crate::proofs::Listing::lists))]
 pub(crate) fn taken_up<F: Send, D: Folder<F>>(
     alloc: Global,
     folder: &mut D,
@@ -84,6 +85,8 @@ where
     ensures held { IfOk result (λ o. IfSome o (λ r. IfSome (D.has folder.old) (λ v. all_of (map (λ s. batch_of s.files) (standings r.segments.items)) ≡ held name.now v))) }
     ensures files { IfOk result (λ o. IfSome o (λ r. IfSome (D.has folder.old) (λ v. batches_listed v.files (Ok r.toc.entries) ≡ held name.now v))) }
     ensures file { IfOk result (λ o. IfSome o (λ r. IfSome (D.has folder.old) (λ v. KeepsTable name.now v.table (D.Table.file r.toc.table)))) }
+    ensures lists { IfOk result (λ o. IfSome o (λ r. IfSome (D.has folder.old) (λ v. ListsIn name.now r.toc.entries v.table))) }
+    ensures undamaged { IfOk result (λ o. IfSome o (λ r. IfSome (D.has folder.old) (λ v. IsUndamaged name.now v))) }
     ensures not_a_table { IfErr result (λ e. OnNotATable e (λ fault. IfSome (D.has folder.old) (λ v. WithTable v.table (λ f. listed name.now f.reads ≡ Err fault)))) }
     ensures damaged { IfErr result (λ e. OnDamaged e (λ d. IfSome (D.has folder.old) (λ v. WithTable v.table (λ f. (es : List Entry) × (listed name.now f.reads ≡ Ok es) × IsFirst d (damages v.files es))))) }
     ensures never { IfErr result NotTooMany }
@@ -177,6 +180,7 @@ where
     ensures opening { IfOk result (λ b. b.opening ≡ length recovered.toc.entries) }
     ensures writers { IfOk result (λ b. All (λ e. e.writer ≤ b.last) recovered.toc.entries) }
     ensures greatest { IfOk result (λ b. b.last ≤ 65536 * b.opening) }
+    ensures last { IfOk result (λ b. b.last ≡ greatest_listed recovered.toc.entries) }
     ensures back { IfErr result (λ t. t ≡ recovered.toc) }
 {
     let Recovered { toc, segments } = recovered;
@@ -198,6 +202,7 @@ fn greatest_of(entries: &[Entry]) -> u32
     requires { AllFit 0 entries.now }
     ensures all { All (λ e. e.writer ≤ result) entries.now }
     ensures bounded { result ≤ 65536 * length entries.now }
+    ensures last { result ≡ greatest_listed entries.now }
 {
     let mut last = 0;
     for entry in entries {
@@ -230,6 +235,7 @@ where
     ensures unmade { IfOk result (λ o. o ≡ None → make ≡ false) }
     ensures opened { IfOk result (λ o. IfSome o (λ r. IsOpened (string_bytes name) r.0 r.1)) }
     ensures holds { IfOk result (λ o. IfSome o (λ r. IfSome (S.has store.old) (λ s. HoldsAs S.Folder.has s r.1))) }
+    ensures undamaged { IfOk result (λ o. IfSome o (λ r. IfSome (S.has store.old) (λ s. IsUndamaged (string_bytes name) (folder_at s (string_bytes name))))) }
     ensures store { IfOk result (λ o. MatchOption o (WhereTold (S.has store.old) (S.has store.new) (LooksInto (string_bytes name))) (λ r. WhereTold (S.has store.old) (S.has store.new) (SameBut (string_bytes name)))) }
     ensures store_err { OnErr result (WhereTold (S.has store.old) (S.has store.new) (LooksInto (string_bytes name))) }
     ensures not_a_table { IfErr result (λ e. OnNotATable e (λ fault. IfSome (S.has store.old) (λ s. WithTable (folder_at s (string_bytes name)).table (λ f. listed (string_bytes name) f.reads ≡ Err fault)))) }

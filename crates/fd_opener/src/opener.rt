@@ -8,7 +8,7 @@ ghost use Rattle.fd_entries.specs.Table.{listed};
 ghost use Rattle.fd_turn.specs.Passes.{IsOf};
 ghost use Rattle.fd_recovery.specs.Causes.{OnDamaged, OnDisk, OnNotATable};
 ghost use Rattle.fd_recovery.specs.Damages.{IsFirst, damages};
-ghost use Rattle.fd_recovery.specs.Recovered.{WithTable};
+ghost use Rattle.fd_recovery.specs.Recovered.{IsUndamaged, WithTable};
 ghost use Rattle.fd_library.specs.Answers.{FolderFailed, IsWanted, TableBrokeIn, TooManyAt};
 ghost use Rattle.fd_library.specs.Calls.{AsksWriter, Changes, IsNewWriter, Leaves, Opens, ShelfFailed, TakesWriter};
 ghost use Rattle.fd_library.specs.Open.{IsWhole, OpenDataset, OpenDatasets, OutAre, among, names_of, seat_of};
@@ -55,6 +55,8 @@ impl<F: Send, S: Store<F>> Opener<F, S> {
     /// The number of the dataset with this text, which is opened by the first call; where it has no table, one is made
     /// first, if that is asked for, and else the answer is `None`. A dataset that is made has a text of at most 255 bytes.
     ///
+    /// A dataset that was opened has no damage of its table and of the files that this lists.
+    ///
     /// `NotATable` and `Damaged` tell what is wrong in its folder. `TooMany` comes exactly where 2,048 datasets are open,
     /// this one isn't, and it would be opened. `Disk` comes only where a count of faults rose: that of the store, of the
     /// folder, or of its table. Where nothing was opened, the store has the folder back.
@@ -75,6 +77,7 @@ impl<F: Send, S: Store<F>> Opener<F, S> {
         ensures left { among name.now (names_of self.old.library.each) ≡ false → IfOk result (λ o. o ≡ None → Leaves name.now self.old.library self.new.library (S.has store.old) (S.has store.new)) }
         ensures left_err { OnErr result (Leaves name.now self.old.library self.new.library (S.has store.old) (S.has store.new)) }
         ensures none { among name.now (names_of self.old.library.each) ≡ false → IfOk result (λ o. IfSome (S.has store.old) (λ s. is_some o ≡ (is_some (folder_at s name.now).table || make))) }
+        ensures undamaged { among name.now (names_of self.old.library.each) ≡ false → IfOk result (λ o. IfSome o (λ n. IfSome (S.has store.old) (λ s. IsUndamaged name.now (folder_at s name.now)))) }
         ensures unmade { IfOk result (λ o. o ≡ None → make ≡ false) }
         ensures not_a_table { IfErr result (λ e. OnNotATable e (λ fault. IfSome (S.has store.old) (λ s. WithTable (folder_at s name.now).table (λ f. listed name.now f.reads ≡ Err fault)))) }
         ensures damaged { IfErr result (λ e. OnDamaged e (λ d. IfSome (S.has store.old) (λ s. WithTable (folder_at s name.now).table (λ f. (es : List Entry) × (listed name.now f.reads ≡ Ok es) × IsFirst d (damages (folder_at s name.now).files es))))) }

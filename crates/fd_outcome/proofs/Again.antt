@@ -1,6 +1,6 @@
 -- Fields that are written one after the other are a stream of just these, each a message of one field.
 use Rattle.std.proofs.Common.{◌≡◌, ◌∙◌, ◌≤◌, ◌+◌, ℕ, Bool, true, false, List, [], ◌∷◌, ◌++◌, length, map, take, drop, Option, Some, None, Result, Ok, Err, All, refl, sym, ap, subst, arith, length-append, ltb, eqb, inl, inr}
-use Rattle.std.specs.Prelude.{nat_le, max}
+use Rattle.std.specs.Prelude.{nat_le}
 use Rattle.std.specs.List.{concat}
 use Rattle.std.proofs.lemmas.Bool.{le-ltb, le-leb, cases_Bool}
 use Rattle.std.proofs.lemmas.Bool.Decides.{nat_tests}
@@ -42,7 +42,7 @@ framed_here head rest more is =
     let t2 : octets 8 8 ((head ++ rest) ++ more) ≡ 2 = octets-append 8 8 (head ++ rest) more (omega arith) (omega arith) (omega (arith, long)) ∙ octets-append 8 8 head rest (omega arith) (omega arith) (omega arith) ∙ is.edition in
     let t3 : octets 9 16 ((head ++ rest) ++ more) ≡ length (head ++ rest) = octets-append 9 16 (head ++ rest) more (omega arith) (omega arith) (omega (arith, long)) ∙ octets-append 9 16 head rest (omega arith) (omega arith) (omega arith) ∙ is.total in
     let t4 : ltb 134217728 (length (head ++ rest)) ≡ false = le-ltb _ _ is.limit in
-    let t5 : max 16 (length (head ++ rest)) ≡ length (head ++ rest) = omega (arith, long) in
+    let t5 : ltb (length (head ++ rest)) 16 ≡ false = le-ltb _ _ long in
     let t6 : ltb (length ((head ++ rest) ++ more)) (length (head ++ rest)) ≡ false = le-ltb _ _ (omega (arith, all)) in
     let t7 : take (length (head ++ rest)) ((head ++ rest) ++ more) ≡ head ++ rest = take_at (head ++ rest) more (length (head ++ rest)) refl in
     let t8 : drop (length (head ++ rest)) ((head ++ rest) ++ more) ≡ more = drop_at (head ++ rest) more (length (head ++ rest)) refl in

@@ -10,7 +10,7 @@ use Rattle.fd_words.specs.declared.command.Command.TheVariants as commands
 use Rattle.fd_outcome.specs.declared.status.Status.{Status}
 use Rattle.fd_outcome.specs.declared.status.Status.TheVariants.{NoMemory, OutputFault}
 use Rattle.fd_outcome.specs.Causes.{Cause}
-use Rattle.fd_outcome.specs.Store.{Adds, Grows, Sorted, StaysFolder, Stays, table_at}
+use Rattle.fd_outcome.specs.Store.{Adds, Grows, IsLookedThrough, Sorted, StaysFolder, Stays, table_at}
 use Rattle.fd_outcome.specs.Asking.{rules_of}
 use Rattle.fd_outcome.specs.Trying.{trial_rules}
 use Rattle.fd_outcome.specs.Reclaiming.{InDataset, LeavesPurged, LeavesWiped}
@@ -22,6 +22,9 @@ stays_folder name v = record { table = refl; files = λ n. refl }
 
 pub stays : (h : Holdings) → Stays h h
 stays h = record { schema = refl; folders = λ name. stays_folder name (folder_at h name) }
+
+pub looked : (h : Holdings) → IsLookedThrough h h
+looked h = record { schema = refl; folders = λ name. record { files = refl; table = inl refl } }
 
 adds_none : (workers : ℕ) (pairs : List Pair) (t : List (List Pair)) (after : Option (List (List Pair))) → after ≡ Some t → Adds workers pairs t after
 adds_none workers pairs t after is = record { added = []; after_is = is ∙ ap (λ x. Some x) (sym (append-nil t)); only = λ k d lt. absurd (omega arith); few = omega arith }
@@ -71,12 +74,12 @@ leaves_idle (commands.Create root) s (inl is) calm full (Some octets) left h = r
 leaves_idle (commands.Create root) s (inr is) calm full (Some octets) left h = rw is (inl (stays h))
 leaves_idle (commands.Archive root given workers) s idle calm full None left h = tt
 leaves_idle (commands.Archive root given workers) s idle calm full (Some octets) left h = stored_idle s idle calm full workers (rules_of h.schema) given octets left h
-leaves_idle (commands.Retrieve root workers) s idle calm full input left h = stays h
-leaves_idle (commands.RetrieveOver root layers workers) s idle calm full input left h = stays h
-leaves_idle (commands.List root) s idle calm full input left h = stays h
-leaves_idle (commands.Axes root) s idle calm full input left h = stays h
-leaves_idle (commands.Stats root) s idle calm full input left h = stays h
-leaves_idle (commands.Cubes root) s idle calm full input left h = stays h
+leaves_idle (commands.Retrieve root workers) s idle calm full input left h = looked h
+leaves_idle (commands.RetrieveOver root layers workers) s idle calm full input left h = looked h
+leaves_idle (commands.List root) s idle calm full input left h = looked h
+leaves_idle (commands.Axes root) s idle calm full input left h = looked h
+leaves_idle (commands.Stats root) s idle calm full input left h = looked h
+leaves_idle (commands.Cubes root) s idle calm full input left h = looked h
 leaves_idle (commands.Session root) s idle calm full input left h = tt
 leaves_idle (commands.Purge root dataset) s idle calm full input left h = in_dataset dataset h (LeavesPurged s dataset) (purged_idle s idle dataset (folder_at h dataset))
 leaves_idle (commands.Wipe root dataset) s idle calm full input left h = in_dataset dataset h (LeavesWiped s dataset) (wiped_idle s idle dataset (folder_at h dataset))

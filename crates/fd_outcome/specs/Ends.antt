@@ -1,5 +1,6 @@
 -- What each status tells of the words, of the input, of the store, and of what was written.
 use Rattle.std.specs.Prelude.{◌≡◌, ◌⊎◌, ◌++◌, ℕ, List, [], codes, Option, Some, None, IfSome, IsSome, Result, Ok, Err, Contains}
+use Rattle.std.specs.Result.{IsOk}
 use Rattle.fd_io.specs.Streams.{Takes, TakesFront}
 use Rattle.fd_disk.specs.Folders.{Holdings, folder_at}
 use Rattle.fd_key.specs.Pairs as keys
@@ -10,8 +11,8 @@ use Rattle.fd_outcome.specs.declared.status.Status.{Status}
 use Rattle.fd_outcome.specs.declared.status.Status.TheVariants.{Done, Missed, Words, Refused, InputFault, OutputFault, DiskFault, NoMemory, Damaged, Limit}
 use Rattle.fd_listing.specs.Lines.{line}
 use Rattle.fd_outcome.specs.Causes.{Cause, Broken, damaged_line, table_full}
-use Rattle.fd_outcome.specs.Store.{AreNames, IsFull, Grows, GrowsBy, Plants, Stands, Stays, table_at}
-use Rattle.fd_outcome.specs.Asking.{Asked, asked_of, datasets_of, rules_of}
+use Rattle.fd_outcome.specs.Store.{AreNames, IsFull, Grows, GrowsBy, IsLookedThrough, Plants, Stands, Stays, table_at}
+use Rattle.fd_outcome.specs.Asking.{Asked, ◌then◌, asked_of, datasets_of, partial_in, rules_of}
 use Rattle.fd_outcome.specs.Layered.{Laid, laid_datasets, laid_of}
 use Rattle.fd_outcome.specs.Archiving.{Taken, taken, taken_of, pairs_for, datasets_in}
 use Rattle.fd_outcome.specs.Objects.{Object, Failed, Failures, IsCalm, failures}
@@ -129,7 +130,7 @@ AmongTaken given (Ok rules) input name = Contains (datasets_in (taken rules give
 AmongTaken given (Err cause) input name = ⊥
 
 -- the command opens the dataset: `retrieve` those of the keys, and over layers those under them too, `archive` and `trial` those of the messages, the listings all,
--- `purge` and `wipe` the one that they name.
+-- once schema and request are good, `purge` and `wipe` the one that they name.
 -- Of a session that is said with what it does.
 abbrev pub Opens : Command → Holdings → List (List ℕ) → List ℕ → List ℕ → Type 0
 Opens (commands.Pick wanted) h names input name = ⊥
@@ -141,10 +142,10 @@ Opens (commands.Create root) h names input name = ⊥
 Opens (commands.Archive root given workers) h names input name = AmongTaken given (rules_of h.schema) input name
 Opens (commands.Retrieve root workers) h names input name = AmongAsked (asked_of h input) name
 Opens (commands.RetrieveOver root layers workers) h names input name = AmongLaid (laid_of h layers input) name
-Opens (commands.List root) h names input name = Contains names name
-Opens (commands.Axes root) h names input name = Contains names name
-Opens (commands.Stats root) h names input name = Contains names name
-Opens (commands.Cubes root) h names input name = Contains names name
+Opens (commands.List root) h names input name = IsOk (rules_of h.schema then λ rules. partial_in input) × Contains names name
+Opens (commands.Axes root) h names input name = IsOk (rules_of h.schema then λ rules. partial_in input) × Contains names name
+Opens (commands.Stats root) h names input name = IsOk (rules_of h.schema) × Contains names name
+Opens (commands.Cubes root) h names input name = IsOk (rules_of h.schema then λ rules. partial_in input) × Contains names name
 Opens (commands.Session root) h names input name = ⊥
 Opens (commands.Purge root dataset) h names input name = name ≡ dataset
 Opens (commands.Wipe root dataset) h names input name = name ≡ dataset
@@ -388,14 +389,15 @@ EndsUnplanted Limit = ⊥
 abbrev pub IsPlanted : Holdings → Holdings → Type 0
 IsPlanted h m = (IsSome h.schema × Stays h m) ⊎ Plants trial_schema h m
 
--- What `trial` leaves of the store: it has a schema first, and then what `archive` leaves of its messages, all of which are read.
+-- What `trial` leaves of the store: it has a schema first, which stays, and then what `archive` leaves of its messages, all of
+-- which are read.
 abbrev pub LeavesTried : Status → Type 0 → Type 0 → ℕ → Result (List Rule) Cause → ℕ → Holdings → Holdings → Type 0
 LeavesTried s calm full workers (Ok rules) count h i =
-    (EndsUnplanted s × Stays h i) ⊎ ((m : Holdings) × IsPlanted h m × LeavesStored s calm full workers rules trial_given (generated_messages count) None m i)
+    (EndsUnplanted s × Stays h i) ⊎ ((m : Holdings) × IsPlanted h m × (i.schema ≡ m.schema) × LeavesStored s calm full workers rules trial_given (generated_messages count) None m i)
 LeavesTried s calm full workers (Err cause) count h i = Stays h i
 
 -- What a command leaves of the store: a command over a stream doesn't call it, and a command that only reads leaves the
--- schema, each table and each file as they were. `purge` and `wipe` change one dataset.
+-- schema and each file as they were, and each table as it was or synced. `purge` and `wipe` change one dataset.
 abbrev pub Leaves : Command → Status → Type 0 → Type 0 → Option (List ℕ) → Option (List ℕ) → Holdings → Holdings → Type 0
 Leaves (commands.Pick wanted) s calm full input left h i = i ≡ h
 Leaves commands.Describe s calm full input left h i = i ≡ h
@@ -404,12 +406,12 @@ Leaves (commands.Values decimals) s calm full input left h i = i ≡ h
 Leaves (commands.Generate count) s calm full input left h i = i ≡ h
 Leaves (commands.Create root) s calm full input left h i = IfSome input (λ octets. LeavesSchema s octets h i)
 Leaves (commands.Archive root given workers) s calm full input left h i = IfSome input (λ octets. LeavesBy s calm full workers (rules_of h.schema) given octets left h i)
-Leaves (commands.Retrieve root workers) s calm full input left h i = Stays h i
-Leaves (commands.RetrieveOver root layers workers) s calm full input left h i = Stays h i
-Leaves (commands.List root) s calm full input left h i = Stays h i
-Leaves (commands.Axes root) s calm full input left h i = Stays h i
-Leaves (commands.Stats root) s calm full input left h i = Stays h i
-Leaves (commands.Cubes root) s calm full input left h i = Stays h i
+Leaves (commands.Retrieve root workers) s calm full input left h i = IsLookedThrough h i
+Leaves (commands.RetrieveOver root layers workers) s calm full input left h i = IsLookedThrough h i
+Leaves (commands.List root) s calm full input left h i = IsLookedThrough h i
+Leaves (commands.Axes root) s calm full input left h i = IsLookedThrough h i
+Leaves (commands.Stats root) s calm full input left h i = IsLookedThrough h i
+Leaves (commands.Cubes root) s calm full input left h i = IsLookedThrough h i
 Leaves (commands.Session root) s calm full input left h i = Unit {0}
 Leaves (commands.Purge root dataset) s calm full input left h i = InDataset dataset (LeavesPurged s dataset) h i
 Leaves (commands.Wipe root dataset) s calm full input left h i = InDataset dataset (LeavesWiped s dataset) h i

@@ -22,6 +22,7 @@ pub mod Again
 pub mod Objects
 pub mod Ends
 pub mod Ran
+pub mod Noticing
 pub mod Told
 pub mod Reading
 pub mod Unruled

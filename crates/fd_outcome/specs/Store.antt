@@ -9,6 +9,7 @@ use Rattle.fd_disk.specs.declared.file.File.{File}
 use Rattle.fd_disk.specs.declared.folders.FileName.{FileName}
 use Rattle.fd_disk.specs.Folders as folders
 use Rattle.fd_disk.specs.Folders.{Holdings, folder_at}
+use Rattle.fd_disk.specs.Images.{synced}
 use Rattle.fd_entries.specs.declared.batch.Pair.{Pair}
 use Rattle.fd_entries.specs.declared.table.Entry.{Entry}
 use Rattle.fd_entries.specs.declared.table.NotATable.{NotATable}
@@ -79,6 +80,16 @@ StayFolders h i = (name : List ℕ) → StaysFolder name (folder_at h name) (fol
 pub record Stays (h i : Holdings) : Type 0 where
   pub schema : i.schema ≡ h.schema
   pub folders : StayFolders h i
+
+-- the folder has the files that it had, and its table as it was, or synced
+pub record IsLookedAt (v w : folders.Contents) : Type 0 where
+  pub files : w.files ≡ v.files
+  pub table : (w.table ≡ v.table) ⊎ (w.table ≡ option_map synced v.table)
+
+-- the same of each folder; and the schema is as it was
+pub record IsLookedThrough (h i : Holdings) : Type 0 where
+  pub schema : i.schema ≡ h.schema
+  pub folders : (name : List ℕ) → IsLookedAt (folder_at h name) (folder_at i name)
 
 -- there is a schema where there was none, and all else stays
 pub record Plants (text : List ℕ) (h i : Holdings) : Type 0 where

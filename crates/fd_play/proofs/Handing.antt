@@ -1,14 +1,19 @@
 -- Archivers are taken back one by one, and then all is given back.
-use Rattle.std.proofs.Common.{◌≡◌, ◌≢◌, ◌<◌, ◌≤◌, ◌+◌, ◌-◌, ◌⊎◌, inl, inr, ℕ, Bool, true, false, List, [], ◌∷◌, ◌++◌, All, length, map, slice_get, slice_set, get_or, Option, Some, None, sym, refl, ap, ap₂, ◌∙◌, subst, arith, length-append, append_assoc, append-nil, Ok, if◌then◌else◌}
+use Rattle.std.proofs.Common.{◌≡◌, ◌≢◌, ◌<◌, ◌≤◌, ◌+◌, ◌-◌, ◌||◌, ◌⊎◌, inl, inr, ℕ, Bool, true, false, List, [], ◌∷◌, ◌++◌, All, length, map, slice_get, slice_set, get_or, Option, Some, None, sym, refl, ap, ap₂, ◌∙◌, subst, arith, length-append, append_assoc, append-nil, Ok, if◌then◌else◌}
 use Rattle.std.specs.Prelude.{IfSome, IsSome}
 use Rattle.std.specs.Str.{bytes_eq}
+use Rattle.std.proofs.lemmas.List.{length-map}
 use Rattle.std.proofs.lemmas.List.Elements.{All-nil, All-cons, All-head, All-tail}
+use Rattle.std.proofs.lemmas.Simd.{map-map}
+use Rattle.std.proofs.lemmas.Slice.Eq.{bytes_eq-Decides}
 use Rattle.fd_disk.specs.declared.folders.FileName.{FileName}
+use Rattle.fd_disk.specs.Images.{IsImage}
 use Rattle.fd_disk.specs.Folders.{Contents, HasBack, Holdings, TakesBack, WhereTold, folder_at}
 use Rattle.fd_entries.specs.declared.batch.Listing.{Listing}
 use Rattle.fd_entries.specs.declared.batch.Pair.{Pair}
 use Rattle.fd_entries.specs.declared.table.Entry.{Entry}
-use Rattle.fd_segment.specs.Held.{batch_of}
+use Rattle.fd_entries.specs.Table.{listed}
+use Rattle.fd_segment.specs.Held.{Files, batch_of}
 use Rattle.fd_numbers.specs.Numbers.{Differ, IsIn}
 use Rattle.fd_turn.specs.Passes.{BoardId}
 use Rattle.fd_dataset.specs.Listed.{entries_of}
@@ -19,10 +24,11 @@ use Rattle.fd_recovery.specs.Recovered.{all_of, batches_listed, files_of}
 use Rattle.fd_lanes.specs.Jobs.{writers_of}
 use Rattle.fd_library.specs.Calls.{Changes, TakesFiles, TakesWriter}
 use Rattle.fd_library.specs.Open.{OpenDataset, OpenDatasets, Seated}
-use Rattle.fd_library.specs.Stores.{GivenBack, GivesBack, HasSeenAll, IsGivenBack, IsSettled, held_by_pass, held_in, held_of, held_with}
-use Rattle.fd_play.specs.Plays.{HoldsOpened}
+use Rattle.fd_library.specs.Stores.{GivenBack, GivesBack, HasSeenAll, IsBack, IsGivenBack, IsSettled, ListsOrDoubted, held_by_pass, held_in, held_of, held_with}
+use Rattle.fd_play.specs.Plays.{HoldsOpened, KeepsOnly}
 use Rattle.fd_play.specs.Staff.{HandsBack, IsSole, KeepsOlder, TakesAll}
 use Rattle.fd_play.proofs.Staffing.{sole_change}
+use Rattle.fd_play.proofs.Telling.{prefix_whole}
 
 at_middle : {X : Type 0} (ws done : List X) (w d : X) → get_or ((ws ++ w ∷ []) ++ done) (length ws) d ≡ w
 at_middle [] done w d = refl
@@ -138,20 +144,54 @@ module _ {H : Type 0} (kept : H → Option (FileName → Option (List ℕ))) whe
           let r = rest.keeps d.1 x i in
           (r.0, r.1, λ n bytes its there. s.4.others n (not_created w.writer w.last t.created n t.of_writer (λ e. d.0 (subst (IsIn (writers_of ws)) (its ∙ sym e) (in_writers ws x i)))) ∙ r.2 n bytes its there)
 
--- entries of writers up to this one stand for what they stood for
-batches_same : (old new : FileName → Option (List ℕ)) (last : ℕ) (ls : List Listing) → ((n : FileName) → n.writer ≤ last → new n ≡ old n) → All (λ (l : Listing). l.entry.writer ≤ last) ls
-    → map (λ (e : Entry). batch_of (files_of new e)) (entries_of ls) ≡ map (λ (e : Entry). batch_of (files_of old e)) (entries_of ls)
-batches_same old new last [] same older = refl
-batches_same old new last (l ∷ ls) same older =
+-- entries of writers up to this one have the files that they had
+pub files_stay : (old new : FileName → Option (List ℕ)) (last : ℕ) (ls : List Listing) → ((n : FileName) → n.writer ≤ last → new n ≡ old n) → All (λ (l : Listing). l.entry.writer ≤ last) ls
+    → map (files_of new) (entries_of ls) ≡ map (files_of old) (entries_of ls)
+files_stay old new last [] same older = refl
+files_stay old new last (l ∷ ls) same older =
     let one : l.entry.writer ≤ last = All-head (λ (l : Listing). l.entry.writer ≤ last) l ls older in
     let index : new (index_file l.entry) ≡ old (index_file l.entry) = same (index_file l.entry) one in
     let fields : new (field_file l.entry) ≡ old (field_file l.entry) = same (field_file l.entry) one in
     let files : files_of new l.entry ≡ files_of old l.entry = ap₂ (λ (i f : Option (List ℕ)). record { entry = l.entry; index = i; fields = f }) index fields in
-    ap₂ (λ (b : Option (List Pair)) (bs : List (Option (List Pair))). b ∷ bs) (ap batch_of files) (batches_same old new last ls same (All-tail (λ (l : Listing). l.entry.writer ≤ last) l ls older))
+    ap₂ (λ (f : Files) (fs : List Files). f ∷ fs) files (files_stay old new last ls same (All-tail (λ (l : Listing). l.entry.writer ≤ last) l ls older))
+
+-- and so they stand for what they stood for
+pub batches_of_files : (old new : FileName → Option (List ℕ)) (es : List Entry) → map (files_of new) es ≡ map (files_of old) es → batches_listed new (Ok es) ≡ batches_listed old (Ok es)
+batches_of_files old new es same = ap all_of (sym (map-map batch_of (files_of new) es) ∙ (ap (map batch_of) same ∙ map-map batch_of (files_of old) es))
 
 pub batches_stay : (old new : FileName → Option (List ℕ)) (last : ℕ) (ls : List Listing) → ((n : FileName) → n.writer ≤ last → new n ≡ old n) → All (λ (l : Listing). l.entry.writer ≤ last) ls
     → batches_listed new (Ok (entries_of ls)) ≡ batches_listed old (Ok (entries_of ls))
-batches_stay old new last ls same older = ap all_of (batches_same old new last ls same older)
+batches_stay old new last ls same older = batches_of_files old new (entries_of ls) (files_stay old new last ls same older)
+
+pub differ_texts : (n m : List ℕ) → n ≢ m → bytes_eq n m ≡ false
+differ_texts n m other = go (bytes_eq n m) refl
+  where
+    go : (b : Bool) → bytes_eq n m ≡ b → bytes_eq n m ≡ false
+    go true e = absurd (other ((bytes_eq-Decides n m).0 e))
+    go false e = e
+
+no_doubt : (name : List ℕ) (es : List Entry) (doubts : List Listing) (c : List ℕ) → doubts ≡ [] → ListsOrDoubted name es doubts c → listed name c ≡ Ok es
+no_doubt name es doubts c none (inl lists) = lists
+no_doubt name es doubts c none (inr d) = absurd (omega (arith, d.1.1, ap length none))
+
+-- A folder came back whose pass has seen all, and nothing is in doubt.
+pub back_only : (name : List ℕ) (c u : Contents) (p : Seated) (v : Contents) → IsBack name c p v → HasSeenAll p → map (files_of c.files) (entries_of p.view.history) ≡ map (files_of u.files) (entries_of p.view.history)
+    → KeepsOnly name (entries_of p.view.history) u v
+back_only name c u p v back settled same =
+    let es : List Entry = entries_of p.view.history in
+    let long : length es ≡ length p.view.history = length-map p.view.history (λ (l : Listing). l.entry) in
+    let all : back.entries ≡ es = prefix_whole es back.entries back.seen (back.count ∙ settled.all ∙ sym long) in
+    let lists : (b : List ℕ) → IsImage back.table b → listed name b ≡ Ok es = λ b image. no_doubt name back.entries p.view.doubts b settled.sure (back.images b image) ∙ ap (λ (xs : List Entry). Ok xs) all in
+    record {
+      keeps = record {
+        table = back.table;
+        table_is = back.table_is;
+        reads = back.reads;
+        images = λ b image. ([], lists b image ∙ ap (λ (xs : List Entry). Ok xs) (sym (append-nil es)));
+        files = ap (λ (fs : FileName → Option (List ℕ)). map (files_of fs) es) back.files_are ∙ same;
+      };
+      none = lists;
+    }
 
 pub is_told : (name : List ℕ) (o : Option Contents) (p : Option Seated) (v : Contents) → GivenBack name o p v → (c : Contents) × (o ≡ Some c)
 is_told name (Some c) p v b = (c, refl)
@@ -168,6 +208,10 @@ all_in P [] x a i = absurd i
 all_in P (y ∷ xs) x a (inl e) = subst P e (All-head P y xs a)
 all_in P (y ∷ xs) x a (inr i) = all_in P xs x (All-tail P y xs a) i
 
+seat_same : (o : Option Seated) (p q : Seated) → o ≡ Some p → o ≡ Some q → p ≡ q
+seat_same None p q is it = absurd (cc is)
+seat_same (Some x) p q is it = let one : x ≡ p = cc is in let two : x ≡ q = cc it in sym one ∙ two
+
 -- Where no lane ran, the dataset holds what it held.
 pub handed_idle : {D H : Type 0} (has : D → Option Contents) (kept : H → Option (FileName → Option (List ℕ))) (h now : OpenDataset D) (ws : List (Writing H)) (first : List Listing) (p q : Seated) (s t : Holdings)
     → now.name ≡ h.name → now.pass ≡ Some p → HasSeenAll p → p.view.history ≡ first → h.pass ≡ Some q → q.view.history ≡ first → All (λ (l : Listing). l.entry.writer ≤ h.last) first
@@ -182,7 +226,15 @@ handed_idle {D = D} {H = H} has kept h now ws first p q s t name pass settled hi
     let now_in : held_in has hb.after ≡ batches_listed told.0.files (Ok (entries_of first)) = ap₂ held_by_pass told.1 after_pass ∙ ap (λ (ls : List Listing). batches_listed told.0.files (Ok (entries_of ls))) history in
     let was_in : held_in has h ≡ batches_listed o.0.files (Ok (entries_of first)) = ap₂ held_by_pass o.1 pass_was ∙ ap (λ (ls : List Listing). batches_listed o.0.files (Ok (entries_of ls))) history_was in
     let both : held_in has hb.after ≡ held_in has h = now_in ∙ (batches_stay o.0.files told.0.files h.last first same writers ∙ sym was_in) in
+    let back : IsBack hb.after.name told.0 p (folder_at t hb.after.name) =
+    subst (λ (x : Option Seated). GivenBack hb.after.name (Some told.0) x (folder_at t hb.after.name)) after_pass (subst (λ (f : Option Contents). GivenBack hb.after.name f hb.after.pass (folder_at t hb.after.name)) told.1 given) in
+    let files : map (files_of told.0.files) (entries_of p.view.history) ≡ map (files_of o.0.files) (entries_of p.view.history) =
+    files_stay o.0.files told.0.files h.last p.view.history same (subst (λ (ls : List Listing). All (λ (l : Listing). l.entry.writer ≤ h.last) ls) (sym history) writers) in
+    let only : KeepsOnly h.name (entries_of p.view.history) o.0 (folder_at t h.name) =
+    subst (λ (n : List ℕ). KeepsOnly n (entries_of p.view.history) o.0 (folder_at t n)) (hb.name ∙ name) (back_only hb.after.name told.0 o.0 p (folder_at t hb.after.name) back settled files) in
     record {
       schema = hb.given.schema;
+      others = λ n apart. hb.given.others n (ap (λ (m : List ℕ). bytes_eq n m || false) (hb.name ∙ name) ∙ ap (λ (x : Bool). x || false) (differ_texts n h.name apart));
+      left = λ r is. (o.0, o.1, subst (λ (ls : List Listing). KeepsOnly h.name (entries_of ls) o.0 (folder_at t h.name)) (history ∙ (sym history_was ∙ ap (λ (x : Seated). x.view.history) (seat_same h.pass q r pass_was is))) only);
       each = λ n. hb.held (subst (λ (x : Option Seated). IfSome x HasSeenAll) (sym after_pass) settled) n ∙ ap₂ (λ (x : List ℕ) (y : Option (List (List Pair))). if bytes_eq n x then y else held_of s n) (hb.name ∙ name) both;
     }

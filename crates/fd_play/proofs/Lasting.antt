@@ -1,11 +1,11 @@
 -- What the store holds once the lanes have run and all was given back.
-use Rattle.std.proofs.Common.{◌≡◌, ◌≢◌, ◌<◌, ◌≤◌, ◌+◌, ◌||◌, ◌⊎◌, inl, inr, ℕ, Bool, true, false, List, [], ◌∷◌, ◌++◌, All, map, take, length, Option, Some, None, is_some, Ok, sym, refl, ap, ap₂, ◌∙◌, subst, arith, length-append}
+use Rattle.std.proofs.Common.{◌≡◌, ◌≢◌, ◌<◌, ◌≤◌, ◌+◌, ◌||◌, ◌⊎◌, inl, inr, ℕ, Bool, true, false, List, [], ◌∷◌, ◌++◌, All, map, take, length, Option, Some, None, is_some, Result, Ok, Err, append_assoc, sym, refl, ap, ap₂, ◌∙◌, subst, arith, length-append}
 use Rattle.std.specs.Prelude.{IfSome, IsSome, slice_get}
 use Rattle.std.specs.Str.{bytes_eq}
-use Rattle.std.proofs.lemmas.Slice.Eq.{bytes_eq-Decides}
 use Rattle.std.proofs.lemmas.List.{length-map}
 use Rattle.std.proofs.lemmas.List.Elements.{All-head}
-use mathlib.Core.List.{IsPrefix}
+use mathlib.Core.List.{IsPrefix, map-append}
+use Rattle.fd_disk.specs.declared.file.File.{File}
 use Rattle.fd_disk.specs.declared.folders.FileName.{FileName}
 use Rattle.fd_disk.specs.Folders.{Contents, Holdings, SameBut, folder_at}
 use Rattle.fd_disk.specs.Images.{IsImage}
@@ -20,29 +20,42 @@ use Rattle.fd_turn.specs.Views.{View, first_view}
 use Rattle.fd_turn.specs.Passes.{BoardId}
 use Rattle.fd_dataset.specs.Listed.{entries_of}
 use Rattle.fd_archiver.specs.Writing.{IsKept, Writing}
-use Rattle.fd_recovery.specs.Recovered.{all_of, batches_listed, files_of}
+use Rattle.fd_recovery.specs.Recovered.{IsUndamaged, all_of, batches_listed, files_of}
 use Rattle.fd_retriever.specs.Answers.{Tells}
 use Rattle.fd_library.specs.Answers.{HoldsAs, IsOpened}
 use Rattle.fd_library.specs.Open.{OpenDataset, Seated, among}
-use Rattle.fd_library.specs.Stores.{GivenBack, IsBack, IsGivenBack, ListsOrDoubted, held_by_pass, held_in, held_of}
+use Rattle.fd_library.specs.Stores.{GivenBack, IsBack, IsGivenBack, ListsIn, ListsOrDoubted, held_by_pass, held_in, held_of}
 use Rattle.fd_script.specs.Scripts.{Scripted}
 use Rattle.fd_lanes.specs.declared.end.End.{End}
 use Rattle.fd_lanes.specs.Acts.{Act, all_acts}
 use Rattle.fd_lanes.specs.Jobs.{IsKeptBy, IsKeptByOne, writers_of}
 use Rattle.fd_lanes.specs.Legal.{IsDoubt, IsLegal}
 use Rattle.fd_lanes.specs.Tables.{AlikeTables}
-use Rattle.fd_play.specs.Plays.{HasOneMore, HoldBatches, Played, PlayedOpen, PlayedOver}
+use Rattle.fd_play.specs.Plays.{HasOneMore, HoldBatches, KeepsEntries, Played, PlayedOpen, PlayedOver}
 use Rattle.fd_play.specs.Staff.{HandsBack}
 use Rattle.fd_play.proofs.Crewing.{lent_one, lent_writers, staff_later, staff_told}
-use Rattle.fd_play.proofs.Handing.{Backs, all_in, backs, batches_stay, is_told}
+use Rattle.fd_play.proofs.Handing.{Backs, all_in, backs, batches_stay, differ_texts, files_stay, is_told}
 use Rattle.fd_play.proofs.Telling.{BothTell, EachStands, all_are, all_told, both_more, both_tell, get_behind, prefix_whole, segment_back, take_front, told_long}
 
-differ_texts : (n m : List ℕ) → n ≢ m → bytes_eq n m ≡ false
-differ_texts n m other = go (bytes_eq n m) refl
-  where
-    go : (b : Bool) → bytes_eq n m ≡ b → bytes_eq n m ≡ false
-    go true e = absurd (other ((bytes_eq-Decides n m).0 e))
-    go false e = e
+ok_same : {A E : Type 0} (r : Result A E) (x y : A) → r ≡ Ok x → r ≡ Ok y → x ≡ y
+ok_same (Ok z) x y is it = let one : z ≡ x = cc is in let two : z ≡ y = cc it in sym one ∙ two
+ok_same (Err e) x y is it = absurd (cc is)
+
+-- a table lists the same entries at any time
+pub lists_same : (name : List ℕ) (xs ys : List Entry) (t : Option File) → ListsIn name xs t → ListsIn name ys t → xs ≡ ys
+lists_same name xs ys None is it = is ∙ sym it
+lists_same name xs ys (Some f) is it = ok_same (listed name f.reads) xs ys is it
+
+-- what an opened dataset lists
+pub lists_opened : {D : Type 0} (has : D → Option Contents) (name : List ℕ) (b : BoardId) (s : Holdings) (h : OpenDataset D) (o : IsOpened name b h) → HoldsAs has s h → ListsIn name (entries_of o.history) (folder_at s name).table
+lists_opened has name b s h o holds =
+    subst (λ (n : List ℕ). ListsIn n (entries_of o.history) (folder_at s n).table) o.name_is
+    (subst (λ (p : Option Seated). IfSome p (λ (q : Seated). ListsIn h.name (entries_of q.view.history) (folder_at s h.name).table)) o.pass holds.lists)
+
+-- the files that its folder has
+pub files_opened : {D : Type 0} (has : D → Option Contents) (name : List ℕ) (s : Holdings) (h : OpenDataset D) (v : Contents) → h.name ≡ name → has h.folder ≡ Some v → HoldsAs has s h → v.files ≡ (folder_at s name).files
+files_opened has name s h v text is holds =
+    subst (λ (o : Option Contents). IfSome o (λ (w : Contents). w.files ≡ (folder_at s h.name).files)) is holds.same ∙ ap (λ (n : List ℕ). (folder_at s n).files) text
 
 some_of : {A : Type 0} (o : Option A) → IsSome o → (x : A) × (o ≡ Some x)
 some_of None s = absurd (cc s)
@@ -115,18 +128,52 @@ module _ {F D H : Type 0} (has : D → Option Contents) (kept : H → Option (Fi
     differ : Differ (writers_of po.archivers)
     differ = subst Differ (sym (lent_writers po.archivers po.staff po.owners)) po.differ
 
+    -- the files of those that were writers before
+    older : (n : FileName) → n.writer ≤ h.last → u.files n ≡ bk.had.files n
+    older n small = bk.others n (λ w i e. let big = all_in (λ (v : Writing H). h.last < v.writer) po.archivers w later i in omega (arith, big, e, small))
+
+    seen : IsPrefix o.history po.pass.history
+    seen = subst (λ (ls : List Listing). IsPrefix ls po.pass.history) first_history po.ran.keeps.seen
+
+    abbrev firsts : List Entry
+    firsts = entries_of o.history
+
+    -- what the table lists behind the entries that it listed before
+    abbrev behind : List Entry
+    behind = entries_of seen.0 ++ back.seen.0
+
+    lists_behind : firsts ++ behind ≡ back.entries
+    lists_behind =
+        sym (append_assoc firsts (entries_of seen.0) back.seen.0)
+        ∙ (ap (λ (es : List Entry). es ++ back.seen.0) (sym (map-append (λ (l : Listing). l.entry) o.history seen.0) ∙ ap entries_of seen.1) ∙ back.seen.1)
+
+    -- the entries that were listed before are listed, and their files are there, whatever these hold
+    keeps_entries : KeepsEntries sc.dataset firsts (folder_at s sc.dataset) (folder_at t sc.dataset)
+    keeps_entries = record {
+      table = back.table;
+      table_is = back.table_is;
+      reads = back.reads;
+      images = λ c image. go c (back.images c image);
+      files = ap (λ (fs : FileName → Option (List ℕ)). map (files_of fs) firsts) back.files_are
+          ∙ (files_stay bk.had.files u.files h.last o.history older o.writers ∙ ap (λ (fs : FileName → Option (List ℕ)). map (files_of fs) firsts) (files_opened has sc.dataset s h bk.had o.name_is had_is holds));
+    }
+      where
+        go : (c : List ℕ) → ListsOrDoubted sc.dataset back.entries po.pass.doubts c → (more : List Entry) × (listed sc.dataset c ≡ Ok (firsts ++ more))
+        go c (inl lists) = (behind, lists ∙ ap (λ (es : List Entry). Ok es) (sym lists_behind))
+        go c (inr d) = (
+          behind ++ d.0.entry ∷ [],
+          d.2 ∙ ap (λ (es : List Entry). Ok es) (ap (λ (es : List Entry). es ++ d.0.entry ∷ []) (sym lists_behind) ∙ append_assoc firsts behind (d.0.entry ∷ [])),
+        )
+
     module _ (t0 : List (List Pair)) (is : held_of s sc.dataset ≡ Some t0) where
       -- the batches that were there before
       front : BothTell u.files o.history t0
       front = record {
         listings = all_told (map (λ (l : Listing). l.batch) o.history) t0 (subst (λ (p : Option Seated). IfSome p (λ (q : Seated). all_of (map (λ l. l.batch) q.view.history) ≡ held_of s h.name)) o.pass holds.listings ∙ (ap (held_of s) o.name_is ∙ is));
         entries = all_told (map (λ (e : Entry). batch_of (files_of u.files e)) (entries_of o.history)) t0
-            (batches_stay bk.had.files u.files h.last o.history (λ n small. bk.others n (λ w i e. let big = all_in (λ (v : Writing H). h.last < v.writer) po.archivers w later i in omega (arith, big, e, small))) o.writers
+            (batches_stay bk.had.files u.files h.last o.history older o.writers
             ∙ (sym (ap₂ held_by_pass had_is o.pass) ∙ (holds.files ∙ (ap (held_of s) o.name_is ∙ is))));
       }
-
-      seen : IsPrefix o.history po.pass.history
-      seen = subst (λ (ls : List Listing). IsPrefix ls po.pass.history) first_history po.ran.keeps.seen
 
       -- and those that are listed now
       more : (added : List (List Pair)) × BothTell u.files seen.0 added
@@ -184,11 +231,14 @@ module _ {F D H : Type 0} (has : D → Option Contents) (kept : H → Option (Fi
                 kept = subst (λ (fs : FileName → Option (List ℕ)). batch_of (files_of fs d.0.entry) ≡ Some files.0) (sym back.files_are) files.2;
               })
 
-    pub played : Played rules messages sc before ends s t
-    played = record {
+    pub played : IsUndamaged sc.dataset (folder_at s sc.dataset) → Played rules messages sc before ends s t
+    played none = record {
       others = record {
         schema = hb.given.schema ∙ same.schema;
         others = λ other out. hb.given.others other (ap (λ (n : List ℕ). bytes_eq other n || false) name_is ∙ ap (λ (x : Bool). x || false) (differ_texts other sc.dataset out)) ∙ same.others other out;
       };
       over = λ t0 is. played_over t0 is;
+      undamaged = none;
+      entries = λ es lists. subst (λ (xs : List Entry). KeepsEntries sc.dataset xs (folder_at s sc.dataset) (folder_at t sc.dataset))
+          (lists_same sc.dataset firsts es (folder_at s sc.dataset).table (lists_opened has sc.dataset b s h o holds) lists) keeps_entries;
     }

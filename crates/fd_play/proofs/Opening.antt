@@ -1,12 +1,13 @@
 -- The lanes' dataset, from its opening to its going back.
-use Rattle.std.proofs.Common.{◌≡◌, ◌≢◌, ◌<◌, ◌≤◌, ◌+◌, inl, inr, ℕ, Bool, true, false, List, [], ◌∷◌, ◌++◌, All, map, length, slice_get, Option, Some, None, is_some, Result, Ok, Err, sym, refl, ap, ap₂, ◌∙◌, subst, arith, length-append, if◌then◌else◌}
+use Rattle.std.proofs.Common.{◌≡◌, ◌≢◌, ◌<◌, ◌≤◌, ◌+◌, inl, inr, ℕ, Bool, true, false, List, [], ◌∷◌, ◌++◌, All, map, length, slice_get, Option, Some, None, is_some, Result, Ok, Err, sym, refl, ap, ap₂, ◌∙◌, subst, arith, length-append, if◌then◌else◌, unwrap_or}
 use Rattle.std.specs.Prelude.{IfErr, IfOk, IfSome, IsSome, OnErr}
 use Rattle.std.specs.Str.{bytes_eq}
 use Rattle.std.proofs.lemmas.List.{length-map}
 use Rattle.std.proofs.lemmas.List.Elements.{All-head}
 use mathlib.Core.List.{IsPrefix}
+use Rattle.fd_disk.specs.declared.file.File.{File}
 use Rattle.fd_disk.specs.declared.folders.FileName.{FileName}
-use Rattle.fd_disk.specs.Folders.{Contents, Holdings, SameBut, WhereTold, folder_at}
+use Rattle.fd_disk.specs.Folders.{Contents, Holdings, SameBut, WhereTold, folder_at, no_contents}
 use Rattle.fd_entries.specs.declared.batch.Listing.{Listing}
 use Rattle.fd_schema.specs.Rules.{Rule, Texts}
 use Rattle.fd_turn.specs.declared.board.Pass.{Pass}
@@ -21,22 +22,22 @@ use Rattle.fd_entries.specs.declared.table.Entry.{Entry}
 use Rattle.fd_entries.specs.Table.{listed}
 use Rattle.fd_recovery.specs.Causes.{OnDamaged, OnNotATable}
 use Rattle.fd_recovery.specs.Damages.{IsFirst, damages}
-use Rattle.fd_recovery.specs.Recovered.{WithTable}
+use Rattle.fd_recovery.specs.Recovered.{IsUndamaged, WithTable, files_of}
 use Rattle.fd_library.specs.Answers.{HoldsAs, IsOpened, TooManyAt}
 use Rattle.fd_library.specs.Calls.{Changes, Opens}
 use Rattle.fd_library.specs.Open.{IsWhole, OpenDataset, OpenDatasets, OutAre, Seated, among, names_of, seat_of}
-use Rattle.fd_library.specs.Stores.{GivenBack, GivesBack, HasSeenAll, IsBack, IsGivenBack, IsSettled, LooksInto, held_of, held_with}
+use Rattle.fd_library.specs.Stores.{GivenBack, GivesBack, HasSeenAll, IsBack, IsGivenBack, IsSettled, KeepsFolder, KeepsTable, LooksInto, held_of, held_with}
 use Rattle.fd_script.specs.Scripts.{Scripted}
 use Rattle.fd_lanes.specs.declared.end.End.{End}
 use Rattle.fd_lanes.specs.Acts.{ArePlaces, all_acts}
 use Rattle.fd_lanes.specs.Fits.{Keeps}
 use Rattle.fd_numbers.specs.Numbers.{Differ}
 use Rattle.fd_lanes.specs.Jobs.{AllKept, AreKeptFrom, MayBegin, Ran, owners_of, writers_of}
-use Rattle.fd_play.specs.Plays.{HoldsOpened, HoldsSame, IsPlain, IsUnopened, Played, PlayedOpen}
+use Rattle.fd_play.specs.Plays.{HoldsOpened, HoldsSame, IsPlain, IsUnopened, KeepsOnly, LeavesOpened, LeavesUnplayed, Played, PlayedOpen}
 use Rattle.fd_play.specs.Staff.{HandsBack, IsSole, KeepsOlder, Staffs, Tried}
 use Rattle.fd_play.proofs.Crewing.{may_begin, lent_many, lent_one, staff_datasets, staff_later}
-use Rattle.fd_play.proofs.Handing.{handed_idle, is_told}
-use Rattle.fd_play.proofs.Lasting.{played}
+use Rattle.fd_play.proofs.Handing.{differ_texts, handed_idle, is_told}
+use Rattle.fd_play.proofs.Lasting.{files_opened, lists_opened, lists_same, played}
 use Rattle.fd_play.proofs.Staffing.{sole_change, where_told}
 use Rattle.fd_play.proofs.Telling.{prefix_whole}
 
@@ -183,16 +184,17 @@ opened_sole {D = D} has n name l m before after none op = record {
 }
 
 pub played_all : {F D H : Type 0} (has : D → Option Contents) (kept : H → Option (FileName → Option (List ℕ))) (rules : List Rule) (messages : List (List ℕ)) (sc : Scripted) (before : ℕ) (ends : List (List (End F))) (b : BoardId) (h : OpenDataset D) (x y z : Option Holdings)
-    → IfSome x (λ s. HoldsAs has s h) → WhereTold x y (SameBut sc.dataset) → IsOpened sc.dataset b h → PlayedOpen has kept rules messages sc before ends b h y z → WhereTold x z (Played rules messages sc before ends)
-played_all {F = F} has kept rules messages sc before ends b h x y z holds same o po = go x y z holds same po.back
+    → IfSome x (λ s. HoldsAs has s h) → IfSome x (λ s. IsUndamaged sc.dataset (folder_at s sc.dataset)) → WhereTold x y (SameBut sc.dataset) → IsOpened sc.dataset b h → PlayedOpen has kept rules messages sc before ends b h y z
+    → WhereTold x z (Played rules messages sc before ends)
+played_all {F = F} has kept rules messages sc before ends b h x y z holds none same o po = go x y z holds none same po.back
   where
-    go : (i j k : Option Holdings) → IfSome i (λ s. HoldsAs has s h) → WhereTold i j (SameBut sc.dataset) → WhereTold j k (HandsBack has kept po.last po.archivers) → WhereTold i k (Played {F = F} rules messages sc before ends)
-    go None None None holds same back = tt
-    go None None (Some t) holds same back = absurd back
-    go None (Some s) k holds same back = absurd same
-    go (Some r) None k holds same back = absurd same
-    go (Some r) (Some s) None holds same back = absurd back
-    go (Some r) (Some s) (Some t) holds same back = played has kept rules messages sc before ends b h y z po o r s t holds same back
+    go : (i j k : Option Holdings) → IfSome i (λ s. HoldsAs has s h) → IfSome i (λ s. IsUndamaged sc.dataset (folder_at s sc.dataset)) → WhereTold i j (SameBut sc.dataset) → WhereTold j k (HandsBack has kept po.last po.archivers) → WhereTold i k (Played {F = F} rules messages sc before ends)
+    go None None None holds none same back = tt
+    go None None (Some t) holds none same back = absurd back
+    go None (Some s) k holds none same back = absurd same
+    go (Some r) None k holds none same back = absurd same
+    go (Some r) (Some s) None holds none same back = absurd back
+    go (Some r) (Some s) (Some t) holds none same back = played has kept rules messages sc before ends b h y z po o r s t holds same back none
 
 -- nothing was played
 pub idle_all : {D : Type 0} (has : D → Option Contents) (name : List ℕ) (h : OpenDataset D) (l m : OpenDatasets D) (b : BoardId) (x y z : Option Holdings) → l ≡ record { boards = []; each = [] } → IsSole m b h → WhereTold x y (SameBut name)
@@ -225,6 +227,78 @@ idle_closed {D = D} has name l m x y z none still looks kept given held = go x y
       schema = given.schema ∙ looks.schema;
       each = λ n. held n ∙ (kept n ∙ ap (λ (d : OpenDatasets D). held_with has d.each r n) none);
     }
+
+-- ---- what a crash may leave where nothing was played
+
+-- the files are those that another folder has
+only_by : (name : List ℕ) (es : List Entry) (u v w : Contents) → u.files ≡ v.files → KeepsOnly name es u w → KeepsOnly name es v w
+only_by name es u v w same only = record {
+  keeps = record {
+    table = only.keeps.table;
+    table_is = only.keeps.table_is;
+    reads = only.keeps.reads;
+    images = only.keeps.images;
+    files = only.keeps.files ∙ ap (λ (fs : FileName → Option (List ℕ)). map (files_of fs) es) same;
+  };
+  none = only.none;
+}
+
+-- the dataset was opened
+pub left_opened : {D : Type 0} (has : D → Option Contents) (name : List ℕ) (b : BoardId) (h : OpenDataset D) (x y z : Option Holdings) → IsOpened name b h → IfSome x (λ s. HoldsAs has s h) → IfSome x (λ s. IsUndamaged name (folder_at s name))
+    → WhereTold x y (SameBut name) → WhereTold y z (HoldsOpened has h) → WhereTold x z (LeavesUnplayed name)
+left_opened has name b h x y z o holds none same opened = go x y z holds none same opened
+  where
+    one : (r s t : Holdings) → HoldsAs has r h → IsUndamaged name (folder_at r name) → HoldsOpened has h s t → LeavesOpened name (folder_at r name) (folder_at t name)
+    one r s t holds none opened =
+        let l = opened.left _ o.pass in
+        let v : Contents = l.0 in
+        let only : KeepsOnly name (entries_of o.history) (folder_at r name) (folder_at t name) =
+        only_by name (entries_of o.history) v (folder_at r name) (folder_at t name) (files_opened has name r h v o.name_is l.1 holds) (subst (λ (n : List ℕ). KeepsOnly n (entries_of o.history) v (folder_at t n)) o.name_is l.2) in
+        record {
+          undamaged = none;
+          lists = λ es lists. subst (λ (xs : List Entry). KeepsOnly name xs (folder_at r name) (folder_at t name)) (lists_same name (entries_of o.history) es (folder_at r name).table (lists_opened has name b r h o holds) lists) only;
+        }
+
+    go : (i j k : Option Holdings) → IfSome i (λ s. HoldsAs has s h) → IfSome i (λ s. IsUndamaged name (folder_at s name)) → WhereTold i j (SameBut name) → WhereTold j k (HoldsOpened has h) → WhereTold i k (LeavesUnplayed name)
+    go None None None holds none same opened = tt
+    go None None (Some t) holds none same opened = absurd opened
+    go None (Some s) k holds none same opened = absurd same
+    go (Some r) None k holds none same opened = absurd same
+    go (Some r) (Some s) None holds none same opened = absurd opened
+    go (Some r) (Some s) (Some t) holds none same opened = record {
+      others = record {
+        schema = opened.schema ∙ same.schema;
+        others = λ other apart. opened.others other (λ e. apart (e ∙ o.name_is)) ∙ same.others other apart;
+      };
+      dataset = inr (one r s t holds none opened);
+    }
+
+-- the dataset was looked into alone
+pub left_closed : {D : Type 0} (has : D → Option Contents) (name : List ℕ) (l m : OpenDatasets D) (x y z : Option Holdings) → l ≡ record { boards = []; each = [] } → m ≡ l → WhereTold x y (LooksInto name) → WhereTold y z (GivesBack has m.each) → WhereTold x z (LeavesUnplayed name)
+left_closed {D = D} has name l m x y z none still looks given = go x y z looks (subst (λ (d : OpenDatasets D). WhereTold y z (GivesBack has d.each)) (still ∙ none) given)
+  where
+    go : (i j k : Option Holdings) → WhereTold i j (LooksInto name) → WhereTold j k (GivesBack has []) → WhereTold i k (LeavesUnplayed name)
+    go None None None looks given = tt
+    go None None (Some t) looks given = absurd given
+    go None (Some s) k looks given = absurd looks
+    go (Some r) None k looks given = absurd looks
+    go (Some r) (Some s) None looks given = absurd given
+    go (Some r) (Some s) (Some t) looks given = record {
+      others = record {
+        schema = given.schema ∙ looks.schema;
+        others = λ other apart. given.others other refl ∙ looks.others other (differ_texts other name apart);
+      };
+      dataset = inl (subst (λ (o : Option Contents). KeepsFolder name (folder_at r name) (unwrap_or o no_contents)) (sym (given.others name refl)) looks.folder);
+    }
+
+keeps_same : (name : List ℕ) (t : Option File) → KeepsTable name t t
+keeps_same name None = tt
+keeps_same name (Some f) = inl refl
+
+-- no call of the store was made
+pub left_self : (name : List ℕ) (o : Option Holdings) → WhereTold o o (LeavesUnplayed name)
+left_self name None = tt
+left_self name (Some h) = record { others = record { schema = refl; others = λ other apart. refl }; dataset = inl (record { files = refl; table = keeps_same name (folder_at h name).table }) }
 
 pub plain_unopened : {F : Type 0} (name : List ℕ) (e : OpenFault F) (o : Option Holdings) → IsPlain e → IfSome o (IsUnopened name e)
 plain_unopened name e None plain = tt

@@ -1,5 +1,5 @@
 -- What a run of a script leaves of its dataset, and of the store.
-use Rattle.std.specs.Prelude.{◌≡◌, ◌⊎◌, ◌≤◌, ◌<◌, ◌++◌, ℕ, List, [], ◌∷◌, All, length, Option, Some, None, IfSome, Result, Ok, Err, is_some}
+use Rattle.std.specs.Prelude.{◌≡◌, ◌≢◌, ◌⊎◌, ◌≤◌, ◌<◌, ◌++◌, ℕ, List, [], ◌∷◌, All, length, map, Option, Some, None, IfSome, Result, Ok, Err, is_some}
 use Rattle.fd_disk.specs.declared.file.File.{File}
 use Rattle.fd_disk.specs.declared.folders.FileName.{FileName}
 use Rattle.fd_disk.specs.Folders.{Contents, Holdings, SameBut, WhereTold, folder_at}
@@ -18,9 +18,10 @@ use Rattle.fd_recovery.specs.declared.fault.OpenFault.{OpenFault}
 use Rattle.fd_recovery.specs.declared.fault.OpenFault.TheVariants as faults
 use Rattle.fd_recovery.specs.Damages.{IsFirst, damages}
 use Rattle.fd_segment.specs.Held.{batch_of}
-use Rattle.fd_recovery.specs.Recovered.{WithTable, batches_listed, files_of}
-use Rattle.fd_library.specs.Open.{OpenDataset, OpenDatasets}
-use Rattle.fd_library.specs.Stores.{held_of, held_with}
+use Rattle.fd_recovery.specs.Recovered.{IsUndamaged, WithTable, batches_listed, files_of}
+use Rattle.fd_dataset.specs.Listed.{entries_of}
+use Rattle.fd_library.specs.Open.{OpenDataset, OpenDatasets, Seated}
+use Rattle.fd_library.specs.Stores.{KeepsFolder, ListsIn, held_of, held_with}
 use Rattle.fd_script.specs.declared.script.Lane.{Lane}
 use Rattle.fd_script.specs.Scripts.{Scripted}
 use Rattle.fd_lanes.specs.declared.end.End.{End}
@@ -42,6 +43,31 @@ IsUnopened name faults.NoMemory h = Unit {0}
 pub record HoldsSame (h i : Holdings) : Type 0 where
   pub schema : i.schema ≡ h.schema
   pub each : (name : List ℕ) → held_of i name ≡ held_of h name
+
+-- The table has these entries still, and maybe more behind them, in each image that a crash might leave of it. The files of
+-- these entries are those that there were.
+pub record KeepsEntries (name : List ℕ) (es : List Entry) (v w : Contents) : Type 0 where
+  pub table : File
+  pub table_is : w.table ≡ Some table
+  pub reads : IsImage table table.reads
+  pub images : (c : List ℕ) → IsImage table c → (more : List Entry) × (listed name c ≡ Ok (es ++ more))
+  pub files : map (files_of w.files) es ≡ map (files_of v.files) es
+
+-- the same, and none behind them
+pub record KeepsOnly (name : List ℕ) (es : List Entry) (v w : Contents) : Type 0 where
+  pub keeps : KeepsEntries name es v w
+  pub none : (c : List ℕ) → IsImage keeps.table c → listed name c ≡ Ok es
+
+-- What is left of a dataset that was opened and over which no lane ran: it wasn't damaged, and lists what it listed.
+pub record LeavesOpened (name : List ℕ) (v w : Contents) : Type 0 where
+  pub undamaged : IsUndamaged name v
+  pub lists : (es : List Entry) → ListsIn name es v.table → KeepsOnly name es v w
+
+-- What is left of a store where no lane ran over a dataset of it: all else is as it was. The dataset was looked into, and has its
+-- files, and its table as it was, or synced, or one that was founded and lists nothing; or it was opened.
+pub record LeavesUnplayed (name : List ℕ) (h i : Holdings) : Type 0 where
+  pub others : SameBut name h i
+  pub dataset : KeepsFolder name (folder_at h name) (folder_at i name) ⊎ LeavesOpened name (folder_at h name) (folder_at i name)
 
 -- These files hold the batches, by alike, where these are listed.
 abbrev pub HoldBatches : (FileName → Option (List ℕ)) → Result (List Entry) NotATable → List (List Pair) → Type 0
@@ -73,10 +99,13 @@ module _ {F : Type 0} where
     pub images : (c : List ℕ) → IsImage table c → HoldBatches (folder_at i s.dataset).files (listed s.dataset c) (t ++ flushed)
         ⊎ HasOneMore s.dataset (folder_at i s.dataset).files c (t ++ flushed) (λ l. IsDoubt l before (all_acts rules messages legal.places s.lanes) ends)
 
-  -- The lanes of a script ran over a store that held h and holds i. The schema and the other datasets are as they were.
+  -- The lanes of a script ran over a store that held h and holds i. The schema and the other datasets are as they were. The
+  -- script's dataset wasn't damaged, and has the entries that it listed, whatever their files hold.
   pub record Played (rules : List Rule) (messages : List (List ℕ)) (s : Scripted) (before : ℕ) (ends : List (List (End F))) (h i : Holdings) : Type 0 where
     pub others : SameBut s.dataset h i
     pub over : (t : List (List Pair)) → held_of h s.dataset ≡ Some t → PlayedOver rules messages s before ends t i
+    pub undamaged : IsUndamaged s.dataset (folder_at h s.dataset)
+    pub entries : (es : List Entry) → ListsIn s.dataset es (folder_at h s.dataset).table → KeepsEntries s.dataset es (folder_at h s.dataset) (folder_at i s.dataset)
 
 -- The lanes ran over an open dataset, which then went back to the store with its archivers.
 pub record PlayedOpen {F D H : Type 0} (has : D → Option Contents) (kept : H → Option (FileName → Option (List ℕ))) (rules : List Rule) (messages : List (List ℕ)) (s : Scripted) (before : ℕ) (ends : List (List (End F))) (b : BoardId) (h : OpenDataset D) (old new : Option Holdings) : Type 0 where
@@ -107,7 +136,9 @@ IsPlain (faults.Damaged d) = ⊥
 IsPlain (faults.TooMany count) = ⊥
 IsPlain faults.NoMemory = Unit {0}
 
--- An open dataset went back to the store, which holds of it what it held, and all else as it was.
+-- An open dataset went back to the store, which holds of it what it held, and all else as it was. It lists what the pass had seen.
 pub record HoldsOpened {D : Type 0} (has : D → Option Contents) (h : OpenDataset D) (s t : Holdings) : Type 0 where
   pub schema : t.schema ≡ s.schema
+  pub others : (other : List ℕ) → other ≢ h.name → t.folders other ≡ s.folders other
+  pub left : (p : Seated) → h.pass ≡ Some p → (v : Contents) × (has h.folder ≡ Some v) × KeepsOnly h.name (entries_of p.view.history) v (folder_at t h.name)
   pub each : (name : List ℕ) → held_of t name ≡ held_with has (h ∷ []) s name

@@ -7,7 +7,7 @@ ghost use Rattle.fd_turn.specs.Passes.{BoardId, IsOf};
 ghost use Rattle.fd_library.specs.Answers.{IsOpened};
 ghost use Rattle.fd_library.specs.Open.{IsWhole, OpenDataset, OutAre, seat_of};
 ghost use Rattle.fd_lanes.specs.Acts.{ArePlaces, LanesFit};
-ghost use Rattle.fd_play.specs.Plays.{HoldsOpened, HoldsSame, IsPlain, IsUnopened, Played, PlayedOpen};
+ghost use Rattle.fd_play.specs.Plays.{HoldsOpened, HoldsSame, IsPlain, LeavesUnplayed, IsUnopened, Played, PlayedOpen};
 ghost use Rattle.fd_play.specs.Staff.{HandsBack, IsSole, Staffs};
 
 use crate::staff::{Archivers, add_archivers, hand_back};
@@ -130,7 +130,7 @@ where
 /// Runs the lanes of a script over the dataset of its text, which is founded where it has no table, and gives all back.
 ///
 /// After an `Err` no lane has run, and each dataset holds what it held: memory or a call of the store was refused, or what
-/// the dataset has is damaged.
+/// the dataset has is damaged. A crash then leaves what a crash before may have left, or of the dataset what it held.
 pub fn play<F: Send + Drop, S: Store<F>, G: Gate, R: Threads + Wait + Sync>(
     rt: &R,
     alloc: Global,
@@ -149,6 +149,7 @@ where
     ensures home { (name : List ℕ) → S.out store.new name ≡ false }
     ensures played { IfOk result (λ t. WhereTold (S.has store.old) (S.has store.new) (Played schema.now messages.now script.now t.before t.lanes)) }
     ensures idle { OnErr result (WhereTold (S.has store.old) (S.has store.new) HoldsSame) }
+    ensures left { OnErr result (WhereTold (S.has store.old) (S.has store.new) (LeavesUnplayed script.now.dataset)) }
     ensures refused { IfErr result (λ e. IfSome (S.has store.old) (IsUnopened script.now.dataset e)) }
     ensures later { S.faults store.old ≤ S.faults store.new }
 {

@@ -3,15 +3,28 @@ use Rattle.std.specs.Prelude.{◌≡◌, ◌⊎◌, ℕ, List, None, IfSome, Mat
 use Rattle.fd_disk.specs.Folders.{Holdings, WhereTold}
 use Rattle.fd_io.specs.Streams.{Takes}
 use Rattle.fd_words.specs.Words.{command_of}
+use Rattle.fd_words.specs.declared.command.Command.{Command}
 use Rattle.fd_outcome.specs.declared.status.Status.{Status}
 use Rattle.fd_outcome.specs.declared.status.Status.TheVariants.{Done, Missed, Words, InputFault, OutputFault, DiskFault}
 use Rattle.fd_outcome.specs.Causes.{table_full}
 use Rattle.fd_outcome.specs.Codes.{code_of}
-use Rattle.fd_outcome.specs.Ends.{Runs, EndsUnasked, ReadsOut, Calm, Completes, Leaves}
+use Rattle.fd_outcome.specs.Ends.{Runs, EndsUnasked, ReadsOut, StoresFields, Calm, Completes, Leaves}
+use Rattle.fd_outcome.specs.Noticing.{Notices, ReadsFitly, SparesDamaged}
 use Rattle.fd_outcome.specs.Objects.{Failed, Object}
+use Rattle.fd_outcome.specs.Ran.{Ran}
 use Rattle.fd_archive.specs.Crashing.{OutlastsCrash}
 use Rattle.fd_contents.specs.Cubing.{CubesRan, OfCubes}
 use Rattle.fd_session.specs.Sessions.{OfSession, SessionRan}
+
+-- What a command has done.
+pub record CommandRan (F : Type 0) (command : Command) (s : Status) (store : Object Holdings) (input output report : Object (List ℕ)) : Type 0 where
+  pub ran : Ran command s store input output report
+  pub session : OfSession command (SessionRan F s store input output report)
+  pub cubes : OfCubes command (λ root. CubesRan root s store input output report)
+  pub notices : Notices command s store input output report
+  pub unread : ReadsFitly command store input
+  pub spares : StoresFields command → WhereTold store.before store.now SparesDamaged
+  pub outlasts : OutlastsCrash command s store input report
 
 -- A run that ended with this status: what `fdb` promises of it.
 pub record Served (F : Type 0) (words : List (List ℕ)) (s : Status) (store : Object Holdings) (input output report : Object (List ℕ)) : Type 0 where
@@ -23,6 +36,9 @@ pub record Served (F : Type 0) (words : List (List ℕ)) (s : Status) (store : O
   pub complete : ¬ (Failed input) → ¬ (Failed output) → ¬ (Failed report) → ¬ (Failed store) → IfSome (command_of words) (λ command. Completes command s input.before store.before store.now)
   pub session : IfSome (command_of words) (λ command. OfSession command (SessionRan F s store input output report))
   pub cubes : IfSome (command_of words) (λ command. OfCubes command (λ root. CubesRan root s store input output report))
+  pub notices : IfSome (command_of words) (λ command. Notices command s store input output report)
+  pub unread : IfSome (command_of words) (λ command. ReadsFitly command store input)
+  pub spares : IfSome (command_of words) (λ command. StoresFields command → WhereTold store.before store.now SparesDamaged)
   pub outlasts : IfSome (command_of words) (λ command. OutlastsCrash command s store input report)
   pub input_fault : s ≡ InputFault → Failed input
   pub output_fault : s ≡ OutputFault → Failed output ⊎ Failed report

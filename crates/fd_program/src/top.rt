@@ -4,14 +4,15 @@ ghost use Rattle.fd_bytes.specs.Causes.{Rose};
 ghost use Rattle.fd_disk.specs.Folders.{WhereTold};
 ghost use Rattle.fd_words.specs.Texts.{texts};
 ghost use Rattle.fd_words.specs.Words.{command_of, IsWithinLimits};
-ghost use Rattle.fd_outcome.specs.Ends.{Runs, EndsUnasked, ReadsOut, Calm, Completes, Leaves};
+ghost use Rattle.fd_outcome.specs.Ends.{Runs, EndsUnasked, ReadsOut, StoresFields, Calm, Completes, Leaves};
 ghost use Rattle.fd_io.specs.Streams.{Takes};
 ghost use Rattle.fd_outcome.specs.Causes.{table_full};
 ghost use Rattle.fd_outcome.specs.Objects.{object};
-ghost use Rattle.fd_outcome.specs.Ran.{Ran};
+ghost use Rattle.fd_outcome.specs.Noticing.{Notices, ReadsFitly, SparesDamaged};
 ghost use Rattle.fd_archive.specs.Crashing.{OutlastsCrash};
 ghost use Rattle.fd_contents.specs.Cubing.{CubesRan, OfCubes};
 ghost use Rattle.fd_session.specs.Sessions.{OfSession, SessionRan};
+ghost use Rattle.fd_program.specs.Served.{CommandRan};
 
 use fd_archive::archive;
 use fd_contents::{axes, cubes, list, stats};
@@ -88,6 +89,9 @@ where
         → ¬ (Rose (S.faults store.old) (S.faults store.new))
         → IfSome (command_of (texts words.now)) (λ command. Completes command result (I.left input.old) (S.has store.old) (S.has store.new)) }
 
+    // A dataset that is damaged so has its files after a command that stores fields, and its table as it was, or synced.
+    ensures spares { IfSome (command_of (texts words.now)) (λ command. StoresFields command → WhereTold (S.has store.old) (S.has store.new) SparesDamaged) }
+
     // A session of a script: why no lane ran, or how the steps of its lanes ended, over the table before and the batches that
     // were listed, and what the store holds then.
     ensures session { IfSome (command_of (texts words.now)) (λ command. OfSession command (SessionRan F result (object (S.has store.old) (S.has store.new) (S.faults store.old) (S.faults store.new)) (object (I.left input.old) (I.left input.new) (I.faults input.old) (I.faults input.new)) (object (K.taken output.old) (K.taken output.new) (K.faults output.old) (K.faults output.new)) (object (E.taken report.old) (E.taken report.new) (E.faults report.old) (E.faults report.new)))) }
@@ -95,6 +99,13 @@ where
     // The cubes that are printed: each key that matches is a key of exactly one of the lines, and the lines have no others; they
     // stand in byte order, each is read as the request that its cube is, and no two of the cubes can be joined. Or why there are none.
     ensures cubes { IfSome (command_of (texts words.now)) (λ command. OfCubes command (λ root. CubesRan root result (object (S.has store.old) (S.has store.new) (S.faults store.old) (S.faults store.new)) (object (I.left input.old) (I.left input.new) (I.faults input.old) (I.faults input.new)) (object (K.taken output.old) (K.taken output.new) (K.faults output.old) (K.faults output.new)) (object (E.taken report.old) (E.taken report.new) (E.faults report.old) (E.faults report.new)))) }
+
+    // At 0 and 1, also where a dataset that it opens is damaged: of none of them the table is none, or a file absent or too short, or an
+    // index of another digest, since these are told; and each key, or each dataset, of a sound dataset is answered by that.
+    ensures notices { IfSome (command_of (texts words.now)) (λ command. Notices command result (object (S.has store.old) (S.has store.new) (S.faults store.old) (S.faults store.new)) (object (I.left input.old) (I.left input.new) (I.faults input.old) (I.faults input.new)) (object (K.taken output.old) (K.taken output.new) (K.faults output.old) (K.faults output.new)) (object (E.taken report.old) (E.taken report.new) (E.faults report.old) (E.faults report.new))) }
+
+    // Where the stored schema doesn't let the command begin, nothing of the input is read.
+    ensures unread { IfSome (command_of (texts words.now)) (λ command. ReadsFitly command (object (S.has store.old) (S.has store.new) (S.faults store.old) (S.faults store.new)) (object (I.left input.old) (I.left input.new) (I.faults input.old) (I.faults input.new))) }
 
     // What an archive or a trial tells to be stored outlasts a crash: each store that it may leave has it. And whatever is told,
     // each dataset holds there what it held, and behind it few batches of the messages alone.
@@ -136,10 +147,7 @@ where
     S::Folder: Renew<F>,
     requires home { (name : List ℕ) → S.out store.old name ≡ false }
     requires within { IsWithinLimits command.now }
-    ensures ran { Ran command.now result (object (S.has store.old) (S.has store.new) (S.faults store.old) (S.faults store.new)) (object (I.left input.old) (I.left input.new) (I.faults input.old) (I.faults input.new)) (object (K.taken output.old) (K.taken output.new) (K.faults output.old) (K.faults output.new)) (object (E.taken report.old) (E.taken report.new) (E.faults report.old) (E.faults report.new)) }
-    ensures session { OfSession command.now (SessionRan F result (object (S.has store.old) (S.has store.new) (S.faults store.old) (S.faults store.new)) (object (I.left input.old) (I.left input.new) (I.faults input.old) (I.faults input.new)) (object (K.taken output.old) (K.taken output.new) (K.faults output.old) (K.faults output.new)) (object (E.taken report.old) (E.taken report.new) (E.faults report.old) (E.faults report.new))) }
-    ensures cubes { OfCubes command.now (λ root. CubesRan root result (object (S.has store.old) (S.has store.new) (S.faults store.old) (S.faults store.new)) (object (I.left input.old) (I.left input.new) (I.faults input.old) (I.faults input.new)) (object (K.taken output.old) (K.taken output.new) (K.faults output.old) (K.faults output.new)) (object (E.taken report.old) (E.taken report.new) (E.faults report.old) (E.faults report.new))) }
-    ensures outlasts { OutlastsCrash command.now result (object (S.has store.old) (S.has store.new) (S.faults store.old) (S.faults store.new)) (object (I.left input.old) (I.left input.new) (I.faults input.old) (I.faults input.new)) (object (E.taken report.old) (E.taken report.new) (E.faults report.old) (E.faults report.new)) }
+    ensures did { CommandRan F command.now result (object (S.has store.old) (S.has store.new) (S.faults store.old) (S.faults store.new)) (object (I.left input.old) (I.left input.new) (I.faults input.old) (I.faults input.new)) (object (K.taken output.old) (K.taken output.new) (K.faults output.old) (K.faults output.new)) (object (E.taken report.old) (E.taken report.new) (E.faults report.old) (E.faults report.new)) }
     ensures home { (name : List ℕ) → S.out store.new name ≡ false }
 {
     match command {

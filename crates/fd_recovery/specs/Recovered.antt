@@ -10,7 +10,7 @@ use Rattle.fd_entries.specs.declared.table.Entry.{Entry}
 use Rattle.fd_entries.specs.declared.table.NotATable.{NotATable}
 use Rattle.fd_entries.specs.Table.{listed}
 use Rattle.fd_segment.specs.Held.{Files, Standing, batch_of}
-use Rattle.fd_recovery.specs.Damages.{field_file, index_file}
+use Rattle.fd_recovery.specs.Damages.{damages, field_file, index_file}
 
 -- the two files of an entry
 abbrev pub files_of : (FileName → Option (List ℕ)) → Entry → Files
@@ -31,6 +31,10 @@ pub record AreTakenUp (dataset : List ℕ) (has : Option Contents) (es : List En
 -- the folder with its table firm as it reads
 abbrev pub with_firm_table : Contents → Contents
 with_firm_table v = record { table = option_map synced v.table; files = v.files }
+
+-- Nothing is wrong with the table of a dataset, nor with the files of the entries that it lists. A dataset without a table has none.
+abbrev pub IsUndamaged : List ℕ → Contents → Type 0
+IsUndamaged name v = IfSome v.table (λ f. (es : List Entry) × (listed name f.reads ≡ Ok es) × (damages v.files es ≡ []))
 
 -- one of the entries has a digest
 abbrev pub SomeDigest : List Entry → Type 0

@@ -2,12 +2,15 @@ pub mod Staying
 pub mod Looking
 pub mod TableLemmas
 pub mod OpenLemmas
+pub mod Undamaged
 pub mod DatasetLemmas
 pub mod DamageLemmas
 pub mod ReadyLemmas
 pub mod RequestLemmas
+pub mod Unread
 pub mod AnsweringLemmas
 pub mod LocatingLemmas
+pub mod Noticing
 pub mod CopiedLemmas
 pub mod PrepareLemmas
 pub mod CountingLemmas

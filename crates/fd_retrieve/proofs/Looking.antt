@@ -25,7 +25,7 @@ table_later a b c (inl e) (inr f) = inr (f ∙ ap (option_map synced) e)
 table_later a b c (inr e) (inl f) = inr (f ∙ e)
 table_later a b c (inr e) (inr f) = inr (f ∙ ap (option_map synced) e ∙ synced_twice a)
 
-looked_later : (u v w : Contents) → IsLookedAt u v → IsLookedAt v w → IsLookedAt u w
+pub looked_later : (u v w : Contents) → IsLookedAt u v → IsLookedAt v w → IsLookedAt u w
 looked_later u v w a b = record { files = b.files ∙ a.files; table = table_later u.table v.table w.table a.table b.table }
 
 -- a folder that came back was looked into, as far as it tells

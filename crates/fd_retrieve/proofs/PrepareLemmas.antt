@@ -8,6 +8,7 @@ use Rattle.std.proofs.lemmas.List.{length-map}
 use Rattle.std.proofs.Math.Seq.{take-suc}
 use Rattle.std.proofs.lemmas.List.Elements.{All-nil, All-cons, All-head, All-tail}
 use Rattle.fd_disk.specs.Folders.{Holdings, WhereTold, folder_at}
+use Rattle.fd_recovery.specs.Recovered.{IsUndamaged}
 use Rattle.fd_schema.specs.Rules.{Rule}
 use Rattle.fd_schema.specs.declared.place.Place.{Place}
 use Rattle.fd_request.specs.Expansion.{Keyword, expand}
@@ -18,14 +19,14 @@ use Rattle.fd_outcome.specs.Store.{Stays, has_table, table_at}
 use Rattle.fd_telling.specs.declared.stop.Stop.{Stop}
 use Rattle.fd_telling.specs.declared.stop.Stop.TheVariants as stops
 use Rattle.fd_retrieve.specs.Open.{IsOpenIn, Open, table_in}
-use Rattle.fd_retrieve.specs.Ready.{AreOpen, IsBrokenOf, IsReady, MayOpen, asked_at, placed_of}
+use Rattle.fd_retrieve.specs.Ready.{AreOpen, IsBrokenOf, IsReady, MayOpen, NoneIsDamaged, asked_at, placed_of}
 use Rattle.fd_telling.specs.Stops.{IsOfRequest, IsRefused, LacksRule, NotRefused, OnRequest, OnTooMany, Says, seen_broken}
 use Rattle.fd_telling.proofs.StopLemmas.{many_says, on_many, request_stop, says_of}
 use Rattle.fd_retrieve.specs.Tables.{AreTables, MayAdd, datasets_in}
 use Rattle.fd_retrieve.proofs.OpenLemmas.{get_or_map}
-use Rattle.fd_retrieve.proofs.Staying.{open_before, same_tables, stands_before}
+use Rattle.fd_retrieve.proofs.Staying.{open_before, same_tables, stands_before, undamaged_before}
 use Rattle.fd_retrieve.proofs.TableLemmas.{tables_more, tables_none, too_many}
-use Rattle.fd_retrieve.proofs.ReadyLemmas.{asked_is, beyond, contains_among, datasets_at, named_among, none_open, open_more, same_answers, table_is, within}
+use Rattle.fd_retrieve.proofs.ReadyLemmas.{asked_is, beyond, contains_among, datasets_at, named_among, none_damaged, none_damaged_more, none_open, open_more, same_answers, table_is, within}
 
 pub take_more : {A B : Type 0} (f : A → B) (xs : List A) (i : ℕ) (x : A) → i < length xs → x ≡ get_or xs i x → take (i + 1) (map f xs) ≡ take i (map f xs) ++ f x ∷ []
 take_more f xs i x inside is =
@@ -108,6 +109,20 @@ pub open_told_more : (old mid : Option Holdings) (names : List (List ℕ)) (os a
 open_told_more None mid names os after name stays so_far opened = tt
 open_told_more (Some h) None names os after name stays so_far opened = absurd stays
 open_told_more (Some h) (Some i) names os after name stays so_far opened = open_more h names os after name so_far (opened_before h i os name after stays opened)
+
+-- none of no datasets is damaged
+pub none_start : (has : Option Holdings) → IfSome has (λ h. NoneIsDamaged h [])
+none_start None = tt
+none_start (Some h) = λ n among. absurd cc
+
+pub none_told_more : (old mid : Option Holdings) (names : List (List ℕ)) (name : List ℕ) → WhereTold old mid Stays → IfSome old (λ h. NoneIsDamaged h names) → IfSome mid (λ h. IsUndamaged name (folder_at h name))
+    → IfSome old (λ h. NoneIsDamaged h (names ++ name ∷ []))
+none_told_more None mid names name stays so_far one = tt
+none_told_more (Some h) None names name stays so_far one = absurd stays
+none_told_more (Some h) (Some i) names name stays so_far one = none_damaged_more h names name so_far (undamaged_before name (folder_at h name) (folder_at i name) (stays.folders name) one)
+
+pub none_before : (h i : Holdings) (names : List (List ℕ)) → Stays h i → NoneIsDamaged i names → NoneIsDamaged h names
+none_before h i names stays sound n among = undamaged_before n (folder_at h n) (folder_at i n) (stays.folders n) (sound n among)
 
 broken_in : {F : Type 0} (stop : Stop F) (h i : Holdings) (few names : List (List ℕ)) → Stays h i → ((n : List ℕ) → is_among few n ≡ true → is_among names n ≡ true) → IsBrokenOf stop i few → IsBrokenOf stop h names
 broken_in (stops.Disk f) h i few names stays more b = tt
@@ -201,12 +216,14 @@ module _ (h : Holdings) (octets : List ℕ) (ks : List Keyword) (ps : List Place
     among_so : (name : List ℕ) → is_among names name ≡ true → AmongAsked (asked_of h octets) name
     among_so name is = subst (λ r. AmongAsked r name) (sym asked_so) (subst (λ ds. Contains ds name) (sym datasets_are) (contains_among (datasets_in ps) name (named_among h (datasets_in ps) names name tables is)))
 
-    ready_of : (os : List Open) → AreOpen h names os → IsReady h octets ks ps os
-    ready_of os opens = record {
+    ready_of : (os : List Open) → AreOpen h names os → NoneIsDamaged h names → IsReady h octets ks ps os
+    ready_of os opens sound = record {
       asked = asked_so;
       answered = same_answers (table_in os) (table_at h) (expand ks) ps (λ d among. table_is h (datasets_in ps) names os d tables opens among);
       each = opens.each;
       among = λ n there. named_among h (datasets_in ps) names n tables (opens.from n there);
+      tables = λ d among. table_is h (datasets_in ps) names os d tables opens among;
+      undamaged = none_damaged h (datasets_in ps) names tables sound;
     }
 
 -- one of the datasets that are opened is broken
@@ -248,11 +265,11 @@ opens_in h i names os stays opens = record {
     each (x ∷ xs) all = All-cons (IsOpenIn h) x xs (open_before h i x stays (All-head (IsOpenIn i) x xs all)) (each xs (All-tail (IsOpenIn i) x xs all))
 
 pub ready_told : (has mid : Option Holdings) (left : Option (List ℕ)) (ks : List Keyword) (ps : List Place) (names : List (List ℕ)) (os : List Open) → length ps ≡ length (expand ks) → IfSome has (λ h. IfSome left (λ octets. placed_of h octets ≡ Ok (asked_at ks ps)))
-    → IfSome has (λ h. AreTables h (datasets_in ps) names) → length names ≤ 2048 → WhereTold has mid Stays → IfSome mid (λ h. AreOpen h names os) → IfSome has (λ h. IfSome left (λ octets. IsReady h octets ks ps os))
-ready_told None mid left ks ps names os long is tables few stays opens = tt
-ready_told (Some h) mid None ks ps names os long is tables few stays opens = tt
-ready_told (Some h) None (Some octets) ks ps names os long is tables few stays opens = absurd stays
-ready_told (Some h) (Some i) (Some octets) ks ps names os long is tables few stays opens = ready_of h octets ks ps long is names tables few os (opens_in h i names os stays opens)
+    → IfSome has (λ h. AreTables h (datasets_in ps) names) → length names ≤ 2048 → WhereTold has mid Stays → IfSome mid (λ h. AreOpen h names os) → IfSome mid (λ h. NoneIsDamaged h names) → IfSome has (λ h. IfSome left (λ octets. IsReady h octets ks ps os))
+ready_told None mid left ks ps names os long is tables few stays opens sound = tt
+ready_told (Some h) mid None ks ps names os long is tables few stays opens sound = tt
+ready_told (Some h) None (Some octets) ks ps names os long is tables few stays opens sound = absurd stays
+ready_told (Some h) (Some i) (Some octets) ks ps names os long is tables few stays opens sound = ready_of h octets ks ps long is names tables few os (opens_in h i names os stays opens) (none_before h i names stays sound)
 
 pub broken_all : {F : Type 0} (stop : Stop F) (has mid : Option Holdings) (names : List (List ℕ)) → WhereTold has mid Stays → IfSome mid (λ h. IsBrokenOf stop h names) → IfSome has (λ h. IsBrokenOf stop h names)
 broken_all stop has mid names stays b = broken_told stop has mid names names stays (λ n is. is) b

@@ -1,5 +1,5 @@
 -- The datasets of a request's places, and what they answer.
-use Rattle.std.proofs.Common.{◌≡◌, ◌⊎◌, ◌∙◌, ◌≤◌, ◌<◌, ◌||◌, ℕ, suc, Bool, true, false, List, [], ◌∷◌, ◌++◌, length, map, filter, All, IfSome, Option, Some, None, refl, sym, ap, subst, inl, inr, arith, if◌then◌else◌}
+use Rattle.std.proofs.Common.{◌≡◌, ◌⊎◌, ◌∙◌, ◌≤◌, ◌<◌, ◌||◌, ℕ, zero, suc, Bool, true, false, List, [], ◌∷◌, ◌++◌, length, map, filter, All, IfSome, Option, Some, None, refl, sym, ap, subst, inl, inr, arith, if◌then◌else◌}
 use mathlib.Core.List.{map-append}
 use Rattle.std.specs.Prelude.{Contains, Result, Ok, Err, slice_get, option_map, is_some, nat_lt}
 use Rattle.std.specs.Str.{bytes_eq}
@@ -12,7 +12,10 @@ use Rattle.fd_disk.specs.Folders.{Holdings, folder_at}
 use Rattle.fd_disk.proofs.NameLemmas.{is_or_not}
 use Rattle.fd_entries.specs.declared.batch.Pair as batches
 use Rattle.fd_entries.specs.Batches.{newest}
-use Rattle.fd_recovery.specs.Recovered.{held_by}
+use Rattle.fd_entries.specs.declared.table.Entry.{Entry}
+use Rattle.fd_entries.specs.Table.{listed}
+use Rattle.fd_recovery.specs.Damages.{damages}
+use Rattle.fd_recovery.specs.Recovered.{IsUndamaged, held_by}
 use Rattle.fd_key.specs.Pairs.{Pair}
 use Rattle.fd_schema.specs.declared.place.Place.{Place}
 use Rattle.fd_schema.specs.Reading.{seen_place}
@@ -31,7 +34,7 @@ use Rattle.fd_telling.specs.Stops.{LacksPlace, LacksRule, seen_broken}
 use Rattle.fd_retrieve.proofs.AnsweringLemmas.{there_is}
 use Rattle.fd_retrieve.specs.Finding.{asked_of_all}
 use Rattle.fd_retrieve.specs.Open.{IsOpenIn, Open, StandsAsSaid, names_of, table_in, table_of}
-use Rattle.fd_retrieve.specs.Ready.{AreOpen, IsBrokenAs, IsBrokenOf, IsUnopened, MayOpen, placed_of}
+use Rattle.fd_retrieve.specs.Ready.{AreOpen, IsBrokenAs, IsBrokenOf, IsUnopened, MayOpen, NoneIsDamaged, placed_of}
 use Rattle.fd_retrieve.specs.Tables.{AreTables, datasets_in}
 
 -- ---- the places of keys
@@ -121,6 +124,15 @@ contains_among (x ∷ xs) d is = elim (is_or_not (bytes_eq d x)) [
   | inl same ↦ (0, omega arith, sym ((bytes_eq-Decides d x).0 same))
   | inr differs ↦ let later = contains_among xs d (sym (ap (λ b. b || is_among xs d) differs) ∙ is) in (suc later.0, (let lt = later.1 in omega (arith, lt)), later.2)
 ]
+
+pub among_contained : (ds : List (List ℕ)) (d : List ℕ) → Contains ds d → is_among ds d ≡ true
+among_contained [] d (k, lt, e) = absurd (omega (arith, lt))
+among_contained (x ∷ xs) d (zero, lt, e) = ap (λ b. b || is_among xs d) ((bytes_eq-Decides d x).1 (sym e))
+among_contained (x ∷ xs) d (suc k, lt, e) = or_true (bytes_eq d x) (is_among xs d) (among_contained xs d (k, omega (arith, lt), e))
+  where
+    or_true : (a b : Bool) → b ≡ true → (a || b) ≡ true
+    or_true true b q = refl
+    or_true false b q = q
 
 module _ (h : Holdings) where
   among_found : (ds : List (List ℕ)) (d : List ℕ) → is_among ds d ≡ true → has_table h d ≡ true → is_among (filter (has_table h) ds) d ≡ true
@@ -232,6 +244,28 @@ module _ (h : Holdings) where
           | inr no_one ↦ no_one
         ] in
         closed_table os d out ∙ sym (no_table d none)
+  ]
+
+  -- ---- which of them are damaged
+
+  undamaged_bare : (d : List ℕ) → has_table h d ≡ false → IsUndamaged d (folder_at h d)
+  undamaged_bare d none = go (folder_at h d).table none
+    where
+      go : (t : Option File) → is_some t ≡ false → IfSome t (λ f. (es : List Entry) × (listed d f.reads ≡ Ok es) × (damages (folder_at h d).files es ≡ []))
+      go None e = tt
+      go (Some f) e = absurd cc
+
+  -- none of those that have a table, and so none at all
+  pub none_damaged : (ds names : List (List ℕ)) → AreTables h ds names → NoneIsDamaged h names → NoneIsDamaged h ds
+  none_damaged ds names tables sound d among = elim (is_or_not (has_table h d)) [
+    | inl has ↦ sound d (tables.same d ∙ among_found ds d among has)
+    | inr none ↦ undamaged_bare d none
+  ]
+
+  pub none_damaged_more : (names : List (List ℕ)) (name : List ℕ) → NoneIsDamaged h names → IsUndamaged name (folder_at h name) → NoneIsDamaged h (names ++ name ∷ [])
+  none_damaged_more names name so_far one n among = elim (or_either (is_among names n) (bytes_eq n name) (sym (among_last names name n) ∙ among)) [
+    | inl old ↦ so_far n old
+    | inr new ↦ subst (λ m. IsUndamaged m (folder_at h m)) (sym ((bytes_eq-Decides n name).0 new)) one
   ]
 
   -- ---- what is asked

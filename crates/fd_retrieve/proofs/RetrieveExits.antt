@@ -1,5 +1,5 @@
 -- The exits of `retrieve`.
-use Rattle.std.proofs.Common.{◌≡◌, ◌∙◌, ◌≤◌, ℕ, Bool, true, false, List, [], ◌∷◌, ◌++◌, length, take, Option, Some, None, refl, sym, ap, subst, inl, inr, append-nil, arith}
+use Rattle.std.proofs.Common.{◌≡◌, ◌∙◌, ◌≤◌, ℕ, Bool, true, false, List, [], ◌∷◌, ◌++◌, length, take, Option, Some, None, refl, sym, ap, subst, inl, inr, append-nil}
 use Rattle.std.specs.Prelude.{◌⊎◌, IfSome, option_map, nat_lt, if◌then◌else◌}
 use Rattle.fd_bytes.specs.Causes.{Rose}
 use Rattle.fd_io.specs.Streams.{Takes}
@@ -9,15 +9,15 @@ use Rattle.fd_words.specs.declared.command.Command.{Command}
 use Rattle.fd_outcome.specs.declared.status.Status.{Status}
 use Rattle.fd_outcome.specs.declared.status.Status.TheVariants.{Done, Missed, Words, Refused, InputFault, OutputFault, DiskFault, NoMemory, Damaged, Limit}
 use Rattle.fd_outcome.specs.Asking.{Answer, count_found, count_missed, counts_line, found_bytes, miss_lines}
-use Rattle.fd_outcome.specs.Ends.{Calm, Ends, IsBroken, Leaves, ReadsOut, Troubles, UsesStore, disk_failed, no_memory, output_failed, troubles}
+use Rattle.fd_outcome.specs.Ends.{Calm, Ends, IsBroken, Leaves, ReadsOut, Tells, Troubles, UsesStore, disk_failed, no_memory, output_failed, troubles}
 use Rattle.fd_outcome.specs.Objects.{Failed, Failures, IsCalm, Object, failures, object}
 use Rattle.fd_outcome.specs.Outcome.{answered, answered_early, early, nothing_early, outcome}
 use Rattle.fd_outcome.specs.Ran.{Ran}
-use Rattle.fd_outcome.specs.Store.{Stands, Stays}
+use Rattle.fd_outcome.specs.Store.{IsLookedThrough, Stands}
 use Rattle.fd_outcome.specs.Told.{Told, ToldOrNoMemory}
 use Rattle.fd_outcome.proofs.Endings.{CanStop, CanTell, Reached, ends_early, ends_on_the_way, ends_told, ends_unwritten, nothing_of, takes_both}
 use Rattle.fd_outcome.proofs.AnyCommand.{Seen, ran_of, told_of}
-use Rattle.fd_outcome.proofs.Exits.{apart, is_disk_fault, is_input_fault, is_output_fault, is_whole, is_words}
+use Rattle.fd_outcome.proofs.Exits.{apart, is_disk_fault, is_input_fault, is_output_fault, is_whole, is_words, never_whole}
 use Rattle.fd_retrieve.specs.Finding.{IsAnswered, IsAnsweredInPart, TookSome}
 use Rattle.fd_retrieve.specs.Commands.{Begins, IsReadyFor, retrieving}
 use Rattle.std.specs.Prelude.{slice_get}
@@ -137,14 +137,14 @@ module _ (root : List ℕ) (over : Option (List (List keys.Pair))) (workers : �
       go None e = e
       go (Some layers) e = e
 
-  leaves : (s : Status) (calm full : Type 0) (input left : Option (List ℕ)) (before now : Option Holdings) → WhereTold before now Stays → WhereTold before now (Leaves Cmd s calm full input left)
+  leaves : (s : Status) (calm full : Type 0) (input left : Option (List ℕ)) (before now : Option Holdings) → WhereTold before now IsLookedThrough → WhereTold before now (Leaves Cmd s calm full input left)
   leaves s calm full input left before now = go over
     where
-      go : (o : Option (List (List keys.Pair))) → WhereTold before now Stays → WhereTold before now (Leaves (retrieving root o workers) s calm full input left)
+      go : (o : Option (List (List keys.Pair))) → WhereTold before now IsLookedThrough → WhereTold before now (Leaves (retrieving root o workers) s calm full input left)
       go None e = e
       go (Some layers) e = e
 
-  module _ (store : Object Holdings) (input output report : Object (List ℕ)) (result : Status) (stays : WhereTold store.before store.now Stays) where
+  module _ (store : Object Holdings) (input output report : Object (List ℕ)) (result : Status) (looks : WhereTold store.before store.now IsLookedThrough) where
     abbrev pub Fs : Failures
     Fs = failures store input output report
 
@@ -157,14 +157,14 @@ module _ (root : List ℕ) (over : Option (List (List keys.Pair))) (workers : �
         → Calm Cmd result input output report → (((result ≡ Done) ⊎ (result ≡ Missed)) → IfSome input.before (λ octets. input.now ≡ Some [])) → Ran Cmd result store input output report
     ran_by ends words input_fault output_fault disk_fault calm read =
         ran_of Cmd uses store input output report result (λ octets h i names d e f an. ends octets h i names (seen input.before octets d) e) words input_fault output_fault disk_fault calm
-        (leaves result (¬ (Failed store)) (Takes report.before report.now table_full) input.before input.now store.before store.now stays) (λ w. reads input.before input.now (read w))
+        (leaves result (¬ (Failed store)) (Takes report.before report.now table_full) input.before input.now store.before store.now looks) (λ w. reads input.before input.now (read w))
 
     -- it tells such a status with its line
     pub told_by : (s : Status) (text : List ℕ) (mid : Option (List ℕ)) (m n : ℕ) (told : Told s text result mid report.now m n) (reported : Rose m n → Failed report) (words : is_words s ≡ false) (output_no : is_output_fault s ≡ false)
         (input_fault : s ≡ InputFault → Failed input) (disk : s ≡ DiskFault → Failed store) (calm : Calm Cmd s input output report) (read : ((s ≡ Done) ⊎ (s ≡ Missed)) → IfSome input.before (λ octets. input.now ≡ Some [])) → EndsSo → Ran Cmd result store input output report
     told_by s text mid m n told reported words output_no input_fault disk calm read ends =
         told_of Cmd uses store input output report result s text mid m n told reported words output_no input_fault disk (λ t. calm)
-        (leaves result (¬ (Failed store)) (Takes report.before report.now table_full) input.before input.now store.before store.now stays) (λ w. reads input.before input.now (read w))
+        (leaves result (¬ (Failed store)) (Takes report.before report.now table_full) input.before input.now store.before store.now looks) (λ w. reads input.before input.now (read w))
         (λ octets h i names d e f an. ends octets h i names (seen input.before octets d) e)
 
 whole_part : (xs : List Answer) (a b c d : Option (List ℕ)) (found missed : ℕ) → IsAnswered xs (length xs) a b c d found missed → IsAnsweredInPart xs a b c d
@@ -174,6 +174,39 @@ whole_part xs a b c d found missed w =
       output = (found_bytes xs, [], sym (append-nil (found_bytes xs)), subst (λ l. Takes a b (found_bytes l)) all w.output);
       report = (miss_lines xs, [], sym (append-nil (miss_lines xs)), subst (λ l. Takes c d (miss_lines l)) all w.report);
     }
+
+-- ---- what is told whole
+
+-- a line of another status than 0 and 1
+pub told_not_whole : (s result : Status) (text : List ℕ) (c d : Option (List ℕ)) (m n : ℕ) → is_whole s ≡ false → Told s text result c d m n → is_whole result ≡ false
+told_not_whole s result text c d m n other told = elim told.told as (λ _. is_whole result ≡ false) [ inl x ↦ ap is_whole x.status ∙ other | inr x ↦ ap is_whole x.status ]
+
+pub either_not_whole : (s result : Status) (text : List ℕ) (c d : Option (List ℕ)) (m n : ℕ) → is_whole s ≡ false → ToldOrNoMemory s text result c d m n → is_whole result ≡ false
+either_not_whole s result text c d m n other told = elim told as (λ _. is_whole result ≡ false) [ inl t ↦ told_not_whole s result text c d m n other t | inr t ↦ told_not_whole NoMemory result no_memory c d m n refl t ]
+
+-- the counts behind what was found and missed
+pub counted_tells : (xs : List Answer) (a b c mid d : Option (List ℕ)) (result : Status) (found missed m n : ℕ) → IsAnswered xs (length xs) a b c mid found missed → ToldOrNoMemory (counts_status missed) (counts_text found missed) result mid d m n
+    → (result ≡ Done) ⊎ (result ≡ Missed) → Tells result (answered xs) a b c d
+counted_tells xs a b c mid d result found missed m n w told whole = elim told as (λ _. Tells result (answered xs) a b c d) [
+  | inl t ↦ elim t.told as (λ _. Tells result (answered xs) a b c d) [
+    | inl x ↦ record {
+      status = x.status ∙ ap counts_status ms;
+      output = subst (λ l. Takes a b (found_bytes l)) all w.output;
+      report = subst (Takes c d) (ap (λ t. miss_lines xs ++ t) same) (takes_both c mid d (miss_lines xs) (counts_text found missed) (subst (λ l. Takes c mid (miss_lines l)) all w.report) x.took);
+    }
+    | inr x ↦ never_whole (Tells result (answered xs) a b c d) result (ap is_whole x.status) whole
+  ]
+  | inr t ↦ never_whole (Tells result (answered xs) a b c d) result (told_not_whole NoMemory result no_memory mid d m n refl t) whole
+]
+  where
+    all : take (length xs) xs ≡ xs
+    all = take_whole xs
+
+    ms : missed ≡ count_missed xs
+    ms = w.missed_is ∙ ap count_missed all
+
+    same : counts_text found missed ≡ counts_line xs
+    same = ap (λ k. counts_text k missed) (w.found_is ∙ ap count_found all) ∙ ap (λ k. counts_text (count_found xs) k) ms
 
 -- ---- the exits of a request that stands ready
 
@@ -203,8 +236,8 @@ module _ (root : List ℕ) (over : Option (List (List keys.Pair))) (workers : �
       subst (λ x. Ends Fs_ result x (early One h names octets) (troubles One Fs_ h i names octets) output.before output.now report.before report.now) (sym (ready.outcome_is names))
       (subst (λ x. Ends Fs_ result (option_map answered o) x (troubles One Fs_ h i names octets) output.before output.now report.before report.now) (sym (ready.early_is names)) e)
 
-  stays_now : WhereTold before now Stays
-  stays_now = subst (λ o. WhereTold before o Stays) (sym same) begins.stays
+  looks_now : WhereTold before now IsLookedThrough
+  looks_now = subst (λ o. WhereTold before o IsLookedThrough) (sym same) begins.looks
 
   abbrev pub CanHalt : Status → List ℕ → Type 0
   CanHalt s text = (octets : List ℕ) (h i : Holdings) (names : List (List ℕ)) → input.before ≡ Some octets → before ≡ Some h → CanStop Fs_ (troubles One Fs_ h i names octets) s text
@@ -213,7 +246,7 @@ module _ (root : List ℕ) (over : Option (List (List keys.Pair))) (workers : �
   pub halt_ran : (s : Status) (text : List ℕ) → Told s text result mid report.now k report.faults_now → is_words s ≡ false → is_output_fault s ≡ false → is_input_fault s ≡ false → is_whole s ≡ false → (s ≡ DiskFault → Failed Store_) → Calm One s input output report
       → CanHalt s text → Part → TookSome report.before mid → Out
   halt_ran s text told words output_no input_no whole disk calm can part some =
-      told_by root over workers Store_ input output report result stays_now s text mid k report.faults_now told (rose_later report.faults_before k report.faults_now sooner) words output_no (λ e. absurd (apart is_input_fault s InputFault input_no refl e)) disk calm (λ w. begins.read)
+      told_by root over workers Store_ input output report result looks_now s text mid k report.faults_now told (rose_later report.faults_before k report.faults_now sooner) words output_no (λ e. absurd (apart is_input_fault s InputFault input_no refl e)) disk calm (λ w. begins.read)
       (λ octets h i names e f. ends_at octets h i names (ready_at octets h e f)
       (stop_ends Fs_ (troubles One Fs_ h i names octets) output.before output.now report.before mid report.now o s result text k report.faults_now
       (can octets h i names e f) part some (rose_later report.faults_before k report.faults_now sooner) told))
@@ -230,7 +263,7 @@ module _ (root : List ℕ) (over : Option (List (List keys.Pair))) (workers : �
   pub unwritten_ran : Told OutputFault output_failed result mid report.now k report.faults_now → Failed output → Part → TookSome report.before mid → Out
   unwritten_ran told failed part some =
       let is : result ≡ OutputFault = elim told.told as (λ _. result ≡ OutputFault) [ inl x ↦ x.status | inr x ↦ x.status ] in
-      ran_by root over workers Store_ input output report result stays_now
+      ran_by root over workers Store_ input output report result looks_now
       (λ octets h i names e f. ends_at octets h i names (ready_at octets h e f)
       (unwritten_ends Fs_ (troubles One Fs_ h i names octets) output.before output.now report.before mid report.now o result k report.faults_now
       failed part some (rose_later report.faults_before k report.faults_now sooner) told))
@@ -242,7 +275,7 @@ module _ (root : List ℕ) (over : Option (List (List keys.Pair))) (workers : �
       → ((xs : List Answer) → o ≡ Some xs → IsAnswered xs (length xs) output.before output.now report.before mid found missed) → TookSome report.before mid → Out
   counted_ran found missed told calm whole some = elim told as (λ _. Out) [
     | inl t ↦
-        told_by root over workers Store_ input output report result stays_now (counts_status missed) (counts_text found missed) mid k report.faults_now t (rose_later report.faults_before k report.faults_now sooner)
+        told_by root over workers Store_ input output report result looks_now (counts_status missed) (counts_text found missed) mid k report.faults_now t (rose_later report.faults_before k report.faults_now sooner)
         (either (λ s. is_words s ≡ false) refl refl (nat_lt 0 missed)) (either (λ s. is_output_fault s ≡ false) refl refl (nat_lt 0 missed)) (either (λ s. s ≡ InputFault → Failed input) (λ e. absurd (apart is_input_fault Missed InputFault refl refl e)) (λ e. absurd (apart is_input_fault Done InputFault refl refl e)) (nat_lt 0 missed))
         (either (λ s. s ≡ DiskFault → Failed Store_) (λ e. absurd (apart is_disk_fault Missed DiskFault refl refl e)) (λ e. absurd (apart is_disk_fault Done DiskFault refl refl e)) (nat_lt 0 missed))
         (either (λ s. Calm One s input output report) (begins.calm, calm) (begins.calm, calm) (nat_lt 0 missed)) (λ w. begins.read)
@@ -258,7 +291,7 @@ module _ (root : List ℕ) (over : Option (List (List keys.Pair))) (workers : �
 
   -- the report fails at the line of a miss
   pub untold_ran : result ≡ OutputFault → mid ≡ report.now → Rose report.faults_before report.faults_now → Part → Out
-  untold_ran is end rose part = ran_by root over workers Store_ input output report result stays_now
+  untold_ran is end rose part = ran_by root over workers Store_ input output report result looks_now
       (λ octets h i names e f. ends_at octets h i names (ready_at octets h e f)
       (subst (λ y. Ends Fs_ y (option_map answered o) (answered_early o) (troubles One Fs_ h i names octets) output.before output.now report.before report.now) (sym is)
       (untold_ends Fs_ (troubles One Fs_ h i names octets) output.before output.now report.before report.now o rose

@@ -15,7 +15,7 @@ use Rattle.fd_segment.specs.Held.{batch_of}
 use Rattle.fd_segment.specs.Causes.{IsBadIndex, IsFindDamage, IsKeyDamage}
 use Rattle.fd_segment.specs.declared.fault.Damage.{Damage}
 use Rattle.fd_recovery.specs.Damages.{damages, damages_at, damages_of, digest_damages, field_file, index_file}
-use Rattle.fd_recovery.specs.Recovered.{all_of, batches_listed, files_of, held, held_by, with_firm_table}
+use Rattle.fd_recovery.specs.Recovered.{IsUndamaged, all_of, batches_listed, files_of, held, held_by, with_firm_table}
 use Rattle.fd_recovery.specs.declared.fault.OpenFault.{OpenFault}
 use Rattle.fd_recovery.specs.declared.fault.OpenFault.TheVariants as faults
 use Rattle.fd_outcome.specs.Causes.{Broken, BadFile, BadTable}
@@ -202,3 +202,13 @@ said_before name v w (faults.NotATable at want found) stays s = stands_before na
 said_before name v w (faults.Damaged d) stays s = stands_before name v w (BadFile d) stays s
 said_before name v w (faults.TooMany count) stays s = tt
 said_before name v w faults.NoMemory stays s = tt
+
+-- what isn't damaged later wasn't before
+pub undamaged_before : (name : List ℕ) (v w : Contents) → StaysFolder name v w → IsUndamaged name w → IsUndamaged name v
+undamaged_before name v w stays sound = go v.table w.table stays.table sound
+  where
+    go : (a b : Option File) → option_map (λ f. listed name f.reads) b ≡ option_map (λ f. listed name f.reads) a → IfSome b (λ f. (es : List Entry) × (listed name f.reads ≡ Ok es) × (damages w.files es ≡ []))
+        → IfSome a (λ f. (es : List Entry) × (listed name f.reads ≡ Ok es) × (damages v.files es ≡ []))
+    go None b e sound = tt
+    go (Some f) None e sound = absurd (cc e)
+    go (Some f) (Some g) e (es, lists, none) = (es, sym (some_is (listed name g.reads) (listed name f.reads) e) ∙ lists, sym (damages_same v.files w.files stays.files es) ∙ none)

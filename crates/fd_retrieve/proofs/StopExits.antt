@@ -1,6 +1,6 @@
 -- The exits of `retrieve` before the first key is answered.
-use Rattle.std.proofs.Common.{◌≡◌, ◌≤◌, ℕ, false, List, [], ◌++◌, Option, Some, refl, sym, subst, inl, inr, string_bytes}
-use Rattle.std.specs.Prelude.{◌⊎◌, IfSome, Err, codes}
+use Rattle.std.proofs.Common.{◌≡◌, ℕ, false, List, [], ◌++◌, Option, Some, refl, sym, subst, ap, inl, inr, string_bytes}
+use Rattle.std.specs.Prelude.{◌⊎◌, IfSome, codes}
 use Rattle.fd_bytes.specs.Causes.{Rose}
 use Rattle.fd_disk.specs.Folders.{Holdings, WhereTold, folder_at}
 use Rattle.std.specs.Fmt.{decimal}
@@ -9,6 +9,7 @@ use Rattle.fd_key.specs.Pairs.{Pair, key_text}
 use Rattle.fd_schema.specs.Grammar as schemas
 use Rattle.fd_schema.specs.Reading.{IsFirst}
 use Rattle.fd_schema.specs.declared.fault.SchemaKind.{SchemaKind}
+use Rattle.fd_request.specs.Reading.{seen_kind}
 use Rattle.fd_words.specs.declared.command.Command.{Command}
 use Rattle.fd_outcome.specs.declared.status.Status.{Status}
 use Rattle.fd_outcome.specs.declared.status.Status.TheVariants.{Done, Missed, Refused, InputFault, DiskFault, NoMemory, Damaged, Limit}
@@ -18,7 +19,7 @@ use Rattle.fd_outcome.specs.Ends.{Calm, Ends, Opens, disk_failed, input_failed, 
 use Rattle.fd_outcome.specs.Objects.{Failed, Failures, IsCalm, Object, failures, object}
 use Rattle.fd_outcome.specs.Outcome.{Outcome, early, outcome, refused}
 use Rattle.fd_outcome.specs.Ran.{Ran}
-use Rattle.fd_outcome.specs.Store.{Stands, Stays}
+use Rattle.fd_outcome.specs.Store.{IsLookedThrough, Stands}
 use Rattle.fd_outcome.specs.Told.{Told, ToldOrNoMemory}
 use Rattle.fd_outcome.proofs.Endings.{CanStop, ends_early, ends_told, reached_nothing, takes_nothing}
 use Rattle.fd_outcome.proofs.Exits.{apart, by_cause, cause_calm, cause_not_whole, cause_told, is_disk_fault, is_input_fault, is_output_fault, is_whole, is_words, never_whole}
@@ -27,11 +28,11 @@ use Rattle.fd_telling.specs.declared.stop.Stop.{Stop}
 use Rattle.fd_telling.specs.declared.stop.Stop.TheVariants as stops
 use Rattle.fd_telling.specs.Stops.{OnDisk, OnInput, OnRefusal, Says, ToldSome, ToldStop, seen_broken}
 use Rattle.fd_retrieve.specs.Commands.{retrieving}
-use Rattle.fd_retrieve.proofs.RetrieveExits.{broken_is, told_by, uses}
+use Rattle.fd_retrieve.proofs.RetrieveExits.{broken_is, either_not_whole, told_by, told_not_whole, uses}
 
 module _ (root : List ℕ) (over : Option (List (List Pair))) (workers : ℕ) (Is : Holdings → List ℕ → Cause → Type 0) (Among : Holdings → List ℕ → List ℕ → Type 0)
     (refuses : (h : Holdings) (names : List (List ℕ)) (octets : List ℕ) (cause : Cause) → Is h octets cause → outcome (retrieving root over workers) h names octets ≡ Some (refused cause))
-    (opens : (h : Holdings) (names : List (List ℕ)) (octets name : List ℕ) → Among h octets name → Opens (retrieving root over workers) h names octets name) (before now : Option Holdings) (sm sn : ℕ) (input : Object (List ℕ)) (a : Option (List ℕ)) (k : ℕ) (report : Object (List ℕ)) (result : Status) (stays : WhereTold before now Stays) where
+    (opens : (h : Holdings) (names : List (List ℕ)) (octets name : List ℕ) → Among h octets name → Opens (retrieving root over workers) h names octets name) (before now : Option Holdings) (sm sn : ℕ) (input : Object (List ℕ)) (a : Option (List ℕ)) (k : ℕ) (report : Object (List ℕ)) (result : Status) (looks : WhereTold before now IsLookedThrough) where
   abbrev One : Command
   One = retrieving root over workers
 
@@ -54,7 +55,7 @@ module _ (root : List ℕ) (over : Option (List (List Pair))) (workers : ℕ) (I
   early_ran : (s : Status) (text : List ℕ) → ToldAs s text → is_words s ≡ false → is_output_fault s ≡ false → (s ≡ InputFault → Failed input) → is_whole s ≡ false → (s ≡ DiskFault → Rose sm sn) → Calm One s input (object a a k k) report
       → ((octets : List ℕ) (h i : Holdings) (names : List (List ℕ)) → input.before ≡ Some octets → before ≡ Some h → CanStop Fs (troubles One Fs h i names octets) s text) → Out
   early_ran s text told words output_no input_fault whole disk calm can =
-      told_by root over workers (object before now sm sn) input (object a a k k) report result stays s text report.before report.faults_before report.faults_now told (λ r. r) words output_no input_fault disk calm (never_whole Reads s whole)
+      told_by root over workers (object before now sm sn) input (object a a k k) report result looks s text report.before report.faults_before report.faults_now told (λ r. r) words output_no input_fault disk calm (never_whole Reads s whole)
       (λ octets h i names e f. ends_early Fs a a report.before report.before report.now (early One h names octets) (troubles One Fs h i names octets) (outcome One h names octets) s result text [] report.faults_before report.faults_now
       (within h names octets One) (can octets h i names e f) (reached_nothing a report.before (early One h names octets)) (λ r. r) told)
 
@@ -77,7 +78,7 @@ module _ (root : List ℕ) (over : Option (List (List Pair))) (workers : ℕ) (I
   refused_ran : (cause : Cause) → IfSome before (λ h. IfSome input.before (λ octets. Is h octets cause)) → IsCalm input → ToldAs (telling cause).status (telling cause).line → Out
   refused_ran cause says calm told =
       let s = (telling cause).status in
-      told_by root over workers (object before now sm sn) input (object a a k k) report result stays s (telling cause).line report.before report.faults_before report.faults_now told (λ r. r)
+      told_by root over workers (object before now sm sn) input (object a a k k) report result looks s (telling cause).line report.before report.faults_before report.faults_now told (λ r. r)
       (by_cause (λ s. is_words s ≡ false) refl refl refl cause) (by_cause (λ s. is_output_fault s ≡ false) refl refl refl cause)
       (by_cause (λ s. s ≡ InputFault → Failed input) (λ e. absurd (apart is_input_fault Refused InputFault refl refl e)) (λ e. absurd (apart is_input_fault Damaged InputFault refl refl e)) (λ e. absurd (apart is_input_fault Limit InputFault refl refl e)) cause)
       (by_cause (λ s. s ≡ DiskFault → Rose sm sn) (λ e. absurd (apart is_disk_fault Refused DiskFault refl refl e)) (λ e. absurd (apart is_disk_fault Damaged DiskFault refl refl e)) (λ e. absurd (apart is_disk_fault Limit DiskFault refl refl e)) cause)
@@ -109,7 +110,7 @@ module _ (root : List ℕ) (over : Option (List (List Pair))) (workers : ℕ) (I
   -- no rule admits a key
   no_rule_ran : (text : List ℕ) → IfSome before (λ h. IfSome input.before (λ octets. KeySays text h octets)) → IsCalm input → ToldAs Refused (line (codes "refused NoRule " ++ text)) → Out
   no_rule_ran text says calm told =
-      told_by root over workers (object before now sm sn) input (object a a k k) report result stays Refused (line (codes "refused NoRule " ++ text)) report.before report.faults_before report.faults_now told (λ r. r) refl refl (λ e. absurd (apart is_input_fault Refused InputFault refl refl e)) (λ e. absurd (apart is_disk_fault Refused DiskFault refl refl e))
+      told_by root over workers (object before now sm sn) input (object a a k k) report result looks Refused (line (codes "refused NoRule " ++ text)) report.before report.faults_before report.faults_now told (λ r. r) refl refl (λ e. absurd (apart is_input_fault Refused InputFault refl refl e)) (λ e. absurd (apart is_disk_fault Refused DiskFault refl refl e))
       (calm, refl) (never_whole Reads Refused refl)
       (λ octets h i names e f.
       let s = subst (λ q. IfSome q (λ octets. KeySays text h octets)) e (subst (λ q. IfSome q (λ h. IfSome input.before (λ octets. KeySays text h octets))) f says) in
@@ -121,7 +122,7 @@ module _ (root : List ℕ) (over : Option (List (List Pair))) (workers : ℕ) (I
   -- a key has no place under a layer
   no_layer_ran : (layer : ℕ) (text : List ℕ) → IfSome before (λ h. IfSome input.before (λ octets. LayerSays layer text h octets)) → IsCalm input → ToldAs Refused (line (codes "refused Layer " ++ decimal layer ++ blank text)) → Out
   no_layer_ran layer text says calm told =
-      told_by root over workers (object before now sm sn) input (object a a k k) report result stays Refused (line (codes "refused Layer " ++ decimal layer ++ blank text)) report.before report.faults_before report.faults_now told (λ r. r) refl refl (λ e. absurd (apart is_input_fault Refused InputFault refl refl e)) (λ e. absurd (apart is_disk_fault Refused DiskFault refl refl e))
+      told_by root over workers (object before now sm sn) input (object a a k k) report result looks Refused (line (codes "refused Layer " ++ decimal layer ++ blank text)) report.before report.faults_before report.faults_now told (λ r. r) refl refl (λ e. absurd (apart is_input_fault Refused InputFault refl refl e)) (λ e. absurd (apart is_disk_fault Refused DiskFault refl refl e))
       (calm, refl) (never_whole Reads Refused refl)
       (λ octets h i names e f.
       let s = subst (λ q. IfSome q (λ octets. LayerSays layer text h octets)) e (subst (λ q. IfSome q (λ h. IfSome input.before (λ octets. LayerSays layer text h octets))) f says) in
@@ -135,7 +136,7 @@ module _ (root : List ℕ) (over : Option (List (List Pair))) (workers : ℕ) (I
       → ((text : List ℕ) (fault : schemas.Fault) → IsFirst text line kind fault → ToldOrNoMemory (telling (causes.InStored text fault)).status (telling (causes.InStored text fault)).line result report.before report.now report.faults_before report.faults_now)
       → IfSome before (λ h. IfSome input.before (λ octets. SchemaSays line kind h octets)) → IsCalm input → Out
   schema_ran line kind (s, text, which, told) told_if says calm =
-      told_by root over workers (object before now sm sn) input (object a a k k) report result stays s text report.before report.faults_before report.faults_now told (λ r. r)
+      told_by root over workers (object before now sm sn) input (object a a k k) report result looks s text report.before report.faults_before report.faults_now told (λ r. r)
       (chosen s which (λ s. is_words s ≡ false) refl refl refl) (chosen s which (λ s. is_output_fault s ≡ false) refl refl refl)
       (chosen s which (λ s. s ≡ InputFault → Failed input) (λ e. absurd (apart is_input_fault Damaged InputFault refl refl e)) (λ e. absurd (apart is_input_fault Limit InputFault refl refl e)) (λ e. absurd (apart is_input_fault NoMemory InputFault refl refl e)))
       (chosen s which (λ s. s ≡ DiskFault → Rose sm sn) (λ e. absurd (apart is_disk_fault Damaged DiskFault refl refl e)) (λ e. absurd (apart is_disk_fault Limit DiskFault refl refl e)) (λ e. absurd (apart is_disk_fault NoMemory DiskFault refl refl e)))
@@ -162,3 +163,28 @@ module _ (root : List ℕ) (over : Option (List (List Pair))) (workers : ℕ) (I
   stopped stops.TooMany told says rose disk calm = either_ran causes.TooManyDatasets says calm told
   stopped (stops.Broken dataset broken) told says rose disk calm = elim told as (λ _. Out) [ inl t ↦ broken_ran (string_bytes dataset) (seen_broken broken) says t | inr t ↦ memory_ran t ]
   stopped stops.NoMemory told says rose disk calm = memory_ran told
+
+-- ---- a run that stops tells no status of a whole one
+
+cause_unlike : (cause : Cause) (result : Status) (c d : Option (List ℕ)) (m n : ℕ) → ToldOrNoMemory (telling cause).status (telling cause).line result c d m n → is_whole result ≡ false
+cause_unlike cause result c d m n told = either_not_whole (telling cause).status result (telling cause).line c d m n (by_cause (λ s. is_whole s ≡ false) refl refl refl cause) told
+
+some_unlike : (result : Status) (c d : Option (List ℕ)) (m n : ℕ) → ToldSome result c d m n → is_whole result ≡ false
+some_unlike result c d m n (s, text, which, told) = told_not_whole s result text c d m n (unlike_so which) told
+  where
+    unlike_so : (s ≡ Damaged) ⊎ ((s ≡ Limit) ⊎ (s ≡ NoMemory)) → is_whole s ≡ false
+    unlike_so (inl e) = ap is_whole e
+    unlike_so (inr (inl e)) = ap is_whole e
+    unlike_so (inr (inr e)) = ap is_whole e
+
+pub stop_not_whole : {F : Type 0} (stop : Stop F) (result : Status) (c d : Option (List ℕ)) (m n : ℕ) → ToldStop stop result c d m n → is_whole result ≡ false
+stop_not_whole (stops.Disk f) result c d m n told = told_not_whole DiskFault result disk_failed c d m n refl told
+stop_not_whole stops.Input result c d m n told = told_not_whole InputFault result input_failed c d m n refl told
+stop_not_whole stops.Missing result c d m n told = cause_unlike causes.SchemaMissing result c d m n told
+stop_not_whole (stops.Schema line kind) result c d m n told = some_unlike result c d m n told.0
+stop_not_whole (stops.Request at kind) result c d m n told = cause_unlike (causes.InRequest (record { at = at; kind = seen_kind kind })) result c d m n told
+stop_not_whole (stops.NoRule text) result c d m n told = either_not_whole Refused result _ c d m n refl told
+stop_not_whole (stops.NoLayer layer text) result c d m n told = either_not_whole Refused result _ c d m n refl told
+stop_not_whole stops.TooMany result c d m n told = cause_unlike causes.TooManyDatasets result c d m n told
+stop_not_whole (stops.Broken dataset broken) result c d m n told = either_not_whole Damaged result _ c d m n refl told
+stop_not_whole stops.NoMemory result c d m n told = told_not_whole NoMemory result no_memory c d m n refl told

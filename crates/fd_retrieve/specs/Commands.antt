@@ -8,7 +8,7 @@ use Rattle.fd_outcome.specs.Asking.{Answer, is_among}
 use Rattle.fd_outcome.specs.Ends.{Opens}
 use Rattle.fd_outcome.specs.Objects.{IsCalm, Object}
 use Rattle.fd_outcome.specs.Outcome.{answered, answered_early, early, outcome}
-use Rattle.fd_outcome.specs.Store.{Stays}
+use Rattle.fd_outcome.specs.Store.{IsLookedThrough}
 use Rattle.fd_retrieve.specs.Open.{IsOpenIn, Open, names_of}
 
 -- `retrieve`, over these layers where there are any
@@ -25,10 +25,10 @@ pub record IsReadyFor (command : Command) (h : Holdings) (input : List ℕ) (os 
   pub opens : (names : List (List ℕ)) (n : List ℕ) → is_among (names_of os) n ≡ true → Opens command h names input n
 
 -- The same stands ready, which was made so out of a store and an input: all of the input was read without a fault, and
--- the store, whose count of faults was m and is n, stays.
+-- the store, whose count of faults was m and is n, was looked through.
 pub record Begins (command : Command) (before now : Option Holdings) (m n : ℕ) (input : Object (List ℕ)) (os : List Open) (o : Option (List Answer)) : Type 0 where
   pub ready : IfSome before (λ h. IfSome input.before (λ octets. IsReadyFor command h octets os o))
-  pub stays : WhereTold before now Stays
+  pub looks : WhereTold before now IsLookedThrough
   pub later : m ≤ n
   pub calm : IsCalm input
   pub read : IfSome input.before (λ octets. input.now ≡ Some [])

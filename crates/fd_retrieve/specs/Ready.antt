@@ -7,6 +7,7 @@ use Rattle.fd_request.specs.Expansion.{Keyword, expand}
 use Rattle.fd_outcome.specs.Asking.{Asked, answers, asked_of, is_among, placed, request_in, rules_of, ◌then◌}
 use Rattle.fd_outcome.specs.Causes.{Cause}
 use Rattle.fd_outcome.specs.Store.{Stands, has_table, table_at}
+use Rattle.fd_recovery.specs.Recovered.{IsUndamaged}
 use Rattle.fd_recovery.specs.declared.fault.OpenFault.{OpenFault}
 use Rattle.fd_recovery.specs.declared.fault.OpenFault.TheVariants as faults
 use Rattle.fd_telling.specs.declared.stop.Broken.{Broken}
@@ -35,6 +36,10 @@ pub record AreOpen (h : Holdings) (names : List (List ℕ)) (os : List Open) : T
   pub each : All (IsOpenIn h) os
   pub from : (n : List ℕ) → is_among (names_of os) n ≡ true → is_among names n ≡ true
   pub all : (n : List ℕ) → is_among names n ≡ true → has_table h n ≡ true → is_among (names_of os) n ≡ true
+
+-- none of these datasets is damaged, as far as an opening looks
+abbrev pub NoneIsDamaged : Holdings → List (List ℕ) → Type 0
+NoneIsDamaged h names = (n : List ℕ) → is_among names n ≡ true → IsUndamaged n (folder_at h n)
 
 -- this is broken in the dataset of this name; or want of memory
 abbrev pub IsBrokenAs : {F : Type 0} → List ℕ → Broken → Stop F → Type 0
@@ -70,9 +75,11 @@ IsUnopened name (faults.Damaged d) stop = IsBrokenAs name (brokens.File d) stop
 IsUnopened name (faults.TooMany count) stop = ⊥
 IsUnopened name faults.NoMemory stop = stop ≡ stops.NoMemory
 
--- The request's keys have these places, and the datasets of the places that have tables are open.
+-- The request's keys have these places, and the datasets of the places that have tables are open, none of which is damaged.
 pub record IsReady (h : Holdings) (input : List ℕ) (keywords : List Keyword) (places : List Place) (os : List Open) : Type 0 where
   pub asked : asked_of h input ≡ Ok (asked_at keywords places)
   pub answered : answers (table_in os) (asked_at keywords places) ≡ answers (table_at h) (asked_at keywords places)
   pub each : All (IsOpenIn h) os
   pub among : (n : List ℕ) → is_among (names_of os) n ≡ true → is_among (datasets_in places) n ≡ true
+  pub tables : (n : List ℕ) → is_among (datasets_in places) n ≡ true → table_in os n ≡ table_at h n
+  pub undamaged : NoneIsDamaged h (datasets_in places)

@@ -1,5 +1,5 @@
 -- The answer of a request in rounds: what one of them does.
-use Rattle.std.specs.Prelude.{◌≡◌, ◌≤◌, ◌-◌, ℕ, List, Option, Result, IfErr, IfOk, OnOk}
+use Rattle.std.specs.Prelude.{◌≤◌, ◌-◌, ℕ, List, Option, Result, IfErr, IfOk, OnOk}
 use Rattle.fd_key.specs.Pairs as keys
 use Rattle.fd_ahead.specs.declared.located.Located.{Located}
 use Rattle.fd_outcome.specs.Asking.{Answer}

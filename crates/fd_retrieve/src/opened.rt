@@ -6,7 +6,7 @@ ghost use Rattle.fd_entries.specs.Table.{listed};
 ghost use Rattle.fd_segment.specs.Shared.{AreOf, standings};
 ghost use Rattle.fd_recovery.specs.Causes.{NotTooMany, OnDamaged, OnNotATable};
 ghost use Rattle.fd_recovery.specs.Damages.{IsFirst, damages};
-ghost use Rattle.fd_recovery.specs.Recovered.{WithTable};
+ghost use Rattle.fd_recovery.specs.Recovered.{IsUndamaged, WithTable};
 ghost use Rattle.fd_outcome.specs.Store.{StaysFolder, Stays, has_table};
 ghost use Rattle.fd_retrieve.specs.Looking.{IsLookedAt, IsLookedThrough};
 ghost use Rattle.fd_retrieve.specs.Open.{IsOpenOf, IsOpenIn, StandsAsSaid};
@@ -30,6 +30,7 @@ where
     requires home { (n : List ℕ) → S.out store.old n ≡ false }
     ensures opened { IfOk result (λ o. IfSome o (λ r. (r.name ≡ name.now) × IfSome (S.has store.old) (λ h. IsOpenIn h r))) }
     ensures none { IfOk result (λ o. IfSome (S.has store.old) (λ h. is_some o ≡ has_table h name.now)) }
+    ensures undamaged { IfOk result (λ o. IfSome (S.has store.old) (λ h. IsUndamaged name.now (folder_at h name.now))) }
     ensures broken { IfErr result (λ e. IfSome (S.has store.old) (λ h. StandsAsSaid name.now (folder_at h name.now) e)) }
     ensures never { IfErr result NotTooMany }
     ensures stays { WhereTold (S.has store.old) (S.has store.new) Stays }
@@ -48,6 +49,7 @@ where
 }
 
 /// Opens the dataset of a folder, whose table isn't out, and gives the table back.
+#[tactic(auto, using(crate::proofs::Undamaged::undamaged))]
 fn open_in<F: Send, D: Folder<F>>(
     alloc: Global,
     folder: &mut D,
@@ -58,6 +60,7 @@ where
     requires dataset { D.name folder.old ≡ name.now }
     ensures opened { IfOk result (λ o. IfSome o (λ r. (r.name ≡ name.now) × IfSome (D.has folder.old) (λ v. IsOpenOf v r))) }
     ensures none { IfOk result (λ o. IfSome (D.has folder.old) (λ v. is_some o ≡ is_some v.table)) }
+    ensures undamaged { IfOk result (λ o. IfSome (D.has folder.old) (λ v. IsUndamaged name.now v)) }
     ensures broken { IfErr result (λ e. IfSome (D.has folder.old) (λ v. StandsAsSaid name.now v e)) }
     ensures never { IfErr result NotTooMany }
     ensures stays { IfSome (D.has folder.old) (λ v. IfSome (D.has folder.new) (λ w. StaysFolder name.now v w)) }

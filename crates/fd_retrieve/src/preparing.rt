@@ -1,15 +1,18 @@
 // What stands ready before the first key is answered.
-ghost use Rattle.std.specs.Prelude.{◌≡◌, ◌≤◌, [], ◌∷◌, List, ℕ, Some, Ok, false, length, IfOk, IfErr, IfSome, OnOk};
+ghost use Rattle.std.specs.Prelude.{◌≡◌, ◌≤◌, [], ◌∷◌, List, ℕ, Some, Ok, false, length, IfOk, IfErr, IfSome, IsErr, OnOk};
 ghost use Rattle.fd_bytes.specs.Causes.{Rose};
-ghost use Rattle.fd_disk.specs.Folders.{WhereTold};
+ghost use Rattle.fd_disk.specs.Folders.{WhereTold, folder_at};
 ghost use Rattle.fd_schema.specs.Seen.{texts};
 ghost use Rattle.fd_recovery.specs.Causes.{NotTooMany};
+ghost use Rattle.fd_recovery.specs.Recovered.{IsUndamaged};
 ghost use Rattle.fd_request.specs.Expansion.{expand};
-ghost use Rattle.fd_outcome.specs.Asking.{asked_of};
+ghost use Rattle.fd_outcome.specs.Asking.{asked_of, rules_of};
 ghost use Rattle.fd_outcome.specs.Ends.{AmongAsked};
+ghost use Rattle.fd_outcome.specs.Noticing.{IsUnread};
+ghost use Rattle.fd_outcome.specs.Objects.{object};
 ghost use Rattle.fd_outcome.specs.Store.{Stays};
 ghost use Rattle.fd_retrieve.specs.Looking.{IsLookedThrough};
-ghost use Rattle.fd_retrieve.specs.Ready.{AreOpen, IsBrokenOf, IsReady, IsUnopened, MayOpen, asked_at, placed_of};
+ghost use Rattle.fd_retrieve.specs.Ready.{AreOpen, NoneIsDamaged, IsBrokenOf, IsReady, IsUnopened, MayOpen, asked_at, placed_of};
 ghost use Rattle.fd_telling.specs.Stops.{IsOfRequest, IsRefused, OfDataset, OnInput, OnRefusal, Says};
 
 use crate::asking::{places_of, request_of};
@@ -45,11 +48,13 @@ where
     ensures prepared { IfOk result (λ r. IfSome (S.has store.old) (λ h. IfSome (I.left input.old) (λ octets. IsReady h octets r.request r.places.items r.opened.items))) }
     ensures count { IfOk result (λ r. length r.places.items ≡ length (expand r.request)) }
     ensures read { OnOk result (IfSome (I.left input.old) (λ octets. I.left input.new ≡ Some [])) }
+    ensures unread { IfSome (S.has store.old) (λ h. IsErr (rules_of h.schema) → IsUnread (object (I.left input.old) (I.left input.new) (I.faults input.old) (I.faults input.new))) }
     ensures says { IfErr result (λ e. IfSome (S.has store.old) (λ h. IfSome (I.left input.old) (λ octets. Says e h (IsRefused (asked_of h octets)) (AmongAsked (asked_of h octets))))) }
     ensures input { IfErr result (λ e. OnInput e (Rose (I.faults input.old) (I.faults input.new))) }
     ensures calm { OnOk result (I.faults input.new ≡ I.faults input.old) }
     ensures calm_err { IfErr result (λ e. OnRefusal e (I.faults input.new ≡ I.faults input.old)) }
     ensures stays { WhereTold (S.has store.old) (S.has store.new) Stays }
+    ensures looks { WhereTold (S.has store.old) (S.has store.new) IsLookedThrough }
     ensures home { (n : List ℕ) → S.out store.new n ≡ false }
     ensures later { S.faults store.old ≤ S.faults store.new }
 {
@@ -72,6 +77,7 @@ where
 }
 
 /// Reads the request, and finds the places of its keys by the stored schema.
+#[tactic(auto, using(crate::proofs::Unread::unread))]
 fn placed<F: Send, X: Drop, S: Store<F>, I: Source<X>>(
     alloc: Global,
     root: &str,
@@ -81,6 +87,7 @@ fn placed<F: Send, X: Drop, S: Store<F>, I: Source<X>>(
     ensures placed { IfOk result (λ r. IfSome (S.has store.old) (λ h. IfSome (I.left input.old) (λ octets. placed_of h octets ≡ Ok (asked_at r.0 r.1.items)))) }
     ensures count { IfOk result (λ r. length r.1.items ≡ length (expand r.0)) }
     ensures read { OnOk result (IfSome (I.left input.old) (λ octets. I.left input.new ≡ Some [])) }
+    ensures unread { IfSome (S.has store.old) (λ h. IsErr (rules_of h.schema) → IsUnread (object (I.left input.old) (I.left input.new) (I.faults input.old) (I.faults input.new))) }
     ensures says { IfErr result (λ e. IfSome (S.has store.old) (λ h. IfSome (I.left input.old) (λ octets. IsOfRequest e (IsRefused (placed_of h octets))))) }
     ensures input { IfErr result (λ e. OnInput e (Rose (I.faults input.old) (I.faults input.new))) }
     ensures calm { OnOk result (I.faults input.new ≡ I.faults input.old) }
@@ -115,6 +122,7 @@ pub fn open_all<F: Send + Drop, S: Store<F>>(
 where
     requires home { (n : List ℕ) → S.out store.old n ≡ false }
     ensures opened { IfOk result (λ v. IfSome (S.has store.old) (λ h. AreOpen h (texts names.now) v.items)) }
+    ensures undamaged { IfOk result (λ v. IfSome (S.has store.old) (λ h. NoneIsDamaged h (texts names.now))) }
     ensures broken { IfErr result (λ e. IfSome (S.has store.old) (λ h. IsBrokenOf e h (texts names.now))) }
     ensures of { IfErr result OfDataset }
     ensures stays { WhereTold (S.has store.old) (S.has store.new) Stays }
@@ -142,6 +150,7 @@ fn open_more<F: Send + Drop, S: Store<F>>(
 where
     requires home { (n : List ℕ) → S.out store.old n ≡ false }
     ensures opened { OnOk result (IfSome (S.has store.old) (λ h. MayOpen h opened.old.items name.now opened.new.items)) }
+    ensures undamaged { OnOk result (IfSome (S.has store.old) (λ h. IsUndamaged name.now (folder_at h name.now))) }
     ensures broken { IfErr result (λ e. IfSome (S.has store.old) (λ h. IsBrokenOf e h (name.now ∷ []))) }
     ensures of { IfErr result OfDataset }
     ensures stays { WhereTold (S.has store.old) (S.has store.new) Stays }

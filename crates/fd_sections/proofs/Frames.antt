@@ -1,13 +1,12 @@
 -- A stream of frames, in whatever pieces it comes: what comes first stays first, and its messages are those that are read of its frames.
-use Rattle.std.proofs.Common.{◌≡◌, ℕ, ◌+◌, ◌-◌, ◌<◌, ◌≤◌, max, Bool, true, false, cond, List, [], ◌∷◌, ◌++◌, length, take, drop, Option, Some, None, Result, Ok, Err, refl, sym, ap, ap₂, subst, ◌∙◌, append_assoc, append-nil, arith, length-append, length-take, length-drop, eqb, ltb, not, lit≤, add_assoc}
+use Rattle.std.proofs.Common.{◌≡◌, ℕ, ◌+◌, ◌-◌, ◌<◌, ◌≤◌, Bool, true, false, cond, List, [], ◌∷◌, ◌++◌, length, take, drop, Option, Some, None, Result, Ok, Err, refl, sym, ap, ap₂, subst, ◌∙◌, append_assoc, append-nil, arith, length-append, length-take, length-drop, eqb, ltb, not, lit≤, add_assoc}
 use Rattle.std.specs.Prelude.{nat_eq}
-use Rattle.std.proofs.Math.Nat.{le-max_left, max-le}
 use Rattle.std.proofs.lemmas.Bool.{ltb-false, le-ltb, ne_eqb}
 use Rattle.std.proofs.lemmas.List.{take-append-le, drop-append-le, take-append-drop}
 use Rattle.fd_bytes.specs.Numbers.{octets}
 use Rattle.fd_bytes.proofs.Octets.{octets-append}
 use Rattle.fd_sections.specs.declared.bad.Bad.{Bad}
-use Rattle.fd_sections.specs.declared.bad.Bad.TheVariants.{Edition, TooLong}
+use Rattle.fd_sections.specs.declared.bad.Bad.TheVariants.{Edition, Short, TooLong}
 use Rattle.fd_sections.specs.declared.refusal.BadAt.{BadAt}
 use Rattle.fd_sections.specs.declared.refusal.Truncated.{Truncated}
 use Rattle.std.specs.Option.{option_map}
@@ -39,14 +38,15 @@ framed (Begun have want) more = Begun have want
 framed (Rejects bad) more = Rejects bad
 framed (Frame octets rest) more = Frame octets (rest ++ more)
 
-tests : (b3 b4 b5 b5' : Bool) (e n w len len' : ℕ) (o o' rest rest' more : List ℕ) (f : FirstFrame)
+tests : (b3 b4 bs b5 b5' : Bool) (e n w len len' : ℕ) (o o' rest rest' more : List ℕ) (f : FirstFrame)
     → (b5 ≡ false → b5' ≡ false) → (b5 ≡ false → o' ≡ o) → (b5 ≡ false → rest' ≡ rest ++ more)
-    → cond b3 (Rejects (Edition e)) (cond b4 (Rejects (TooLong n)) (cond b5 (Begun len w) (Frame o rest))) ≡ f → IsFramed f
-    → cond b3 (Rejects (Edition e)) (cond b4 (Rejects (TooLong n)) (cond b5' (Begun len' w) (Frame o' rest'))) ≡ framed f more
-tests true b4 b5 b5' e n w len len' o o' rest rest' more f p q s h settled = subst (λ (g : FirstFrame). Rejects (Edition e) ≡ framed g more) h refl
-tests false true b5 b5' e n w len len' o o' rest rest' more f p q s h settled = subst (λ (g : FirstFrame). Rejects (TooLong n) ≡ framed g more) h refl
-tests false false true b5' e n w len len' o o' rest rest' more f p q s h settled = absurd (subst IsFramed (sym h) settled)
-tests false false false b5' e n w len len' o o' rest rest' more f p q s h settled = rw (p refl, q refl, s refl) (ap (λ (g : FirstFrame). framed g more) h)
+    → cond b3 (Rejects (Edition e)) (cond b4 (Rejects (TooLong n)) (cond bs (Rejects (Short 0 n)) (cond b5 (Begun len w) (Frame o rest)))) ≡ f → IsFramed f
+    → cond b3 (Rejects (Edition e)) (cond b4 (Rejects (TooLong n)) (cond bs (Rejects (Short 0 n)) (cond b5' (Begun len' w) (Frame o' rest')))) ≡ framed f more
+tests true b4 bs b5 b5' e n w len len' o o' rest rest' more f p q s h settled = subst (λ (g : FirstFrame). Rejects (Edition e) ≡ framed g more) h refl
+tests false true bs b5 b5' e n w len len' o o' rest rest' more f p q s h settled = subst (λ (g : FirstFrame). Rejects (TooLong n) ≡ framed g more) h refl
+tests false false true b5 b5' e n w len len' o o' rest rest' more f p q s h settled = subst (λ (g : FirstFrame). Rejects (Short 0 n) ≡ framed g more) h refl
+tests false false false true b5' e n w len len' o o' rest rest' more f p q s h settled = absurd (subst IsFramed (sym h) settled)
+tests false false false false b5' e n w len len' o o' rest rest' more f p q s h settled = rw (p refl, q refl, s refl) (ap (λ (g : FirstFrame). framed g more) h)
 
 longer : (s more : List ℕ) (n : ℕ) → n ≤ length s → n ≤ length (s ++ more)
 longer s more n le = omega (arith, length-append s more)
@@ -68,7 +68,7 @@ frame_at-framed s more f h settled =
     let t2 : ltb (length (s ++ more)) 16 ≡ false = le-ltb _ _ (omega arith) in
     let t3 : octets 8 8 (s ++ more) ≡ octets 8 8 s = octets-append 8 8 s more (lit≤ tt) (lit≤ tt) (omega arith) in
     let t4 : octets 9 16 (s ++ more) ≡ n = octets-append 9 16 s more (lit≤ tt) (lit≤ tt) long in
-    rw (t1, t2, t3, t4) (tests (not (eqb (octets 8 8 s) 2)) (ltb 134217728 n) (ltb (length s) w) (ltb (length (s ++ more)) w) (octets 8 8 s) n w (length s) (length (s ++ more)) (take w s) (take w (s ++ more)) (drop w s) (drop w (s ++ more)) more f
+    rw (t1, t2, t3, t4) (tests (not (eqb (octets 8 8 s) 2)) (ltb 134217728 n) (ltb n 16) (ltb (length s) w) (ltb (length (s ++ more)) w) (octets 8 8 s) n w (length s) (length (s ++ more)) (take w s) (take w (s ++ more)) (drop w s) (drop w (s ++ more)) more f
     (λ e. le-ltb _ _ (longer s more w (ltb-false _ _ e)))
     (λ e. take-append-le w s more (ltb-false _ _ e))
     (λ e. drop-append-le w s more (ltb-false _ _ e))
@@ -107,11 +107,8 @@ pub record LeadsFrame (s o r : List ℕ) : Type 0 where
   pub some : 16 ≤ length o
   pub limit : length o ≤ 134217728
 
-sized : (s : List ℕ) (n k : ℕ) → n ≡ max 16 k → n ≤ length s → k ≤ 134217728 → (16 ≤ length (take n s)) × (length (take n s) ≤ 134217728)
-sized s n k is fits few =
-    let some : 16 ≤ n = subst (λ (x : ℕ). 16 ≤ x) (sym is) (le-max_left 16 k) in
-    let limit : n ≤ 134217728 = subst (λ (x : ℕ). x ≤ 134217728) (sym is) (max-le (lit≤ tt) few) in
-    (omega (arith, some, fits, length-take n s), omega (arith, limit, length-take n s))
+sized : (s : List ℕ) (n : ℕ) → n ≤ length s → 16 ≤ n → n ≤ 134217728 → (16 ≤ length (take n s)) × (length (take n s) ≤ 134217728)
+sized s n fits some limit = (omega (arith, some, fits, length-take n s), omega (arith, limit, length-take n s))
 
 frame_at-leads : (s o r : List ℕ) → frame_at s ≡ Frame o r → LeadsFrame s o r
 unfolding frame_at
@@ -121,9 +118,10 @@ frame_at-leads s o r e =
     let b = not_frame (ltb (length s) 16) (Begun (length s) 16) _ o r a.1 (λ h. absurd cc) in
     let c = not_frame (not (eqb (octets 8 8 s) 2)) (Rejects (Edition (octets 8 8 s))) _ o r b.1 (λ h. absurd cc) in
     let d = not_frame (ltb 134217728 (octets 9 16 s)) (Rejects (TooLong (octets 9 16 s))) _ o r c.1 (λ h. absurd cc) in
-    let f = not_frame (ltb (length s) n) (Begun (length s) n) _ o r d.1 (λ h. absurd cc) in
+    let k = not_frame (ltb (octets 9 16 s) 16) (Rejects (Short 0 (octets 9 16 s))) _ o r d.1 (λ h. absurd cc) in
+    let f = not_frame (ltb (length s) n) (Begun (length s) n) _ o r k.1 (λ h. absurd cc) in
     let t = frame_is (take n s) (drop n s) o r f.1 in
-    let z = sized s n (octets 9 16 s) refl (ltb-false _ _ f.0) (ltb-false _ _ d.0) in
+    let z = sized s n (ltb-false _ _ f.0) (ltb-false _ _ k.0) (ltb-false _ _ d.0) in
     record {
       whole = sym (take-append-drop n s) ∙ ap (λ (x : List ℕ). x ++ drop n s) t.0 ∙ ap (λ (x : List ℕ). o ++ x) t.1;
       some = subst (λ (x : List ℕ). 16 ≤ length x) t.0 z.0;
@@ -243,19 +241,20 @@ read_first (Begun have want) = Partial have want
 read_first (Rejects bad) = Refuses bad
 read_first (Frame o r) = taken (reading o) r
 
-by_tests : (b0 b1 b2 b3 b4 : Bool) (l e n w : ℕ) (o r : List ℕ)
-    → cond b0 Unmarked (cond b1 (Partial l 16) (cond b2 (Refuses (Edition e)) (cond b3 (Refuses (TooLong n)) (cond b4 (Partial l w) (taken (reading o) r)))))
-    ≡ read_first (cond b0 Unframed (cond b1 (Begun l 16) (cond b2 (Rejects (Edition e)) (cond b3 (Rejects (TooLong n)) (cond b4 (Begun l w) (Frame o r))))))
-by_tests true b1 b2 b3 b4 l e n w o r = refl
-by_tests false true b2 b3 b4 l e n w o r = refl
-by_tests false false true b3 b4 l e n w o r = refl
-by_tests false false false true b4 l e n w o r = refl
-by_tests false false false false true l e n w o r = refl
-by_tests false false false false false l e n w o r = refl
+by_tests : (b0 b1 b2 b3 bs b4 : Bool) (l e n w : ℕ) (o r : List ℕ)
+    → cond b0 Unmarked (cond b1 (Partial l 16) (cond b2 (Refuses (Edition e)) (cond b3 (Refuses (TooLong n)) (cond bs (Refuses (Short 0 n)) (cond b4 (Partial l w) (taken (reading o) r))))))
+    ≡ read_first (cond b0 Unframed (cond b1 (Begun l 16) (cond b2 (Rejects (Edition e)) (cond b3 (Rejects (TooLong n)) (cond bs (Rejects (Short 0 n)) (cond b4 (Begun l w) (Frame o r)))))))
+by_tests true b1 b2 b3 bs b4 l e n w o r = refl
+by_tests false true b2 b3 bs b4 l e n w o r = refl
+by_tests false false true b3 bs b4 l e n w o r = refl
+by_tests false false false true bs b4 l e n w o r = refl
+by_tests false false false false true b4 l e n w o r = refl
+by_tests false false false false false true l e n w o r = refl
+by_tests false false false false false false l e n w o r = refl
 
 first_by_frame : (s : List ℕ) → first_at s ≡ read_first (frame_at s)
 unfolding first_at frame_at
-first_by_frame s = by_tests (eqb (length s) 0) (ltb (length s) 16) (not (eqb (octets 8 8 s) 2)) (ltb 134217728 (octets 9 16 s)) (ltb (length s) (announced s)) (length s) (octets 8 8 s) (octets 9 16 s) (announced s) (take (announced s) s) (drop (announced s) s)
+first_by_frame s = by_tests (eqb (length s) 0) (ltb (length s) 16) (not (eqb (octets 8 8 s) 2)) (ltb 134217728 (octets 9 16 s)) (ltb (octets 9 16 s) 16) (ltb (length s) (announced s)) (length s) (octets 8 8 s) (octets 9 16 s) (announced s) (take (announced s) s) (drop (announced s) s)
 
 pub first_read : (s : List ℕ) (f : FirstFrame) → first_frame s ≡ f → first s ≡ read_first f
 first_read s f e = first_by_frame (from_mark s) ∙ ap read_first e

@@ -6,7 +6,7 @@ use Rattle.std.proofs.lemmas.Bool.{cases_Bool, eqb-true, eqb-false, ne_eqb}
 use Rattle.std.proofs.lemmas.List.{take-append-drop, drop_at}
 use Rattle.fd_bytes.proofs.Octets.{starts_with-append}
 use Rattle.fd_sections.specs.declared.bad.Bad.{Bad}
-use Rattle.fd_sections.specs.declared.bad.Bad.TheVariants.{Edition, TooLong}
+use Rattle.fd_sections.specs.declared.bad.Bad.TheVariants.{Edition, Short, TooLong}
 use Rattle.fd_bytes.specs.Numbers.{octets}
 use Rattle.fd_sections.specs.Reading.{reading}
 use Rattle.fd_sections.specs.Progress.{Progress}
@@ -131,35 +131,37 @@ not_partial (Err bad) rest h w e = cc
 -- a message that is not whole begins at the mark
 partial_at : (s : List ℕ) (h w : ℕ) → first_at s ≡ Partial h w → (h ≡ length s) × (0 < length s)
 unfolding first_at
-partial_at s h w e = tested (eqb (length s) 0) refl (ltb (length s) 16) (not (eqb (octets 8 8 s) 2)) (ltb 134217728 (octets 9 16 s)) (ltb (length s) (announced s)) e
+partial_at s h w e = tested (eqb (length s) 0) refl (ltb (length s) 16) (not (eqb (octets 8 8 s) 2)) (ltb 134217728 (octets 9 16 s)) (ltb (octets 9 16 s) 16) (ltb (length s) (announced s)) e
   where
-    tested : (b0 : Bool) → eqb (length s) 0 ≡ b0 → (b1 b2 b3 b4 : Bool)
-        → cond b0 Unmarked (cond b1 (Partial (length s) 16) (cond b2 (Refuses (Edition (octets 8 8 s))) (cond b3 (Refuses (TooLong (octets 9 16 s))) (cond b4 (Partial (length s) (announced s)) (taken (reading (take (announced s) s)) (drop (announced s) s)))))) ≡ Partial h w
+    tested : (b0 : Bool) → eqb (length s) 0 ≡ b0 → (b1 b2 b3 bs b4 : Bool)
+        → cond b0 Unmarked (cond b1 (Partial (length s) 16) (cond b2 (Refuses (Edition (octets 8 8 s))) (cond b3 (Refuses (TooLong (octets 9 16 s))) (cond bs (Refuses (Short 0 (octets 9 16 s))) (cond b4 (Partial (length s) (announced s)) (taken (reading (take (announced s) s)) (drop (announced s) s))))))) ≡ Partial h w
         → (h ≡ length s) × (0 < length s)
-    tested true z b1 b2 b3 b4 e = absurd cc
-    tested false z true b2 b3 b4 e = let n = eqb-false _ _ z in (cc, omega arith)
-    tested false z false true b3 b4 e = absurd cc
-    tested false z false false true b4 e = absurd cc
-    tested false z false false false true e = let n = eqb-false _ _ z in (cc, omega arith)
-    tested false z false false false false e = absurd (not_partial _ _ h w e)
+    tested true z b1 b2 b3 bs b4 e = absurd cc
+    tested false z true b2 b3 bs b4 e = let n = eqb-false _ _ z in (cc, omega arith)
+    tested false z false true b3 bs b4 e = absurd cc
+    tested false z false false true bs b4 e = absurd cc
+    tested false z false false false true b4 e = absurd cc
+    tested false z false false false false true e = let n = eqb-false _ _ z in (cc, omega arith)
+    tested false z false false false false false e = absurd (not_partial _ _ h w e)
 
 unmarked_at : (s : List ℕ) → first_at s ≡ Unmarked → s ≡ []
 unfolding first_at
-unmarked_at s e = tested (eqb (length s) 0) refl (ltb (length s) 16) (not (eqb (octets 8 8 s) 2)) (ltb 134217728 (octets 9 16 s)) (ltb (length s) (announced s)) e
+unmarked_at s e = tested (eqb (length s) 0) refl (ltb (length s) 16) (not (eqb (octets 8 8 s) 2)) (ltb 134217728 (octets 9 16 s)) (ltb (octets 9 16 s) 16) (ltb (length s) (announced s)) e
   where
     apart : (r : Result Sections Bad) (rest : List ℕ) → taken r rest ≡ Unmarked → ⊥
     apart (Ok m) rest e = cc
     apart (Err bad) rest e = cc
 
-    tested : (b0 : Bool) → eqb (length s) 0 ≡ b0 → (b1 b2 b3 b4 : Bool)
-        → cond b0 Unmarked (cond b1 (Partial (length s) 16) (cond b2 (Refuses (Edition (octets 8 8 s))) (cond b3 (Refuses (TooLong (octets 9 16 s))) (cond b4 (Partial (length s) (announced s)) (taken (reading (take (announced s) s)) (drop (announced s) s)))))) ≡ Unmarked
+    tested : (b0 : Bool) → eqb (length s) 0 ≡ b0 → (b1 b2 b3 bs b4 : Bool)
+        → cond b0 Unmarked (cond b1 (Partial (length s) 16) (cond b2 (Refuses (Edition (octets 8 8 s))) (cond b3 (Refuses (TooLong (octets 9 16 s))) (cond bs (Refuses (Short 0 (octets 9 16 s))) (cond b4 (Partial (length s) (announced s)) (taken (reading (take (announced s) s)) (drop (announced s) s))))))) ≡ Unmarked
         → s ≡ []
-    tested true z b1 b2 b3 b4 e = no_octets s z
-    tested false z true b2 b3 b4 e = absurd cc
-    tested false z false true b3 b4 e = absurd cc
-    tested false z false false true b4 e = absurd cc
-    tested false z false false false true e = absurd cc
-    tested false z false false false false e = absurd (apart _ _ e)
+    tested true z b1 b2 b3 bs b4 e = no_octets s z
+    tested false z true b2 b3 bs b4 e = absurd cc
+    tested false z false true b3 bs b4 e = absurd cc
+    tested false z false false true bs b4 e = absurd cc
+    tested false z false false false true b4 e = absurd cc
+    tested false z false false false false true e = absurd cc
+    tested false z false false false false false e = absurd (apart _ _ e)
 
 -- where no message begins all is skipped
 pub nothing_marked : (s : List ℕ) → first s ≡ Unmarked → gap s ≡ length s

@@ -2,14 +2,14 @@
 use Rattle.std.proofs.Common.{◌≡◌, ℕ, ◌+◌, ◌<◌, ◌≤◌, Bool, true, false, cond, List, [], ◌∷◌, ◌++◌, length, take, drop, Result, Ok, Err, refl, sym, ap, subst, ◌∙◌, append_assoc, arith, length-append, length-take, eqb, ltb, not, lit≤, add_assoc}
 use Rattle.std.specs.Prelude.{nat_eq}
 use Rattle.std.specs.List.{starts_with}
-use Rattle.std.proofs.lemmas.Bool.{ltb-false, le-ltb, ne_eqb}
+use Rattle.std.proofs.lemmas.Bool.{ltb-false, ltb-true, le-ltb, lt-ltb, ne_eqb}
 use Rattle.std.proofs.lemmas.List.{take-append-le, drop-append-le}
 use Rattle.fd_bytes.specs.Numbers.{octets}
 use Rattle.fd_bytes.proofs.Octets.{octets-append, starts_with-append}
 use Rattle.fd_sections.specs.declared.bad.Bad.{Bad}
-use Rattle.fd_sections.specs.declared.bad.Bad.TheVariants.{Edition, TooLong}
+use Rattle.fd_sections.specs.declared.bad.Bad.TheVariants.{Edition, Short, TooLong}
 use Rattle.fd_sections.specs.Message.{Sections, grib, message_octets}
-use Rattle.fd_sections.specs.Reading.{reading}
+use Rattle.fd_sections.specs.Reading.{indicator_at, reading}
 use Rattle.fd_sections.specs.Stream.{First, Unmarked, Partial, Refuses, Takes, from_mark, first_at, first, taken, gap, announced, Stream, Whole, Cut, Bad_end, beginning, stream_of_at_most, stream, after}
 use Rattle.fd_sections.proofs.SectionLaws.{same_from_pointwise}
 use Rattle.fd_sections.proofs.StreamLaws.{first_at-takes, before_mark}
@@ -34,14 +34,15 @@ taken-more : (r : Result Sections Bad) (rest more : List ℕ) → taken r (rest 
 taken-more (Ok m) rest more = refl
 taken-more (Err bad) rest more = refl
 
-tests : (b3 b4 b5 b5' : Bool) (e n w len len' : ℕ) (r r' : Result Sections Bad) (rest rest' more : List ℕ) (f : First)
+tests : (b3 b4 bs b5 b5' : Bool) (e n w len len' : ℕ) (r r' : Result Sections Bad) (rest rest' more : List ℕ) (f : First)
     → (b5 ≡ false → b5' ≡ false) → (b5 ≡ false → r' ≡ r) → (b5 ≡ false → rest' ≡ rest ++ more)
-    → cond b3 (Refuses (Edition e)) (cond b4 (Refuses (TooLong n)) (cond b5 (Partial len w) (taken r rest))) ≡ f → IsSettled f
-    → cond b3 (Refuses (Edition e)) (cond b4 (Refuses (TooLong n)) (cond b5' (Partial len' w) (taken r' rest'))) ≡ followed f more
-tests true b4 b5 b5' e n w len len' r r' rest rest' more f p q s h settled = subst (λ (g : First). Refuses (Edition e) ≡ followed g more) h refl
-tests false true b5 b5' e n w len len' r r' rest rest' more f p q s h settled = subst (λ (g : First). Refuses (TooLong n) ≡ followed g more) h refl
-tests false false true b5' e n w len len' r r' rest rest' more f p q s h settled = absurd (subst IsSettled (sym h) settled)
-tests false false false b5' e n w len len' r r' rest rest' more f p q s h settled =
+    → cond b3 (Refuses (Edition e)) (cond b4 (Refuses (TooLong n)) (cond bs (Refuses (Short 0 n)) (cond b5 (Partial len w) (taken r rest)))) ≡ f → IsSettled f
+    → cond b3 (Refuses (Edition e)) (cond b4 (Refuses (TooLong n)) (cond bs (Refuses (Short 0 n)) (cond b5' (Partial len' w) (taken r' rest')))) ≡ followed f more
+tests true b4 bs b5 b5' e n w len len' r r' rest rest' more f p q s h settled = subst (λ (g : First). Refuses (Edition e) ≡ followed g more) h refl
+tests false true bs b5 b5' e n w len len' r r' rest rest' more f p q s h settled = subst (λ (g : First). Refuses (TooLong n) ≡ followed g more) h refl
+tests false false true b5 b5' e n w len len' r r' rest rest' more f p q s h settled = subst (λ (g : First). Refuses (Short 0 n) ≡ followed g more) h refl
+tests false false false true b5' e n w len len' r r' rest rest' more f p q s h settled = absurd (subst IsSettled (sym h) settled)
+tests false false false false b5' e n w len len' r r' rest rest' more f p q s h settled =
     rw (p refl, q refl, s refl) (taken-more r rest more ∙ ap (λ (g : First). followed g more) h)
 
 longer : (s more : List ℕ) (n : ℕ) → n ≤ length s → n ≤ length (s ++ more)
@@ -67,7 +68,7 @@ first_at-followed s more f h settled =
     let t2 : ltb (length (s ++ more)) 16 ≡ false = le-ltb _ _ (omega arith) in
     let t3 : octets 8 8 (s ++ more) ≡ octets 8 8 s = octets-append 8 8 s more (lit≤ tt) (lit≤ tt) (omega arith) in
     let t4 : octets 9 16 (s ++ more) ≡ n = octets-append 9 16 s more (lit≤ tt) (lit≤ tt) long in
-    rw (t1, t2, t3, t4) (tests (not (eqb (octets 8 8 s) 2)) (ltb 134217728 n) (ltb (length s) w) (ltb (length (s ++ more)) w) (octets 8 8 s) n w (length s) (length (s ++ more)) (reading (take w s)) (reading (take w (s ++ more))) (drop w s) (drop w (s ++ more)) more f
+    rw (t1, t2, t3, t4) (tests (not (eqb (octets 8 8 s) 2)) (ltb 134217728 n) (ltb n 16) (ltb (length s) w) (ltb (length (s ++ more)) w) (octets 8 8 s) n w (length s) (length (s ++ more)) (reading (take w s)) (reading (take w (s ++ more))) (drop w s) (drop w (s ++ more)) more f
     (λ e. le-ltb _ _ (longer s more w (ltb-false _ _ e)))
     (λ e. ap reading (take-append-le w s more (ltb-false _ _ e)))
     (λ e. drop-append-le w s more (ltb-false _ _ e))
@@ -102,6 +103,30 @@ append_one b bs more false e later some =
 pub from_mark-append : (s more : List ℕ) → 0 < length (from_mark s) → from_mark (s ++ more) ≡ from_mark s ++ more
 from_mark-append [] more some = absurd (omega arith)
 from_mark-append (b ∷ bs) more some = append_one b bs more (starts_with nat_eq (b ∷ bs) grib) refl (from_mark-append bs more) some
+
+-- ---- what reading the octets gives that a message says it has
+
+short_read : (s : List ℕ) (n : ℕ) → n < 16 → n ≤ length s → reading (take n s) ≡ Err (Short 0 n)
+unfolding reading indicator_at
+short_read s n few fits =
+    let len : length (take n s) ≡ n = omega (arith, length-take n s) in
+    let t : ltb n 16 ≡ true = lt-ltb n 16 few in
+    rw (len, t) refl
+
+by_said : (b0 b1 b2 b3 bs b4 : Bool) (l e n w : ℕ) (said : Result Sections Bad) (rest : List ℕ) → b0 ≡ false → b1 ≡ false → b2 ≡ false → b3 ≡ false → b4 ≡ false → (bs ≡ true → said ≡ Err (Short 0 n))
+    → cond b0 Unmarked (cond b1 (Partial l 16) (cond b2 (Refuses (Edition e)) (cond b3 (Refuses (TooLong n)) (cond bs (Refuses (Short 0 n)) (cond b4 (Partial l w) (taken said rest)))))) ≡ taken said rest
+by_said b0 b1 b2 b3 true b4 l e n w said rest p0 p1 p2 p3 p4 short = rw (p0, p1, p2, p3, short refl) refl
+by_said b0 b1 b2 b3 false b4 l e n w said rest p0 p1 p2 p3 p4 short = rw (p0, p1, p2, p3, p4) refl
+
+pub said_read : (s : List ℕ) → 16 ≤ length s → octets 8 8 s ≡ 2 → octets 9 16 s ≤ length s → octets 9 16 s ≤ 134217728 → first_at s ≡ taken (reading (take (octets 9 16 s) s)) (drop (octets 9 16 s) s)
+unfolding first_at
+said_read s long two fits limit =
+    let n = octets 9 16 s in
+    by_said (eqb (length s) 0) (ltb (length s) 16) (not (eqb (octets 8 8 s) 2)) (ltb 134217728 n) (ltb n 16) (ltb (length s) n) (length s) (octets 8 8 s) n n (reading (take n s)) (drop n s)
+    (not_zero (length s) long) (le-ltb _ _ long) (rw two refl) (le-ltb _ _ limit) (le-ltb _ _ fits)
+    (λ short. short_read s n (ltb-true _ _ short) fits)
+
+-- ---- what is settled
 
 nothing : first_at [] ≡ Unmarked
 unfolding first_at
@@ -176,4 +201,4 @@ stream-cut s h w e = stream-first s ∙ rw e refl
 pub after-after : (ms ns : List Sections) (j k : ℕ) (s : Stream) → after ms j (after ns k s) ≡ after (ms ++ ns) (j + k) s
 after-after ms ns j k s = rw (append_assoc ms ns s.messages, add_assoc j k s.skipped) refl
 
-pub ruleset streams = (stream-first, stream-takes, stream-refuses)
+pub ruleset streams = (said_read, stream-first, stream-takes, stream-refuses)

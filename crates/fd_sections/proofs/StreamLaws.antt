@@ -5,7 +5,7 @@ use Rattle.std.specs.List.{starts_with}
 use Rattle.std.proofs.lemmas.List.{take_at, drop_at, take-append-drop}
 use Rattle.fd_bytes.specs.Numbers.{octets}
 use Rattle.fd_sections.specs.declared.bad.Bad.{Bad}
-use Rattle.fd_sections.specs.declared.bad.Bad.TheVariants.{Edition, TooLong}
+use Rattle.fd_sections.specs.declared.bad.Bad.TheVariants.{Edition, Short, TooLong}
 use Rattle.fd_sections.specs.Message.{Sections, grib, message_octets}
 use Rattle.fd_sections.specs.Reading.{reading}
 use Rattle.fd_sections.specs.Stream.{First, Unmarked, Partial, Refuses, Takes, from_mark, first_at, first, taken, gap, announced}
@@ -44,7 +44,8 @@ first_at-takes s m r e =
     let b = not_other (ltb (length s) 16) (Partial (length s) 16) _ m r a.1 (λ h. absurd cc) in
     let c = not_other (not (eqb (octets 8 8 s) 2)) (Refuses (Edition (octets 8 8 s))) _ m r b.1 (λ h. absurd cc) in
     let d = not_other (ltb 134217728 (octets 9 16 s)) (Refuses (TooLong (octets 9 16 s))) _ m r c.1 (λ h. absurd cc) in
-    let f = not_other (ltb (length s) n) (Partial (length s) n) _ m r d.1 (λ h. absurd cc) in
+    let k = not_other (ltb (octets 9 16 s) 16) (Refuses (Short 0 (octets 9 16 s))) _ m r d.1 (λ h. absurd cc) in
+    let f = not_other (ltb (length s) n) (Partial (length s) n) _ m r k.1 (λ h. absurd cc) in
     let t = taken_is (reading (take n s)) (drop n s) m r f.1 in
     let is = reading_takes (take n s) m t.0 in
     record {

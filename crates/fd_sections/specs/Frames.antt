@@ -2,7 +2,7 @@
 use Rattle.std.specs.Prelude.{◌≡◌, ◌≤◌, ◌+◌, ◌-◌, ℕ, List, [], ◌∷◌, ◌++◌, length, take, drop, Option, Some, None, Result, Ok, Err, Bool, true, false, nat_lt, ◌==◌, not, if◌then◌else◌}
 use Rattle.fd_bytes.specs.Numbers.{octets}
 use Rattle.fd_sections.specs.declared.bad.Bad.{Bad}
-use Rattle.fd_sections.specs.declared.bad.Bad.TheVariants.{Edition, TooLong}
+use Rattle.fd_sections.specs.declared.bad.Bad.TheVariants.{Edition, Short, TooLong}
 use Rattle.fd_sections.specs.declared.refusal.BadAt.{BadAt}
 use Rattle.fd_sections.specs.declared.refusal.Truncated.{Truncated}
 use Rattle.fd_sections.specs.Message.{Sections}
@@ -18,7 +18,7 @@ pub data FirstFrame : Type 0 where
   Unframed : FirstFrame
   -- a frame that is not whole yet: how many octets it has, and how many it wants
   Begun : (have want : ℕ) → FirstFrame
-  -- another edition, or too many octets
+  -- another edition, too many octets, or fewer than section 0 has
   Rejects : (bad : Bad) → FirstFrame
   Frame : (octets rest : List ℕ) → FirstFrame
 
@@ -29,6 +29,7 @@ frame_at s =
     else if nat_lt (length s) 16 then Begun (length s) 16
     else if not (octets 8 8 s == 2) then Rejects (Edition (octets 8 8 s))
     else if nat_lt 134217728 (octets 9 16 s) then Rejects (TooLong (octets 9 16 s))
+    else if nat_lt (octets 9 16 s) 16 then Rejects (Short 0 (octets 9 16 s))
     else if nat_lt (length s) (announced s) then Begun (length s) (announced s)
     else Frame (take (announced s) s) (drop (announced s) s)
 

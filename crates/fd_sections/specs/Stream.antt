@@ -1,9 +1,9 @@
 -- A stream of messages. Octets before a `GRIB` are skipped, and counted.
-use Rattle.std.specs.Prelude.{◌+◌, ◌-◌, max, ℕ, List, [], ◌∷◌, ◌++◌, length, take, drop, Result, Ok, Err, nat_lt, nat_eq, ◌==◌, not, if◌then◌else◌}
+use Rattle.std.specs.Prelude.{◌+◌, ◌-◌, ℕ, List, [], ◌∷◌, ◌++◌, length, take, drop, Result, Ok, Err, nat_lt, nat_eq, ◌==◌, not, if◌then◌else◌}
 use Rattle.std.specs.List.{starts_with}
 use Rattle.fd_bytes.specs.Numbers.{octets}
 use Rattle.fd_sections.specs.declared.bad.Bad.{Bad}
-use Rattle.fd_sections.specs.declared.bad.Bad.TheVariants.{Edition, TooLong}
+use Rattle.fd_sections.specs.declared.bad.Bad.TheVariants.{Edition, Short, TooLong}
 use Rattle.fd_sections.specs.Message.{Sections, grib}
 use Rattle.fd_sections.specs.Reading.{reading}
 
@@ -25,17 +25,18 @@ abbrev pub taken : Result Sections Bad → List ℕ → First
 taken (Ok message) rest = Takes message rest
 taken (Err bad) rest = Refuses bad
 
--- how many octets the message wants that begins here: the total length that octets 9 to 16 say, and at least section 0
+-- how many octets the message wants that begins here: the total length that octets 9 to 16 say
 abbrev pub announced : List ℕ → ℕ
-announced s = max 16 (octets 9 16 s)
+announced s = octets 9 16 s
 
--- what comes first at a `GRIB`
+-- what comes first at a `GRIB`; that fewer than the 16 octets of section 0 are refused so is what reading them gives
 unfoldable pub first_at : List ℕ → First
 first_at s =
     if length s == 0 then Unmarked
     else if nat_lt (length s) 16 then Partial (length s) 16
     else if not (octets 8 8 s == 2) then Refuses (Edition (octets 8 8 s))
     else if nat_lt 134217728 (octets 9 16 s) then Refuses (TooLong (octets 9 16 s))
+    else if nat_lt (octets 9 16 s) 16 then Refuses (Short 0 (octets 9 16 s))
     else if nat_lt (length s) (announced s) then Partial (length s) (announced s)
     else taken (reading (take (announced s) s)) (drop (announced s) s)
 

@@ -55,11 +55,16 @@ fn first_at(stream: &[u8]) -> Result<Found<'_>, Bad>
     if said > MAX_LENGTH {
         return Err(Bad::TooLong { len: said });
     }
-    let wanted = said.max(16);
-    if have < wanted {
-        return Ok(Found::Partial { have, want: wanted });
+    if said < 16 {
+        return Err(Bad::Short {
+            section: 0,
+            len: said,
+        });
     }
-    let (octets, rest) = stream.split_at(wanted as usize);
+    if have < said {
+        return Ok(Found::Partial { have, want: said });
+    }
+    let (octets, rest) = stream.split_at(said as usize);
     let message = message(octets)?;
     Ok(Found::Whole(message, rest))
 }

@@ -39,11 +39,16 @@ fn frame_at(stream: &[u8]) -> Result<FoundFrame<'_>, Bad>
     if said > MAX_LENGTH {
         return Err(Bad::TooLong { len: said });
     }
-    let size = said.max(16);
-    if have < size {
+    if said < 16 {
+        return Err(Bad::Short {
+            section: 0,
+            len: said,
+        });
+    }
+    if have < said {
         return Ok(FoundFrame::Begun { have });
     }
-    let (octets, rest) = stream.split_at(size as usize);
+    let (octets, rest) = stream.split_at(said as usize);
     Ok(FoundFrame::Whole(octets, rest))
 }
 

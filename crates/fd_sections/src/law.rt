@@ -1,4 +1,4 @@
-ghost use Rattle.std.specs.Prelude.{◌≡◌, ◌-◌, ◌++◌, [], ◌∷◌, ℕ, List, length};
+ghost use Rattle.std.specs.Prelude.{◌≡◌, ◌≤◌, ◌-◌, ◌++◌, [], ◌∷◌, ℕ, List, length, take, drop};
 ghost use Rattle.fd_sections.specs.declared.refusal.BadAt.{BadAt};
 ghost use Rattle.fd_sections.specs.Joining.{EndsAs, GoesTo, IsRefusedStream, IsStream, IsWaiting, RefusesAs, SplitsOn};
 ghost use Rattle.fd_sections.specs.Progress.{Progress};
@@ -6,11 +6,15 @@ ghost use Rattle.fd_sections.specs.Splitting.{answer, fed, finished, progress, s
 ghost use Rattle.fd_sections.specs.Frames.{FramesEnd, FramesOn, FramesTo, IsFrames, first_frame, frame_answer, frame_progress, frames, read_frames};
 ghost use Rattle.fd_sections.specs.declared.bad.Bad.{Bad};
 ghost use Rattle.fd_sections.specs.Message.{Sections};
-ghost use Rattle.fd_sections.specs.Stream.{stream, first, gap, pending, beginning, after, Refuses, Takes, Bad_end};
+ghost use Rattle.fd_bytes.specs.Numbers.{octets};
+ghost use Rattle.fd_sections.specs.Reading.{reading};
+ghost use Rattle.fd_sections.specs.Stream.{stream, first, first_at, taken, gap, pending, beginning, after, Refuses, Takes, Bad_end};
 
 /// What holds of every stream of messages, in whatever pieces it comes.
 #[tactic(auto, using(crate::proofs::Pieces::streams, crate::proofs::Pending::pendings))]
 pub fn every_stream()
+    // Once section 0 and the octets that it says are in, of edition 2 and not too many, what comes first is what reading these octets gives.
+    ensures said { (s : List ℕ) → 16 ≤ length s → octets 8 8 s ≡ 2 → octets 9 16 s ≤ length s → octets 9 16 s ≤ 134217728 → first_at s ≡ taken (reading (take (octets 9 16 s) s)) (drop (octets 9 16 s) s) }
     // A stream is what comes first in it, and then the stream of the rest.
     ensures first { (s : List ℕ) → stream s ≡ beginning stream (gap s) (first s) }
     // A message that is whole stays the next one, whatever more comes.

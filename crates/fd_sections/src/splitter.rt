@@ -207,9 +207,9 @@ impl Splitter {
         octets
     }
 
-    /// The octets that `next` would read as the next message, unread, lent from the splitter. It refuses another edition and too
-    /// great a length alone. None exactly where none are whole yet: then what can begin no message is skipped. After a refusal
-    /// nothing has changed, so it answers the same again. One splitter is asked by this call or by `next`, not by both.
+    /// The octets that `next` would read as the next message, unread, lent from the splitter. It refuses another edition, too
+    /// great a length, and one below the 16 octets of section 0 alone. None exactly where none are whole yet: then what can begin
+    /// no message is skipped. After a refusal nothing has changed, so it answers the same again. One splitter is asked by this call or by `next`, not by both.
     pub fn next_frame(&mut self) -> Result<Option<&[u8]>, BadAt>
         ensures* goes_on { sem 𝓛 (Rests the_row self.entry (λ n. n ≡ frame_progress self.old (first_frame self.old.rest))) }
         ensures answer { Is (option_map (λ o. o.now)) result (frame_answer self.old (first_frame self.old.rest)) }

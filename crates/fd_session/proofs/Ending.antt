@@ -18,13 +18,15 @@ use Rattle.fd_outcome.specs.Asking.{rules_of}
 use Rattle.fd_outcome.specs.Causes.{Telling}
 use Rattle.fd_outcome.specs.Ends.{AreCalm, disk_failed, input_failed, no_memory}
 use Rattle.fd_outcome.specs.Objects.{Failed, IsCalm, Object}
-use Rattle.fd_outcome.specs.Store.{IsSound, table_at}
+use Rattle.fd_outcome.specs.Noticing.{SparesDamaged}
+use Rattle.fd_outcome.specs.Store.{table_at}
 use Rattle.fd_outcome.specs.Told.{Told, ToldOrNoMemory}
-use Rattle.fd_play.specs.Plays.{HoldsSame, Played}
+use Rattle.fd_play.specs.Plays.{HoldsSame, LeavesUnplayed, Played}
 use Rattle.fd_session.specs.Endings.{closing, count_faults, damage_of, first_damage, is_fault, lane_damage, lane_faults, lane_has, one_if, some_has}
 use Rattle.fd_session.specs.declared.closing.Kind.TheVariants as kinds
 use Rattle.fd_session.specs.Sessions.{Accepted, Ends, Idles, IsAccepted, IsComplete, Refused, Runs, SessionRan}
 use Rattle.fd_session.specs.Writes.{All, HasCounted, NoFound, NoText, Starved, Writes}
+use Rattle.fd_session.proofs.Sparing.{spares_played, spares_told}
 
 -- ---- where objects tell
 
@@ -57,6 +59,12 @@ where_both Q R P (Some x) None None q r f = tt
 where_both Q R P (Some x) None (Some z) q r f = absurd r
 where_both Q R P (Some x) (Some y) None q r f = absurd r
 where_both Q R P (Some x) (Some y) (Some z) q r f = f x y z q r
+
+-- what the second tells is told beside what both tell
+both_if : {A B : Type 0} (P : A → B → Type 0) (Q : B → Type 0) (a : Option A) (b : Option B) → IfSome a (λ x. IfSome b (P x)) → IfSome b Q → IfSome a (λ x. IfSome b (λ y. P x y × Q y))
+both_if P Q None b p q = tt
+both_if P Q (Some x) None p q = tt
+both_if P Q (Some x) (Some y) p q = (p, q)
 
 if_pair : {A B : Type 0} (P : A → Type 0) (Q : B → Type 0) (a : Option A) (b : Option B) → IfSome a P → IfSome b Q → IfSome a (λ x. IfSome b (λ y. P x × Q y))
 if_pair P Q None b p q = tt
@@ -153,11 +161,12 @@ module _ (s : Status) (store : Object Holdings) (input output report : Object (L
   output_of (OfMemory is) e = absurd (let z : NoMemory ≡ OutputFault = sym is ∙ e in cc)
   output_of (OfOutput is failed) e = failed
 
-  ran_of : (F : Type 0) → Came s store input output report → Ends F s store input output report → WhereTold store.before store.now (λ h i. Unit {0}) → (s ≡ Done → IfSome input.before (λ octets. input.now ≡ Some []))
+  ran_of : (F : Type 0) → Came s store input output report → Ends F s store input output report → WhereTold store.before store.now SparesDamaged → (s ≡ Done → IfSome input.before (λ octets. input.now ≡ Some []))
       → IsComplete F s store input output report → SessionRan F s store input output report
-  ran_of F came ends told to_end complete = record {
+  ran_of F came ends spares to_end complete = record {
     ends = ends;
-    told = told;
+    told = told_both SparesDamaged store.before store.now spares;
+    spares = spares;
     words = never Words refl (λ e. absurd cc) (λ e. absurd cc) (λ e. absurd cc) (λ e. absurd cc) came;
     missed = never Missed refl (λ e. absurd cc) (λ e. absurd cc) (λ e. absurd cc) (λ e. absurd cc) came;
     to_end = to_end;
@@ -171,11 +180,13 @@ module _ (s : Status) (store : Object Holdings) (input output report : Object (L
 -- ---- no lane ran
 
 -- the store holds what it held, and is as it was unless the whole input was accepted
-abbrev pub Keeps : List ℕ → Holdings → Holdings → Type 0
-Keeps octets h i = HoldsSame h i × (IsAccepted octets h ⊎ (i ≡ h))
+pub record Keeps (octets : List ℕ) (h i : Holdings) : Type 0 where
+  pub holds : HoldsSame h i
+  pub founded : IsAccepted octets h ⊎ (i ≡ h)
+  pub left : (i ≡ h) ⊎ ((a : IsAccepted octets h) × LeavesUnplayed a.script.dataset h i)
 
 pub record IsKept (store : Object Holdings) (input : Object (List ℕ)) : Type 0 where
-  pub told : WhereTold store.before store.now (λ h i. Unit {0})
+  pub spares : WhereTold store.before store.now SparesDamaged
   pub keeps : IfSome input.before (λ octets. WhereTold store.before store.now (Keeps octets))
 
 -- Why no lane ran, and that it was told.
@@ -220,10 +231,10 @@ module _ (F : Type 0) (s : Status) (store : Object Holdings) (input output repor
   idles Q nothing q stays f = where_both Q Keeps (λ octets h i. Idles F s store input output report octets h i ⊎ Runs F s store input output report octets h i) input.before store.before store.now q stays.keeps (λ octets h i x y. inl (f octets h i x y))
 
   halted_ends : output.now ≡ output.before → IsKept store input → Halts s store input report → Ends F s store input output report
-  halted_ends nothing stays (Refuses t can is calm told) = idles (λ octets h. Refused h octets t) nothing is stays (λ octets h i q x. record { nothing = nothing; stays = x.0; founded = x.1; tells = inl (t, q, told) })
-  halted_ends nothing stays (Unread failed told) = idles (λ octets h. Unit {0}) nothing (if_both_all input.before store.before) stays (λ octets h i q x. record { nothing = nothing; stays = x.0; founded = x.1; tells = inr (inl (inl told)) })
-  halted_ends nothing stays (Unheld failed told) = idles (λ octets h. Unit {0}) nothing (if_both_all input.before store.before) stays (λ octets h i q x. record { nothing = nothing; stays = x.0; founded = x.1; tells = inr (inr (inl (inl told))) })
-  halted_ends nothing stays (Starves told) = idles (λ octets h. Unit {0}) nothing (if_both_all input.before store.before) stays (λ octets h i q x. record { nothing = nothing; stays = x.0; founded = x.1; tells = inr (inr (inr (inl told))) })
+  halted_ends nothing stays (Refuses t can is calm told) = idles (λ octets h. Refused h octets t) nothing is stays (λ octets h i q x. record { nothing = nothing; stays = x.holds; founded = x.founded; left = x.left; tells = inl (t, q, told) })
+  halted_ends nothing stays (Unread failed told) = idles (λ octets h. Unit {0}) nothing (if_both_all input.before store.before) stays (λ octets h i q x. record { nothing = nothing; stays = x.holds; founded = x.founded; left = x.left; tells = inr (inl (inl told)) })
+  halted_ends nothing stays (Unheld failed told) = idles (λ octets h. Unit {0}) nothing (if_both_all input.before store.before) stays (λ octets h i q x. record { nothing = nothing; stays = x.holds; founded = x.founded; left = x.left; tells = inr (inr (inl (inl told))) })
+  halted_ends nothing stays (Starves told) = idles (λ octets h. Unit {0}) nothing (if_both_all input.before store.before) stays (λ octets h i q x. record { nothing = nothing; stays = x.holds; founded = x.founded; left = x.left; tells = inr (inr (inr (inl told))) })
 
   halted_complete : Halts s store input report → IsComplete F s store input output report
   halted_complete (Refuses t can is calm told) = if_both (λ octets h. Refused h octets t) _ input.before store.before is (λ octets h q sound none ns ni nk nr. absurd (none t q))
@@ -234,7 +245,7 @@ module _ (F : Type 0) (s : Status) (store : Object Holdings) (input output repor
   -- no lane ran
   pub idle_ran : output.now ≡ output.before → IsCalm output → IsKept store input → Halts s store input report → SessionRan F s store input output report
   idle_ran nothing still stays halts =
-      ran_of s store input output report F (halted_came still halts) (halted_ends nothing stays halts) stays.told (λ e. absurd (halted_not_done halts e)) (halted_complete halts)
+      ran_of s store input output report F (halted_came still halts) (halted_ends nothing stays halts) stays.spares (λ e. absurd (halted_not_done halts e)) (halted_complete halts)
 
 -- ---- the lanes ran
 
@@ -338,10 +349,10 @@ module _ (F : Type 0) (s : Status) (store : Object Holdings) (input output repor
   sound_ends None h i e some played = absurd cc
   sound_ends (Some t) h i e some played = no_first_damage all (played.over t e).sound
 
-  complete_of : (b c : Option Holdings) → WhereTold b c (Played rules messages script before all) → IfSome b (λ h. IsSound h → ¬ (Failed store) → ¬ (Failed output) → ¬ (Failed report) → Whole)
+  complete_of : (b c : Option Holdings) → WhereTold b c (Played rules messages script before all) → IfSome b (λ h. IsSome (table_at h script.dataset) → ¬ (Failed store) → ¬ (Failed output) → ¬ (Failed report) → Whole)
   complete_of None c played = tt
   complete_of (Some h) None played = absurd played
-  complete_of (Some h) (Some i) played = λ sound ns nk nr. run_whole writes (sound_ends (table_at h script.dataset) h i refl (sound.datasets script.dataset) played) ns nk nr
+  complete_of (Some h) (Some i) played = λ sound ns nk nr. run_whole writes (sound_ends (table_at h script.dataset) h i refl sound played) ns nk nr
 
   -- the lanes ran
   pub run_ran : IfSome store.before (λ h. rules_of h.schema ≡ Ok rules) → IfSome input.before (λ octets. Accepted rules octets script messages) → IfSome input.before (λ octets. input.now ≡ Some [])
@@ -350,6 +361,7 @@ module _ (F : Type 0) (s : Status) (store : Object Holdings) (input output repor
       (where_both (λ octets h. Accepted rules octets script messages × (rules_of h.schema ≡ Ok rules)) (λ octets. Played rules messages script before all) (λ octets h i. Idles F s store input output report octets h i ⊎ Runs F s store input output report octets h i)
       input.before store.before store.now (if_pair _ _ input.before store.before accepted are) (for_each input.before (WhereTold store.before store.now (Played rules messages script before all)) played)
       (λ octets h i q p. inr (record { rules = rules; are = q.1; script = script; messages = messages; accepted = q.0; before = before; ends = all; played = p; writes = writes; counted = counted })))
-      (told_both (Played rules messages script before all) store.before store.now played) (λ e. to_end)
-      (if_both (λ octets h. IsSound h → ¬ (Failed store) → ¬ (Failed output) → ¬ (Failed report) → Whole) _ input.before store.before (for_each input.before (IfSome store.before (λ h. IsSound h → ¬ (Failed store) → ¬ (Failed output) → ¬ (Failed report) → Whole)) (complete_of store.before store.now played))
-      (λ octets h q sound none ns ni nk nr. q sound ns nk nr))
+      (spares_told (Played rules messages script before all) (λ h i p. spares_played rules messages script before all h i p) store.before store.now played) (λ e. to_end)
+      (if_both (λ octets h. (Accepted rules octets script messages × (rules_of h.schema ≡ Ok rules)) × (IsSome (table_at h script.dataset) → ¬ (Failed store) → ¬ (Failed output) → ¬ (Failed report) → Whole)) _ input.before store.before
+      (both_if (λ octets h. Accepted rules octets script messages × (rules_of h.schema ≡ Ok rules)) (λ h. IsSome (table_at h script.dataset) → ¬ (Failed store) → ¬ (Failed output) → ¬ (Failed report) → Whole) input.before store.before (if_pair _ _ input.before store.before accepted are) (complete_of store.before store.now played))
+      (λ octets h q sound none ns ni nk nr. q.1 (sound (record { rules = rules; are = q.0.1; script = script; messages = messages; accepted = q.0.0 })) ns nk nr))

@@ -39,46 +39,53 @@ use Rattle.fd_outcome.specs.Told.{ToldOrNoMemory}
 use Rattle.fd_outcome.specs.Unruled.{IsUnruled}
 use Rattle.fd_telling.specs.Stops.{ToldSome}
 use Rattle.fd_lanes.specs.declared.end.End.{End}
-use Rattle.fd_play.specs.Plays.{HoldsSame, IsUnopened, Played}
+use Rattle.fd_outcome.specs.Noticing.{SparesDamaged}
+use Rattle.fd_play.specs.Plays.{HoldsSame, IsUnopened, LeavesUnplayed, Played}
 use Rattle.fd_session.specs.Inputs.{IsInput, IsRefusedBehind}
-use Rattle.fd_session.specs.Sessions.{Accepted, Refused, ByDamage, ByLine, BySchema, ByScript, ByStream}
+use Rattle.fd_session.specs.Sessions.{Accepted, IsAccepted, Refused, ByDamage, ByLine, BySchema, ByScript, ByStream}
 use Rattle.fd_session.specs.Telling.{limit_or_line, limit_text, miscast_telling, script_telling, wrong_text}
 use Rattle.fd_session.specs.Unopened.{OnDisk, ToldUnopened}
 use Rattle.fd_session.specs.Writes.{HasCounted}
-use Rattle.fd_session.proofs.Ending.{Halts, IsKept, Keeps, Refuses, Starves, Unheld, is_refusal, told_both}
+use Rattle.fd_session.proofs.Ending.{Halts, IsKept, Keeps, Refuses, Starves, Unheld, is_refusal}
+use Rattle.fd_session.proofs.Sparing.{spares_self, spares_told, spares_unplayed}
 
-told_same : (a b : Option Holdings) → b ≡ a → WhereTold a b (λ h i. Unit {0})
-told_same None b e = rw e tt
-told_same (Some h) b e = rw e tt
+spares_same : (a b : Option Holdings) → b ≡ a → WhereTold a b SparesDamaged
+spares_same None b e = rw e tt
+spares_same (Some h) b e = rw e (spares_self h)
 
 keeps_same : (o : Option (List ℕ)) (a b : Option Holdings) → b ≡ a → IfSome o (λ octets. WhereTold a b (Keeps octets))
 keeps_same None a b e = tt
 keeps_same (Some octets) None b e = rw e tt
-keeps_same (Some octets) (Some h) b e = rw e (record { schema = refl; each = λ name. refl }, inr refl)
+keeps_same (Some octets) (Some h) b e = rw e (record { holds = record { schema = refl; each = λ name. refl }; founded = inr refl; left = inl refl })
 
 -- a store that tells as it told is as it was
 pub kept : (store : Object Holdings) (input : Object (List ℕ)) → store.now ≡ store.before → IsKept store input
-kept store input e = record { told = told_same store.before store.now e; keeps = keeps_same input.before store.before store.now e }
+kept store input e = record { spares = spares_same store.before store.now e; keeps = keeps_same input.before store.before store.now e }
 
-keeps_held : (rules : List Rule) (script : Scripted) (messages : List (List ℕ)) (o : Option (List ℕ)) (a b : Option Holdings) → WhereTold a b HoldsSame → IfSome a (λ h. rules_of h.schema ≡ Ok rules) → IfSome o (λ octets. Accepted rules octets script messages)
+keeps_held : (rules : List Rule) (script : Scripted) (messages : List (List ℕ)) (o : Option (List ℕ)) (a b : Option Holdings) → WhereTold a b HoldsSame → WhereTold a b (LeavesUnplayed script.dataset) → IfSome a (λ h. rules_of h.schema ≡ Ok rules) → IfSome o (λ octets. Accepted rules octets script messages)
     → IfSome o (λ octets. WhereTold a b (Keeps octets))
-keeps_held rules script messages None a b w are accepted = tt
-keeps_held rules script messages (Some octets) None None w are accepted = tt
-keeps_held rules script messages (Some octets) None (Some i) w are accepted = absurd w
-keeps_held rules script messages (Some octets) (Some h) None w are accepted = absurd w
-keeps_held rules script messages (Some octets) (Some h) (Some i) w are accepted = (w, inl (record { rules = rules; are = are; script = script; messages = messages; accepted = accepted }))
+keeps_held rules script messages None a b w left are accepted = tt
+keeps_held rules script messages (Some octets) None None w left are accepted = tt
+keeps_held rules script messages (Some octets) None (Some i) w left are accepted = absurd w
+keeps_held rules script messages (Some octets) (Some h) None w left are accepted = absurd w
+keeps_held rules script messages (Some octets) (Some h) (Some i) w left are accepted =
+    let a : IsAccepted octets h = record { rules = rules; are = are; script = script; messages = messages; accepted = accepted } in
+    record { holds = w; founded = inl a; left = inr (a, left) }
 
 -- a store that holds what it held, where the whole input was accepted
-pub kept_held : (store : Object Holdings) (input : Object (List ℕ)) (rules : List Rule) (script : Scripted) (messages : List (List ℕ)) → WhereTold store.before store.now HoldsSame → IfSome store.before (λ h. rules_of h.schema ≡ Ok rules)
-    → IfSome input.before (λ octets. Accepted rules octets script messages) → IsKept store input
-kept_held store input rules script messages w are accepted = record { told = told_both HoldsSame store.before store.now w; keeps = keeps_held rules script messages input.before store.before store.now w are accepted }
+pub kept_held : (store : Object Holdings) (input : Object (List ℕ)) (rules : List Rule) (script : Scripted) (messages : List (List ℕ)) → WhereTold store.before store.now HoldsSame → WhereTold store.before store.now (LeavesUnplayed script.dataset)
+    → IfSome store.before (λ h. rules_of h.schema ≡ Ok rules) → IfSome input.before (λ octets. Accepted rules octets script messages) → IsKept store input
+kept_held store input rules script messages w left are accepted = record {
+  spares = spares_told (LeavesUnplayed script.dataset) (spares_unplayed script.dataset) store.before store.now left;
+  keeps = keeps_held rules script messages input.before store.before store.now w left are accepted;
+}
 
-pub holds_since : (a b c d : Option Holdings) → b ≡ a → d ≡ c → WhereTold b c HoldsSame → WhereTold a d HoldsSame
-holds_since a b c d e f w = rw (sym e, f) w
+pub told_since : (R : Holdings → Holdings → Type 0) (a b c d : Option Holdings) → b ≡ a → d ≡ c → WhereTold b c R → WhereTold a d R
+told_since R a b c d e f w = rw (sym e, f) w
 
 module _ {F : Type 0} (rules : List Rule) (messages : List (List ℕ)) (script : Scripted) (before : ℕ) (all : List (List (End F))) where
   pub played_since : (a b c d : Option Holdings) → b ≡ a → d ≡ c → WhereTold b c (Played rules messages script before all) → WhereTold a d (Played rules messages script before all)
-  played_since a b c d e f w = rw (sym e, f) w
+  played_since = told_since (Played rules messages script before all)
 
 pub counted_since : (n a b c d : ℕ) → a ≤ b → b ≤ c → HasCounted n c d → HasCounted n a d
 counted_since n a b c d first second counted = λ lt. let z = counted lt in omega (arith, first, second, z)

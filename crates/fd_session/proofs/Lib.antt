@@ -1,5 +1,7 @@
 mod Fronts
 mod Noting
+mod Sparing
+mod Unread
 mod Short
 mod Parting
 mod Telled

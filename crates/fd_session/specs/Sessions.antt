@@ -1,5 +1,5 @@
 -- What a session does: what each status tells of its input, of the store, and of what was written.
-use Rattle.std.specs.Prelude.{◌≡◌, ◌⊎◌, ◌≤◌, ℕ, List, [], Option, Some, Ok, Err, IfSome}
+use Rattle.std.specs.Prelude.{◌≡◌, ◌⊎◌, ◌≤◌, ℕ, List, [], Option, Some, Ok, Err, IfSome, IsSome}
 use Rattle.fd_disk.specs.Folders.{Holdings, WhereTold, folder_at}
 use Rattle.fd_schema.specs.Rules.{Rule}
 use Rattle.fd_words.specs.declared.command.Command.{Command}
@@ -22,9 +22,10 @@ use Rattle.fd_outcome.specs.Causes.{Broken, Cause, Telling, damaged_line, tellin
 use Rattle.fd_outcome.specs.Ends.{AreCalm, disk_failed, input_failed, no_memory}
 use Rattle.fd_outcome.specs.Objects.{Object, Failed, IsCalm}
 use Rattle.fd_outcome.specs.Refusals.{refusal_line, refusal_status}
-use Rattle.fd_outcome.specs.Store.{IsSound, Stands}
+use Rattle.fd_outcome.specs.Noticing.{SparesDamaged}
+use Rattle.fd_outcome.specs.Store.{Stands, table_at}
 use Rattle.fd_outcome.specs.Told.{ToldOrNoMemory}
-use Rattle.fd_play.specs.Plays.{HoldsSame, Played}
+use Rattle.fd_play.specs.Plays.{HoldsSame, LeavesUnplayed, Played}
 use Rattle.fd_session.specs.Endings.{closing, count_faults}
 use Rattle.fd_session.specs.Inputs.{IsInput, IsRefusedBehind}
 use Rattle.fd_session.specs.Telling.{miscast_telling, script_telling}
@@ -74,21 +75,23 @@ module _ (F : Type 0) (s : Status) (store : Object Holdings) (input output repor
     pub counted : HasCounted (count_faults ends) store.faults_before store.faults_now
 
   -- No lane ran: nothing was written to the output, and at most a line to the report; the schema is as it was, and each dataset
-  -- holds what it held. The store is as it was, unless the whole input was accepted, with each of its steps.
+  -- holds what it held. The store is as it was, unless the whole input was accepted, with each of its steps; then all but the
+  -- script's dataset is, and a crash leaves of this one what a crash before may have left, or what it held.
   pub record Idles (octets : List ℕ) (h i : Holdings) : Type 0 where
     pub nothing : output.now ≡ output.before
     pub stays : HoldsSame h i
     pub founded : IsAccepted octets h ⊎ (i ≡ h)
+    pub left : (i ≡ h) ⊎ ((a : IsAccepted octets h) × LeavesUnplayed a.script.dataset h i)
     pub tells : ((t : Telling) × Refused h octets t × Tells t.status t.line) ⊎ (Tells InputFault input_failed ⊎ (Tells DiskFault disk_failed ⊎ Tells NoMemory no_memory))
 
   -- What a session did, where its input and its store tell.
   abbrev pub Ends : Type 0
   Ends = IfSome input.before (λ octets. WhereTold store.before store.now (λ h i. Idles octets h i ⊎ Runs octets h i))
 
-  -- Over a sound store, where nothing refuses the session and no call failed, all is done, or the table is full, or memory ran
-  -- out.
+  -- Where a script that is accepted has a sound dataset, nothing refuses the session and no call failed, all is done, or the
+  -- table is full, or memory ran out.
   abbrev pub IsComplete : Type 0
-  IsComplete = IfSome input.before (λ octets. IfSome store.before (λ h. IsSound h → ((t : Telling) → Refused h octets t → ⊥)
+  IsComplete = IfSome input.before (λ octets. IfSome store.before (λ h. ((a : IsAccepted octets h) → IsSome (table_at h a.script.dataset)) → ((t : Telling) → Refused h octets t → ⊥)
       → ¬ (Failed store) → ¬ (Failed input) → ¬ (Failed output) → ¬ (Failed report) → (s ≡ Done) ⊎ ((s ≡ Limit) ⊎ (s ≡ NoMemory))))
 
   -- a status that says that no read of the input and no write of the output failed
@@ -96,10 +99,11 @@ module _ (F : Type 0) (s : Status) (store : Object Holdings) (input output repor
   IsQuiet = (s ≡ Done) ⊎ ((s ≡ statuses.Refused) ⊎ (s ≡ Limit))
 
   -- What a session has done: each folder is back by another clause; a fault is told only where a count rose. The store tells
-  -- afterwards where it told before.
+  -- afterwards where it told before, and what was damaged is as it was, or its table is synced.
   pub record SessionRan : Type 0 where
     pub ends : Ends
     pub told : WhereTold store.before store.now (λ h i. Unit {0})
+    pub spares : WhereTold store.before store.now SparesDamaged
     pub words : ¬ (s ≡ Words)
     pub missed : ¬ (s ≡ Missed)
     pub to_end : s ≡ Done → IfSome input.before (λ octets. input.now ≡ Some [])

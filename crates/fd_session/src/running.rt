@@ -3,7 +3,9 @@ ghost use Rattle.std.specs.Prelude.{◌≡◌, ◌≤◌, false, List, ℕ, Opti
 ghost use Rattle.fd_bytes.specs.Causes.{Rose};
 ghost use Rattle.fd_disk.specs.Folders.{Holdings};
 ghost use Rattle.fd_schema.specs.Grammar.{IsSchema};
+ghost use Rattle.fd_words.specs.declared.command.Command.TheVariants as commands;
 ghost use Rattle.fd_outcome.specs.Asking.{rules_of};
+ghost use Rattle.fd_outcome.specs.Noticing.{ReadsFitly};
 ghost use Rattle.fd_outcome.specs.Objects.{Object, object};
 ghost use Rattle.fd_casting.specs.Miscasts.{NoneFails};
 ghost use Rattle.fd_casting.specs.Steps.{AreMessages, all_posed};
@@ -36,7 +38,7 @@ use std::thread::Threads;
 /// Runs the lanes of the script with which the input begins, over the messages behind it, in the script's dataset, each lane
 /// in a thread of its own; writes what their gets found to the output, and how their steps ended to the report. No folder of
 /// the store is out, and none is out afterwards. Nothing is archived and no table is founded before the whole input was
-/// accepted.
+/// accepted; and nothing of the input is read where the store has no schema, or one that is none.
 pub fn session<
     F: Send + Drop,
     X: Drop,
@@ -59,6 +61,7 @@ pub fn session<
 where
     requires home { (name : List ℕ) → S.out store.old name ≡ false }
     ensures ran { SessionRan F result (object (S.has store.old) (S.has store.new) (S.faults store.old) (S.faults store.new)) (object (I.left input.old) (I.left input.new) (I.faults input.old) (I.faults input.new)) (object (K.taken output.old) (K.taken output.new) (K.faults output.old) (K.faults output.new)) (object (E.taken report.old) (E.taken report.new) (E.faults report.old) (E.faults report.new)) }
+    ensures unread { ReadsFitly (commands.Session root.now) (object (S.has store.old) (S.has store.new) (S.faults store.old) (S.faults store.new)) (object (I.left input.old) (I.left input.new) (I.faults input.old) (I.faults input.new)) }
     ensures home { (name : List ℕ) → S.out store.new name ≡ false }
 {
     match stored_schema(alloc, store, root.as_str()) {

@@ -3,4 +3,3 @@ pub mod Opened
 pub mod Reading
 pub mod Sheets
 pub mod Dealt
-pub mod Beside

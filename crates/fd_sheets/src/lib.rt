@@ -3,7 +3,6 @@
 //! of several workers.
 #![tactic(auto)]
 
-mod beside;
 mod buffers;
 mod dealing;
 mod names;
@@ -12,7 +11,6 @@ mod reader;
 mod rounds;
 mod sheets;
 
-pub use beside::for_each_beside;
 pub use buffers::Buffers;
 pub use dealing::dealt;
 pub use names::Names;

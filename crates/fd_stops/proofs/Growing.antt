@@ -11,12 +11,12 @@ use Rattle.fd_outcome.specs.declared.status.Status.TheVariants.{Done, Missed, Wo
 use Rattle.fd_outcome.specs.Asking.{rules_of}
 use Rattle.fd_outcome.specs.Archiving.{pairs_for, taken}
 use Rattle.fd_outcome.specs.Causes.{Cause}
-use Rattle.fd_outcome.specs.Ends.{LeavesBy, LeavesStored}
+use Rattle.fd_outcome.specs.Ends.{LeavesBy, LeavesStored, LeavesTried}
 use Rattle.fd_outcome.specs.Outcome.{generated_messages}
 use Rattle.fd_outcome.specs.Store.{Adds, Sorted, table_at}
-use Rattle.fd_outcome.specs.Trying.{trial_given, trial_rules}
+use Rattle.fd_outcome.specs.Trying.{trial_given, trial_rules, trial_schema}
 use Rattle.fd_archive.specs.Crashing.{GrowsFirmly, IsAfterCrash, Outlasts, OutlastsBy, OutlastsTrial}
-use Rattle.fd_stops.specs.Found.{AreFirm, EachLeft, FoundStored, FoundTried, HasGrown, IsFolderAfter}
+use Rattle.fd_stops.specs.Found.{AreFirm, EachLeft, FoundStored, FoundTried, HasGrown, HasSchemaOr, IsFolderAfter}
 use Rattle.fd_stops.proofs.Folders.{firm_same, folder_after, untouched_after}
 
 -- nothing was added
@@ -73,13 +73,26 @@ archived s full calm workers given (Some octets) left None (Some i) out leaves =
 archived s full calm workers given (Some octets) left (Some h) None out leaves = absurd out
 archived s full calm workers given (Some octets) left (Some h) (Some i) out leaves = stored s full calm workers (rules_of h.schema) given octets left h i out leaves
 
-trial_found : (s : Status) (workers count : ℕ) (rules : Result (List Rule) Cause) (h i : Holdings) → OutlastsTrial s workers count rules h i → (j : Holdings) → IsAfterCrash i j → FoundTried workers count rules h j
-trial_found s workers count (Ok rules) h i out j after = grown workers (pairs_for (taken rules trial_given (generated_messages count)).stored) h i out.1 j after
-trial_found s workers count (Err cause) h i out j after = subst (λ (k : Holdings). IsAfterCrash k j) out after
+-- the schema that was there stays, or that of a trial, which was planted
+tried_schema : (s : Status) (calm full : Type 0) (workers count : ℕ) (rules : List Rule) (h i : Holdings) → LeavesTried s calm full workers (Ok rules) count h i → HasSchemaOr trial_schema h i
+tried_schema s calm full workers count rules h i (inl (ends, stays)) = inl stays.schema
+tried_schema s calm full workers count rules h i (inr (m, inl was, same, leaves)) = inl (same ∙ was.1.schema)
+tried_schema s calm full workers count rules h i (inr (m, inr plants, same, leaves)) = inr (plants.none, same ∙ plants.schema)
 
-pub tried : (s : Status) (workers count : ℕ) (a b : Option Holdings) → WhereTold a b (λ h i. OutlastsTrial s workers count (trial_rules h.schema) h i)
+left_schema : (text : List ℕ) (h i j : Holdings) → j.schema ≡ i.schema → HasSchemaOr text h i → HasSchemaOr text h j
+left_schema text h i j same (inl is) = inl (same ∙ is)
+left_schema text h i j same (inr (none, is)) = inr (none, same ∙ is)
+
+trial_found : (s : Status) (calm full : Type 0) (workers count : ℕ) (rules : Result (List Rule) Cause) (h i : Holdings) → OutlastsTrial s workers count rules h i → LeavesTried s calm full workers rules count h i
+    → (j : Holdings) → IsAfterCrash i j → FoundTried workers count rules h j
+trial_found s calm full workers count (Ok rules) h i out leaves j after =
+    (left_schema trial_schema h i j after.schema (tried_schema s calm full workers count rules h i leaves), grown workers (pairs_for (taken rules trial_given (generated_messages count)).stored) h i out.1 j after)
+trial_found s calm full workers count (Err cause) h i out leaves j after = subst (λ (k : Holdings). IsAfterCrash k j) out after
+
+pub tried : (s : Status) (calm full : Type 0) (workers count : ℕ) (a b : Option Holdings) → WhereTold a b (λ h i. OutlastsTrial s workers count (trial_rules h.schema) h i)
+    → WhereTold a b (λ h i. LeavesTried s calm full workers (trial_rules h.schema) count h i)
     → WhereTold a b (EachLeft (λ h j. FoundTried workers count (trial_rules h.schema) h j))
-tried s workers count None None out = tt
-tried s workers count None (Some i) out = absurd out
-tried s workers count (Some h) None out = absurd out
-tried s workers count (Some h) (Some i) out = trial_found s workers count (trial_rules h.schema) h i out
+tried s calm full workers count None None out leaves = tt
+tried s calm full workers count None (Some i) out leaves = absurd out
+tried s calm full workers count (Some h) None out leaves = absurd out
+tried s calm full workers count (Some h) (Some i) out leaves = trial_found s calm full workers count (trial_rules h.schema) h i out leaves

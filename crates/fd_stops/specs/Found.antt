@@ -1,16 +1,18 @@
 -- What is found of a store whose command was stopped at some call of the disk, and which then crashed.
-use Rattle.std.specs.Prelude.{◌≡◌, ◌≢◌, ◌⊎◌, ℕ, List, Option, Some, IfSome, Result, Ok, Err, option_map}
+use Rattle.std.specs.Prelude.{◌≡◌, ◌≢◌, ◌⊎◌, ℕ, List, Option, Some, None, IfSome, Result, Ok, Err, option_map}
+use Rattle.std.specs.Result.{IsOk}
 use Rattle.fd_disk.specs.declared.folders.FileName.{FileName}
 use Rattle.fd_disk.specs.Folders.{Contents, Holdings, IsStoreImage, Left, folder_at}
-use Rattle.fd_disk.specs.Images.{firm_file}
+use Rattle.fd_disk.specs.Images.{IsImage, firm_file, synced}
 use Rattle.fd_entries.specs.declared.batch.Pair.{Pair}
 use Rattle.fd_key.specs.Pairs as keys
+use Rattle.fd_schema.specs.Grammar.{schema_of}
 use Rattle.fd_schema.specs.Rules.{Rule}
 use Rattle.fd_purge.specs.Purging.{read_of}
 use Rattle.fd_outcome.specs.Causes.{Cause}
 use Rattle.fd_outcome.specs.Archiving.{pairs_for, taken}
 use Rattle.fd_outcome.specs.Outcome.{generated_messages}
-use Rattle.fd_outcome.specs.Trying.{trial_given}
+use Rattle.fd_outcome.specs.Trying.{trial_given, trial_schema}
 use Rattle.fd_outcome.specs.Store.{Adds, Sorted, table_at}
 use Rattle.fd_archive.specs.Crashing.{IsAfterCrash, IsTableAfter}
 
@@ -39,10 +41,38 @@ abbrev pub FoundStored : ℕ → Result (List Rule) Cause → List keys.Pair →
 FoundStored workers (Ok rules) given octets h j = (j.schema ≡ h.schema) × HasGrown workers (pairs_for (taken rules given octets).stored) h j
 FoundStored workers (Err cause) given octets h j = IsAfterCrash h j
 
--- The same of a trial.
+-- the schema is as it was, or there was none and this is it
+abbrev pub HasSchemaOr : List ℕ → Holdings → Holdings → Type 0
+HasSchemaOr text h j = (j.schema ≡ h.schema) ⊎ ((h.schema ≡ None) × (j.schema ≡ Some text))
+
+-- The same of a trial. Where there was no schema, there may be that of a trial.
 abbrev pub FoundTried : ℕ → ℕ → Result (List Rule) Cause → Holdings → Holdings → Type 0
-FoundTried workers count (Ok rules) h j = HasGrown workers (pairs_for (taken rules trial_given (generated_messages count)).stored) h j
+FoundTried workers count (Ok rules) h j = HasSchemaOr trial_schema h j × HasGrown workers (pairs_for (taken rules trial_given (generated_messages count)).stored) h j
 FoundTried workers count (Err cause) h j = IsAfterCrash h j
+
+-- What is found where a schema was to be stored: the one that there was, or there was none and the whole input is it, and is one.
+-- Of each dataset it is what a crash before may have left.
+pub record FoundCreated (octets : List ℕ) (h j : Holdings) : Type 0 where
+  pub schema : (j.schema ≡ h.schema) ⊎ ((h.schema ≡ None) × (j.schema ≡ Some octets) × IsOk (schema_of octets))
+  pub folders : (name : List ℕ) → IsFolderAfter (folder_at h name) (folder_at j name)
+
+-- A crash of a folder that was only looked into leaves its files, and an image of its table, or firmly what that read.
+pub record IsFolderRead (v w : Contents) : Type 0 where
+  pub table : IsTableAfter v.table w.table ⊎ (w.table ≡ option_map synced v.table)
+  pub files : (n : FileName) → w.files n ≡ v.files n
+
+-- What is found where nothing was stored: the schema, and each folder so.
+pub record FoundRead (h j : Holdings) : Type 0 where
+  pub schema : j.schema ≡ h.schema
+  pub folders : (name : List ℕ) → IsFolderRead (folder_at h name) (folder_at j name)
+
+-- Each table as it reads is one of its images, as on every disk.
+abbrev pub ReadImages : Holdings → Type 0
+ReadImages h = (name : List ℕ) → IfSome (folder_at h name).table (λ f. IsImage f f.reads)
+
+-- Where that is so, this is a store that a crash before may have left.
+abbrev pub FoundAsBefore : Holdings → Holdings → Type 0
+FoundAsBefore h j = ReadImages h → IsAfterCrash h j
 
 -- What is found where one dataset was purged or wiped: the schema, and of each other dataset what a crash before may have left.
 -- Of this one it is that, or what the purge or the wipe leaves at a moment of it.

@@ -51,8 +51,8 @@ where
 }
 
 /// Runs a trial over a store that passes so many calls on and fails all later ones. Whatever their number is, and whatever is
-/// told, each store that a crash may leave then of the one below has of each sound dataset what it held, and behind it few
-/// batches of the trial's messages, each of them whole.
+/// told, each store that a crash may leave then of the one below has the schema that it had, or, where it had none, maybe that of
+/// a trial, and of each sound dataset what it held, and behind it few batches of the trial's messages, each of them whole.
 pub fn trial_until<
     F: Send + Drop,
     X: Drop,

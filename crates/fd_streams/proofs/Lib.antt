@@ -6,6 +6,7 @@ pub mod PickExits
 pub mod ListExits
 pub mod CreatingLemmas
 pub mod CreateExits
+pub mod Created
 pub mod Generated
 pub mod GenerateExits
 pub mod PartSteps

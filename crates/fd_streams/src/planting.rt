@@ -1,12 +1,15 @@
 // `create`.
 ghost use Rattle.std.specs.Prelude.{◌≡◌, false, List, ℕ, Option, None, IfSome};
+ghost use Rattle.fd_disk.specs.Folders.{WhereTold};
 ghost use Rattle.fd_schema.specs.Reading.{IsFirst};
 ghost use Rattle.fd_schema.specs.Grammar.{Fault};
 ghost use Rattle.fd_words.specs.declared.command.Command.TheVariants.{Create};
 ghost use Rattle.fd_outcome.specs.Causes.{InSchema, telling};
+ghost use Rattle.fd_outcome.specs.Noticing.{ReadsFitly};
 ghost use Rattle.fd_outcome.specs.Objects.{object};
 ghost use Rattle.fd_outcome.specs.Ran.{Ran};
 ghost use Rattle.fd_outcome.specs.Told.{ToldOrNoMemory};
+ghost use Rattle.fd_streams.specs.Creating.{IsCreatedOnly};
 
 use fd_disk::{Down, Store};
 use fd_io::{Sink, Source};
@@ -45,7 +48,8 @@ fn tell_schema<X: Drop, E: Sink<X>>(
     }
 }
 
-/// Stores the input as the schema of a store that has none.
+/// Stores the input as the schema of a store that has none. Where it has one, nothing of the input is read; and whatever is
+/// told, the store is the same but for the whole input as its schema.
 pub fn create<F: Send + Drop, X: Drop, S: Store<F>, I: Source<X>, E: Sink<X>>(
     alloc: Global,
     root: &Root,
@@ -55,6 +59,8 @@ pub fn create<F: Send + Drop, X: Drop, S: Store<F>, I: Source<X>, E: Sink<X>>(
 ) -> Status
     requires home { (name : List ℕ) → S.out store.old name ≡ false }
     ensures ran { (a : Option (List ℕ)) (k : ℕ) → Ran (Create root.now) result (object (S.has store.old) (S.has store.new) (S.faults store.old) (S.faults store.new)) (object (I.left input.old) (I.left input.new) (I.faults input.old) (I.faults input.new)) (object a a k k) (object (E.taken report.old) (E.taken report.new) (E.faults report.old) (E.faults report.new)) }
+    ensures kept { IfSome (I.left input.old) (λ octets. WhereTold (S.has store.old) (S.has store.new) (IsCreatedOnly octets)) }
+    ensures unread { ReadsFitly (Create root.now) (object (S.has store.old) (S.has store.new) (S.faults store.old) (S.faults store.new)) (object (I.left input.old) (I.left input.new) (I.faults input.old) (I.faults input.new)) }
     ensures home { (name : List ℕ) → S.out store.new name ≡ false }
 {
     match store.enter(alloc, root.as_str()) {
@@ -81,6 +87,7 @@ fn plant<F: Send + Drop, X: Drop, S: Store<F>, I: Source<X>, E: Sink<X>>(
     requires home { (name : List ℕ) → S.out store.old name ≡ false }
     requires none { IfSome (S.has store.old) (λ h. h.schema ≡ None) }
     ensures ran { (a : Option (List ℕ)) (k : ℕ) → Ran (Create root.now) result (object (S.has store.old) (S.has store.new) (S.faults store.old) (S.faults store.new)) (object (I.left input.old) (I.left input.new) (I.faults input.old) (I.faults input.new)) (object a a k k) (object (E.taken report.old) (E.taken report.new) (E.faults report.old) (E.faults report.new)) }
+    ensures kept { IfSome (I.left input.old) (λ octets. WhereTold (S.has store.old) (S.has store.new) (IsCreatedOnly octets)) }
     ensures home { (name : List ℕ) → S.out store.new name ≡ false }
 {
     let text = match read_front(alloc, input, 65_537) {

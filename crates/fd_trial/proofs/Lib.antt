@@ -7,4 +7,5 @@ pub mod Giving
 pub mod TrialExits
 pub mod Stepping
 pub mod Stopping
+pub mod Noticing
 pub mod Outlasting

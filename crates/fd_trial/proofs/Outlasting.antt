@@ -1,22 +1,17 @@
 -- What outlasts a crash, at each exit of `trial`.
-use Rattle.std.proofs.Common.{◌≡◌, ◌∙◌, ℕ, false, List, Option, Some, refl, sym, ap, subst, inl, inr}
+use Rattle.std.proofs.Common.{◌≡◌, ◌∙◌, ℕ, List, Option, Some, refl, sym, ap, subst, inl, inr}
 use Rattle.std.specs.Prelude.{Result, Ok, Err}
 use Rattle.fd_disk.specs.Folders.{Holdings, WhereTold, planted}
 use Rattle.fd_schema.specs.Rules.{Rule}
-use Rattle.fd_outcome.specs.declared.refusal.Refusal.{Refusal}
-use Rattle.fd_outcome.specs.declared.refusal.Refusal.TheVariants as refusals
 use Rattle.fd_outcome.specs.declared.status.Status.{Status}
-use Rattle.fd_outcome.specs.declared.status.Status.TheVariants as statuses
 use Rattle.fd_outcome.specs.declared.status.Status.TheVariants.{Done}
 use Rattle.fd_outcome.specs.Archiving.{Stored, Taken, pairs_for, taken}
 use Rattle.fd_outcome.specs.Causes.{Cause}
 use Rattle.fd_outcome.specs.Ends.{IsPlanted}
 use Rattle.fd_outcome.specs.Outcome.{generated_messages}
-use Rattle.fd_outcome.specs.Refusals.{refusal_line, refusal_status}
 use Rattle.fd_outcome.specs.Store.{GrowsBy}
-use Rattle.fd_outcome.specs.Told.{Told, ToldOrNoMemory}
 use Rattle.fd_outcome.specs.Trying.{trial_given, trial_rules, trial_schema}
-use Rattle.fd_outcome.proofs.Exits.{is_whole}
+use Rattle.fd_outcome.proofs.Exits.{apart, is_whole}
 use Rattle.fd_retrieve.specs.Looking.{IsLookedThrough}
 use Rattle.fd_telling.specs.Stops.{ToldSome}
 use Rattle.fd_bulk.specs.Archived.{IsFront}
@@ -25,13 +20,13 @@ use Rattle.fd_bulk.specs.declared.bulk.BulkFault.{BulkFault}
 use Rattle.fd_bulk.specs.declared.bulk.BulkFault.TheVariants as faults
 use Rattle.fd_archive.specs.Crashing.{GrowsFirmly, IsFirm, OutlastsTrial}
 use Rattle.fd_archive.specs.Kept.{InputKept, RefusedKept, WholeKept}
-use Rattle.fd_archive.specs.Telling.{ToldRefusal}
 use Rattle.fd_archive.proofs.Growing.{firm_front, firm_same, grows_of}
 use Rattle.fd_archive.proofs.Looked.{firm_looked, firmly_looked}
-use Rattle.fd_archive.proofs.Outlasting.{told_undone}
+use Rattle.fd_archive.proofs.Noticing.{some_part}
 use Rattle.fd_archive.proofs.Told.{both_told}
 use Rattle.fd_trial.specs.Ruling.{IsPlantedOnly}
 use Rattle.fd_trial.specs.Telling.{ToldUnstored}
+use Rattle.fd_trial.proofs.Noticing.{unstored_part}
 use Rattle.fd_trial.proofs.Stepping.{through, where_told}
 use Rattle.fd_trial.proofs.TrialExits.{never_unruled}
 
@@ -109,45 +104,11 @@ module _ (workers count : ℕ) (rules : List Rule) (mid : Option Holdings) where
 -- ---- the line of 0 wasn't told
 
 module _ (result : Status) (c d : Option (List ℕ)) (m n : ℕ) where
-  undone : (s : Status) (text : List ℕ) → is_whole s ≡ false → Told s text result c d m n → result ≡ Done → ⊥
-  undone s text other told = told_undone s text result c d m n other told
-
-  or_undone : (s : Status) (text : List ℕ) → is_whole s ≡ false → ToldOrNoMemory s text result c d m n → result ≡ Done → ⊥
-  or_undone s text other (inl told) = undone s text other told
-  or_undone s text other (inr told) = undone statuses.NoMemory _ refl told
-
-  refusal_no : (refusal : Refusal) → is_whole (refusal_status refusal) ≡ false
-  refusal_no (refusals.Message at) = refl
-  refusal_no (refusals.NoMap number field) = refl
-  refusal_no (refusals.Cut t) = refl
-  refusal_no (refusals.Key number fault) = refl
-  refusal_no (refusals.Field number fault) = refl
-  refusal_no (refusals.TooLong len) = refl
-  refusal_no (refusals.Points points) = refl
-  refusal_no refusals.Input = refl
-
-  refusal_undone : (refusal : Refusal) → ToldRefusal refusal result c d m n → result ≡ Done → ⊥
-  refusal_undone refusal told = or_undone (refusal_status refusal) (refusal_line refusal) (refusal_no refusal) told
-
   pub some_undone : ToldSome result c d m n → result ≡ Done → ⊥
-  some_undone (s, text, inl e, told) = undone s text (ap is_whole e) told
-  some_undone (s, text, inr (inl e), told) = undone s text (ap is_whole e) told
-  some_undone (s, text, inr (inr e), told) = undone s text (ap is_whole e) told
+  some_undone told = apart is_whole result Done (some_part result c d m n told) refl
 
   unstored_undone : {X : Type 0} (fault : BulkFault X) → ToldUnstored fault result c d m n → result ≡ Done → ⊥
-  unstored_undone (faults.Input f) told = undone statuses.NoMemory _ refl told
-  unstored_undone (faults.Message at) told = refusal_undone told.0 told.2
-  unstored_undone (faults.NoMap number field) told = refusal_undone (refusals.NoMap number field) told
-  unstored_undone (faults.Cut t) told = refusal_undone (refusals.Cut t) told
-  unstored_undone (faults.Key number fault) told = refusal_undone (refusals.Key number fault) told
-  unstored_undone (faults.NoRule number text) told = or_undone statuses.Refused _ refl told
-  unstored_undone faults.Disk told = undone statuses.DiskFault _ refl told
-  unstored_undone (faults.NotATable dataset at want found) told = or_undone statuses.Damaged _ refl told
-  unstored_undone (faults.Damaged dataset damage) told = or_undone statuses.Damaged _ refl told
-  unstored_undone (faults.TableFull k) told = undone statuses.Limit _ refl told
-  unstored_undone (faults.TooMany k) told = undone statuses.Limit _ refl told
-  unstored_undone faults.InputLimit told = refusal_undone refusals.Input told
-  unstored_undone faults.NoMemory told = undone statuses.NoMemory _ refl told
+  unstored_undone fault told = apart is_whole result Done (unstored_part fault result c d m n told) refl
 
   -- not all messages were stored
   pub unstored_outlasts : (workers count : ℕ) (rules : List Rule) (mid now : Option Holdings) {X : Type 0} (left : Option (List ℕ)) (fault : BulkFault X) → InputKept workers rules trial_given (Some (generated_messages count)) left mid now (Err fault)

@@ -1,6 +1,5 @@
 -- Messages that are made, one after the other, are a stream of just these, each of one field.
 use Rattle.std.proofs.Common.{◌≡◌, ◌∙◌, ◌≤◌, ◌+◌, ◌*◌, ℕ, zero, suc, false, List, [], ◌∷◌, ◌++◌, length, map, take, drop, Ok, Result, None, refl, sym, ap, subst, arith, length-append, ltb, eqb}
-use Rattle.std.specs.Prelude.{max}
 use Rattle.std.specs.List.{range_with_len}
 use Rattle.std.proofs.lemmas.Bool.{le-ltb}
 use Rattle.std.proofs.lemmas.Bool.Decides.{nat_tests}
@@ -39,7 +38,7 @@ made_first head rest is =
     let t2 : octets 8 8 (head ++ rest) ≡ 2 = octets-append 8 8 head rest (omega arith) (omega arith) (omega arith) ∙ is.edition in
     let t3 : octets 9 16 (head ++ rest) ≡ length (head ++ rest) = octets-append 9 16 head rest (omega arith) (omega arith) (omega arith) ∙ is.total in
     let t4 : ltb 134217728 (length (head ++ rest)) ≡ false = le-ltb _ _ is.limit in
-    let t5 : max 16 (length (head ++ rest)) ≡ length (head ++ rest) = omega (arith, long) in
+    let t5 : ltb (length (head ++ rest)) 16 ≡ false = le-ltb _ _ long in
     let t6 : ltb (length (head ++ rest)) (length (head ++ rest)) ≡ false = le-ltb _ _ (omega arith) in
     let t7 : take (length (head ++ rest)) (head ++ rest) ≡ head ++ rest = take_all (length (head ++ rest)) (head ++ rest) (omega arith) in
     let t8 : drop (length (head ++ rest)) (head ++ rest) ≡ [] = drop_all (length (head ++ rest)) (head ++ rest) (omega arith) in

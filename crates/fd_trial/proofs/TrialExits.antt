@@ -5,7 +5,6 @@ use Rattle.fd_bytes.specs.Causes.{Rose}
 use Rattle.fd_io.specs.Streams.{Takes}
 use Rattle.fd_disk.specs.Folders.{Holdings, WhereTold, folder_at}
 use Rattle.fd_schema.specs.Grammar as schemas
-use Rattle.fd_schema.specs.Grammar.{schema_of}
 use Rattle.fd_schema.specs.Reading.{IsFirst}
 use Rattle.fd_schema.specs.Rules.{Rule}
 use Rattle.fd_schema.specs.declared.fault.SchemaKind.{SchemaKind}
@@ -137,7 +136,7 @@ module _ (root : List ℕ) (count workers : ℕ) (start now : Option Holdings) (
     where
       go : (r : Result (List Rule) Cause) → trial_rules h.schema ≡ r → IsLeft h i → LeavesTried s quiet full workers r count h i
       go (Ok rules) e (inl x) = inl (u, x)
-      go (Ok rules) e (inr p) = inr (i, inr p, idle rules i)
+      go (Ok rules) e (inr p) = inr (i, inr p, refl, idle rules i)
       go (Err c) e is = stays_unruled h i c is e
 
   failed_left : WhereTold start now IsLeft → LeavesIt OutputFault
@@ -200,8 +199,12 @@ module _ (root : List ℕ) (count workers : ℕ) (start now : Option Holdings) (
     abbrev T : Taken
     T = taken rules trial_given (generated_messages count)
 
-    since_leaves : (s : Status) (h i : Holdings) → Since rules (λ m j. LeavesStored s quiet full workers rules trial_given (generated_messages count) None m j) h i → Leaves s h i
-    since_leaves s h i x = subst (λ r. LeavesTried s quiet full workers r count h i) (sym x.ruled) (inr (x.middle, x.planted, x.since))
+    -- what is left of the store once there are rules
+    abbrev LeavesRuled : Status → Holdings → Holdings → Type 0
+    LeavesRuled s m j = (j.schema ≡ m.schema) × LeavesStored s quiet full workers rules trial_given (generated_messages count) None m j
+
+    since_leaves : (s : Status) (h i : Holdings) → Since rules (LeavesRuled s) h i → Leaves s h i
+    since_leaves s h i x = subst (λ r. LeavesTried s quiet full workers r count h i) (sym x.ruled) (inr (x.middle, x.planted, x.since.0, x.since.1))
 
     with_since : (P Q : Holdings → Holdings → Type 0) → ((m j : Holdings) → P m j → Q m j) → (h i : Holdings) → Since rules P h i → Since rules Q h i
     with_since P Q f h i x = record { middle = x.middle; planted = x.planted; ruled = x.ruled; since = f x.middle i x.since }
@@ -215,22 +218,22 @@ module _ (root : List ℕ) (count workers : ℕ) (start now : Option Holdings) (
     grown : (m j : Holdings) → GrownBy m j → Grown m j
     grown m j g = record { schema = g.schema; each = λ name t is. (g.each name t is).adds }
 
-    leaves_since : (s : Status) (P : Holdings → Holdings → Type 0) → ((m j : Holdings) → P m j → LeavesStored s quiet full workers rules trial_given (generated_messages count) None m j) → WhereTold start now (Since rules P) → LeavesIt s
+    leaves_since : (s : Status) (P : Holdings → Holdings → Type 0) → ((m j : Holdings) → P m j → LeavesRuled s m j) → WhereTold start now (Since rules P) → LeavesIt s
     leaves_since s P f w = each_told (Since rules P) (Leaves s) (λ h i x. since_leaves s h i (with_since P _ f h i x)) w
 
     failed_since : WhereTold start now (Since rules Grown) → LeavesIt OutputFault
-    failed_since w = leaves_since OutputFault Grown (λ m j g q. g) w
+    failed_since w = leaves_since OutputFault Grown (λ m j g. (g.schema, λ q. g)) w
 
     pub starved_ran : WhereTold start now (Since rules Grown) → ToldAs NoMemory no_memory → Out
     starved_ran w told =
         told_of NoMemory no_memory told refl refl refl (λ e. absurd (apart is_disk_fault NoMemory DiskFault refl refl e)) (λ _. tt)
-        (either_leaves NoMemory no_memory told (λ _. leaves_since NoMemory Grown (λ m j g. g) w) (failed_since w))
+        (either_leaves NoMemory no_memory told (λ _. leaves_since NoMemory Grown (λ m j g. (g.schema, g)) w) (failed_since w))
         (λ h i e f names. stop_ends h i names NoMemory no_memory refl told)
 
     pub disk_ran : WhereTold start now (Since rules Grown) → Rose sm sn → ToldAs DiskFault disk_failed → Out
     disk_ran w rose told =
         told_of DiskFault disk_failed told refl refl refl (λ _. rose) (λ _. tt)
-        (either_leaves DiskFault disk_failed told (λ _. leaves_since DiskFault Grown (λ m j g q. g) w) (failed_since w))
+        (either_leaves DiskFault disk_failed told (λ _. leaves_since DiskFault Grown (λ m j g. (g.schema, λ q. g)) w) (failed_since w))
         (λ h i e f names. stop_ends h i names DiskFault disk_failed (tt, rose, refl) told)
 
     opens : (h : Holdings) (name : List ℕ) → trial_rules h.schema ≡ Ok rules → Contains (datasets_in T.stored) name → AmongTaken trial_given (trial_rules h.schema) (generated_messages count) name
@@ -242,7 +245,7 @@ module _ (root : List ℕ) (count workers : ℕ) (start now : Option Holdings) (
     broken_ran name broken w among (inr t) = starved_ran (each_told _ _ (with_since _ Grown (λ m j x. x.0)) w) t
     broken_ran name broken w among (inl t) =
         told_of Damaged (damaged_line name broken) t refl refl refl (λ e. absurd (apart is_disk_fault Damaged DiskFault refl refl e)) (λ _. tt)
-        (either_leaves Damaged (damaged_line name broken) t (λ _. leaves_since Damaged _ (λ m j x. x.0) w) (failed_since (each_told _ _ (with_since _ Grown (λ m j x. x.0)) w)))
+        (either_leaves Damaged (damaged_line name broken) t (λ _. leaves_since Damaged _ (λ m j x. (x.0.schema, x.0)) w) (failed_since (each_told _ _ (with_since _ Grown (λ m j x. x.0)) w)))
         (λ h i e f names.
         let x = at_both _ w h i e f in
         stop_ends h i names Damaged (damaged_line name broken) (name, broken, opens h name x.ruled among, inl (stands_before name (folder_at h name) (folder_at x.middle name) broken (folders_stay h x.middle x.planted name) x.since.1), refl) t)
@@ -253,7 +256,7 @@ module _ (root : List ℕ) (count workers : ℕ) (start now : Option Holdings) (
     broken_later_ran name broken w (inr t) = starved_ran (each_told _ _ (with_since _ Grown (λ m j x. grown m j x.0)) w) t
     broken_later_ran name broken w (inl t) =
         told_of Damaged (damaged_line name broken) t refl refl refl (λ e. absurd (apart is_disk_fault Damaged DiskFault refl refl e)) (λ _. tt)
-        (either_leaves Damaged (damaged_line name broken) t (λ _. leaves_since Damaged _ (λ m j x. grown m j x.0) w) (failed_since (each_told _ _ (with_since _ Grown (λ m j x. grown m j x.0)) w)))
+        (either_leaves Damaged (damaged_line name broken) t (λ _. leaves_since Damaged _ (λ m j x. (x.0.schema, grown m j x.0)) w) (failed_since (each_told _ _ (with_since _ Grown (λ m j x. grown m j x.0)) w)))
         (λ h i e f names.
         let x = at_both _ w h i e f in
         stop_ends h i names Damaged (damaged_line name broken) (name, broken, opens h name x.ruled x.since.1.1, inr (damaged_there h x.middle x.planted (broken_before workers (pairs_for T.stored) x.middle i name broken x.since.0 x.since.1.0), x.since.1.0), refl) t)
@@ -267,7 +270,7 @@ module _ (root : List ℕ) (count workers : ℕ) (start now : Option Holdings) (
     full_ran name w among told =
         told_of Limit table_full told refl refl refl (λ e. absurd (apart is_disk_fault Limit DiskFault refl refl e)) (λ took. inr (tt, took))
         (either_leaves Limit table_full told
-        (λ took. leaves_since Limit _ (λ m j x. inr (took, record { name = name; among = among; full = x.1; grows = x.0 })) w)
+        (λ took. leaves_since Limit _ (λ m j x. (x.0.schema, inr (took, record { name = name; among = among; full = x.1; grows = x.0 }))) w)
         (failed_since (each_told _ _ (with_since _ Grown (λ m j x. x.0)) w)))
         (λ h i e f names. let x = at_both _ w h i e f in stop_ends h i names Limit table_full (tt, refl, (name, opens h name x.ruled among, x.since.1)) told)
 
@@ -279,7 +282,7 @@ module _ (root : List ℕ) (count workers : ℕ) (start now : Option Holdings) (
         (by_cause (λ s. s ≡ DiskFault → Rose sm sn) (λ e. absurd (apart is_disk_fault Refused DiskFault refl refl e)) (λ e. absurd (apart is_disk_fault Damaged DiskFault refl refl e)) (λ e. absurd (apart is_disk_fault Limit DiskFault refl refl e)) cause)
         (λ _. by_cause (λ s. Calm C s (object left left l l) (object a a k k) report) (refl, refl) tt (inl (refl, refl)) cause)
         (either_leaves (telling cause).status (telling cause).line t
-        (λ _. by_cause (λ s. LeavesIt s) (leaves_since Refused GrownBy (λ m j g. g) w) (leaves_since Damaged GrownBy grown w) (leaves_since Limit GrownBy (λ m j g. inl g) w) cause)
+        (λ _. by_cause (λ s. LeavesIt s) (leaves_since Refused GrownBy (λ m j g. (g.schema, g)) w) (leaves_since Damaged GrownBy (λ m j g. (g.schema, grown m j g)) w) (leaves_since Limit GrownBy (λ m j g. (g.schema, inl g)) w) cause)
         (failed_since (each_told _ _ (with_since GrownBy Grown grown) w)))
         (λ h i e f names. let x = at_both _ w h i e f in
         line_ends h i names (telling cause).status (telling cause).line (cause_told cause) (ap (tried h count) x.ruled ∙ ap (trial_ends h count T) is) t)
@@ -291,7 +294,7 @@ module _ (root : List ℕ) (count workers : ℕ) (start now : Option Holdings) (
     counted_ran none text w says (inr t) = starved_ran (each_told _ _ (with_since GrownBy Grown grown) w) t
     counted_ran none text w says (inl t) =
         told_of Done text t refl refl refl (λ e. absurd (apart is_disk_fault Done DiskFault refl refl e)) (λ _. (refl, refl))
-        (either_leaves Done text t (λ _. leaves_since Done GrownBy (λ m j g. g) w) (failed_since (each_told _ _ (with_since GrownBy Grown grown) w)))
+        (either_leaves Done text t (λ _. leaves_since Done GrownBy (λ m j g. (g.schema, g)) w) (failed_since (each_told _ _ (with_since GrownBy Grown grown) w)))
         (λ h i e f names. let x = at_both _ w h i e f in
         let is : tried h count (trial_rules h.schema) ≡ trial_ends h count T None = ap (tried h count) x.ruled ∙ ap (trial_ends h count T) none in
         subst (λ o. Ends Fs result o nothing_early (troubles C Fs h i names []) a a report.before report.now) (sym is)

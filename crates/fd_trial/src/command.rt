@@ -1,18 +1,22 @@
 //! `trial`.
-ghost use Rattle.std.specs.Prelude.{◌≡◌, ◌≤◌, ◌++◌, false, codes, List, ℕ, Ok, Option, IfOk, string_bytes};
+ghost use Rattle.std.specs.Prelude.{◌≡◌, ◌⊎◌, ◌≤◌, ◌++◌, false, codes, List, ℕ, Ok, Option, IfOk, IfSome, string_bytes};
 ghost use Rattle.std.specs.Fmt.{decimal};
 ghost use Rattle.fd_disk.specs.Folders.{Holdings, WhereTold};
 ghost use Rattle.fd_listing.specs.Lines.{line};
 ghost use Rattle.fd_schema.specs.Grammar.{IsSchema};
 ghost use Rattle.fd_words.specs.declared.command.Command.TheVariants.{Trial};
+ghost use Rattle.fd_outcome.specs.Archiving.{taken};
 ghost use Rattle.fd_outcome.specs.Ends.{IsPlanted};
+ghost use Rattle.fd_outcome.specs.Noticing.{Notices, SparesDamaged};
 ghost use Rattle.fd_outcome.specs.Objects.{object};
+ghost use Rattle.fd_outcome.specs.Outcome.{generated_messages};
 ghost use Rattle.fd_outcome.specs.Ran.{Ran};
 ghost use Rattle.fd_outcome.specs.Told.{ToldOrNoMemory};
 ghost use Rattle.fd_outcome.specs.Trying.{trial_given, trial_rules};
 ghost use Rattle.fd_bytes.specs.Causes.{Rose};
 ghost use Rattle.fd_telling.specs.Stops.{OnDisk};
 ghost use Rattle.fd_archive.specs.Crashing.{OutlastsCrash, OutlastsTrial};
+ghost use Rattle.fd_archive.specs.Kept.{NoneDamaged};
 ghost use Rattle.fd_retrieve.specs.Looking.{IsLookedThrough};
 ghost use Rattle.fd_trial.specs.Asking.{Begins};
 ghost use Rattle.fd_trial.specs.Telling.{ToldUnfound, ToldUnstored};
@@ -51,6 +55,8 @@ fn given(alloc: Global) -> Result<Given, NoMemory>
 ///
 /// What is told to be stored outlasts a crash: each store that it may leave has all messages; and whatever is told, each dataset
 /// holds there what it held, and behind it few batches of these messages alone.
+/// The numbers are told only where none of the messages' datasets was damaged; a damaged dataset keeps its files, and its table as it
+/// was, or synced.
 pub fn trial<F: Send + Drop, X: Drop, S: Store<F>, E: Sink<X>, G: Gate, R: Threads + Wait + Sync>(
     rt: &R,
     alloc: Global,
@@ -66,6 +72,8 @@ where
     requires workers { (1 ≤ workers) × (workers ≤ 8) }
     requires home { (name : List ℕ) → S.out store.old name ≡ false }
     ensures ran { (left : Option (List ℕ)) (l : ℕ) (a : Option (List ℕ)) (k : ℕ) → Ran (Trial root.now count workers) result (object (S.has store.old) (S.has store.new) (S.faults store.old) (S.faults store.new)) (object left left l l) (object a a k k) (object (E.taken report.old) (E.taken report.new) (E.faults report.old) (E.faults report.new)) }
+    ensures notices { (left : Option (List ℕ)) (l : ℕ) (a : Option (List ℕ)) (k : ℕ) → Notices (Trial root.now count workers) result (object (S.has store.old) (S.has store.new) (S.faults store.old) (S.faults store.new)) (object left left l l) (object a a k k) (object (E.taken report.old) (E.taken report.new) (E.faults report.old) (E.faults report.new)) }
+    ensures spares { WhereTold (S.has store.old) (S.has store.new) SparesDamaged }
     ensures outlasts { (left : Option (List ℕ)) (l : ℕ) → OutlastsCrash (Trial root.now count workers) result (object (S.has store.old) (S.has store.new) (S.faults store.old) (S.faults store.new)) (object left left l l) (object (E.taken report.old) (E.taken report.new) (E.faults report.old) (E.faults report.new)) }
     ensures home { (name : List ℕ) → S.out store.new name ≡ false }
 {
@@ -104,6 +112,8 @@ where
     ensures ran { (root : List ℕ) (start : Option Holdings) (faults : ℕ) (left : Option (List ℕ)) (l : ℕ) (a : Option (List ℕ)) (k : ℕ) → faults ≤ S.faults store.old
         → WhereTold start (S.has store.old) (λ h m. IsPlanted h m × (trial_rules h.schema ≡ Ok schema.now))
         → Ran (Trial root count workers) result (object start (S.has store.new) faults (S.faults store.new)) (object left left l l) (object a a k k) (object (E.taken report.old) (E.taken report.new) (E.faults report.old) (E.faults report.new)) }
+    ensures undamaged { (result ≡ Status.Done) ⊎ (result ≡ Status.Missed) → IfSome (S.has store.old) (NoneDamaged (taken schema.now trial_given (generated_messages count)).stored) }
+    ensures spares { WhereTold (S.has store.old) (S.has store.new) SparesDamaged }
     ensures outlasts { WhereTold (S.has store.old) (S.has store.new) (OutlastsTrial result workers count (Ok schema.now)) }
     ensures home { (name : List ℕ) → S.out store.new name ≡ false }
 {

@@ -201,6 +201,14 @@ const REFUSING: &[Case] = &[Case {
         },
         Row {
             words: SPLIT,
+            input: &[Part::Field(&[]), Part::Field(&[(15, 5)])],
+            output: FIELD,
+            report: "refused message 2 Short 0 5\n",
+            status: 3,
+            ..ROW
+        },
+        Row {
+            words: SPLIT,
             input: &[Part::Field(&[(12, 8)])],
             report: "limit TooLong 134217911\n",
             status: 9,

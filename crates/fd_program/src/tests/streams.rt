@@ -151,6 +151,13 @@ const REFUSING_INPUT: &[Case] = &[Case {
         },
         Row {
             words: STEP,
+            input: &[Part::Field(&[(15, 5)])],
+            report: "refused message 1 Short 0 5\n",
+            status: 3,
+            ..ROW
+        },
+        Row {
+            words: STEP,
             input: &[Part::Field(&[(12, 8)])],
             report: "limit TooLong 134217911\n",
             status: 9,

@@ -5,6 +5,7 @@ use Rattle.fd_outcome.specs.Objects.{object}
 use Rattle.fd_bulk.specs.Archived.{IsRead, OnDisk, OnInput}
 use Rattle.fd_archive.specs.Kept.{InputKept}
 use Rattle.fd_archive.proofs.ArchiveExits.{halted_ran, whole_ran}
+use Rattle.fd_archive.proofs.Noticing.{fault_part, part_notices, whole_notices}
 use Rattle.fd_archive.proofs.Outlasting.{halted_keeps, whole_keeps}
 use Rattle.fd_archive.proofs.Told.{on_disk, rose_later}
 use Rattle.fd_archive.proofs.command.archive_by.Goals as goal
@@ -65,3 +66,20 @@ returns-in-Err-clause-outlasts g c = λ root ruled.
     c.args.schema.now ruled c.store_all.ensures.told c.in-Err.fault
     (subst (InputKept c.args.workers c.args.schema.now c.args.given.now left after start now) c.in-Err.is c.store_all.ensures.stored)
     c.tell_fault.ensures
+
+pub returns-in-Ok-clause-notices : goal.returns-in-Ok-clause-notices
+returns-in-Ok-clause-notices g c = λ root a k ruled.
+    let left = g.I.Source.left c.args.input.now in
+    let after = g.I.Source.left c.store_all.new.input in
+    let start = g.S.Store.has c.args.store.now in
+    let now = g.S.Store.has c.store_all.new.store in
+    whole_notices root c.args.given.now c.args.workers start now (g.S.Store.faults c.args.store.now) (g.S.Store.faults c.store_all.new.store) left after (g.I.Source.faults c.args.input.now) (g.I.Source.faults c.store_all.new.input) (object a a k k)
+    (object (g.E.Sink.taken c.args.report.now) (g.E.Sink.taken c.tell_counts.new.report) (g.E.Sink.faults c.args.report.now) (g.E.Sink.faults c.tell_counts.new.report)) c.tell_counts.result c.args.schema.now ruled c.in-Ok.bulk
+    (subst (InputKept c.args.workers c.args.schema.now c.args.given.now left after start now) c.in-Ok.is c.store_all.ensures.stored)
+
+pub returns-in-Err-clause-notices : goal.returns-in-Err-clause-notices
+returns-in-Err-clause-notices g c = λ root a k ruled.
+    part_notices root c.args.given.now c.args.workers (g.S.Store.has c.args.store.now) (g.S.Store.has c.store_all.new.store) (g.S.Store.faults c.args.store.now) (g.S.Store.faults c.store_all.new.store)
+    (g.I.Source.left c.args.input.now) (g.I.Source.left c.store_all.new.input) (g.I.Source.faults c.args.input.now) (g.I.Source.faults c.store_all.new.input) (object a a k k)
+    (object (g.E.Sink.taken c.args.report.now) (g.E.Sink.taken c.tell_fault.new.report) (g.E.Sink.faults c.args.report.now) (g.E.Sink.faults c.tell_fault.new.report)) c.tell_fault.result
+    (fault_part c.in-Err.fault c.tell_fault.result _ _ _ _ c.tell_fault.ensures)

@@ -1,4 +1,5 @@
 use Rattle.fd_bytes.specs.Causes.{Rose}
+use Rattle.fd_bulk.proofs.Sparing.{parts_back, parts_of, same_spared}
 use Rattle.fd_archive.proofs.Giving.{back_of, kept_of, none_out, seated, starved_kept}
 use Rattle.fd_archive.proofs.Told.{on_disk, rose_before}
 use Rattle.fd_archive.proofs.storing.store_all.Goals as goal
@@ -27,3 +28,15 @@ returns-clause-disk g c =
     let mid = g.S.Store.faults c.archive_all-found.new.store in
     let last = g.S.Store.faults c.end.new.store in
     on_disk c.archive_all-found.result (Rose first mid) (Rose first last) (rose_before first mid last c.end.ensures.later) c.archive_all-found.ensures.disk
+
+pub returns-in_default-clause-spares : goal.returns-in_default-clause-spares
+returns-in_default-clause-spares g c = same_spared (g.S.Store.has c.args.store.now)
+
+pub returns-clause-spares : goal.returns-clause-spares
+returns-clause-spares g c =
+    let has = g.S.Folder.Folder.has in
+    let start = g.S.Store.has c.args.store.now in
+    let now = g.S.Store.has c.archive_all-found.new.store in
+    let each = c.archive_all-found.new.opener.library.each in
+    parts_back each has start now (g.S.Store.has c.end.new.store) (parts_of has c.args.workers c.args.schema.now c.args.given.now (g.I.Source.left c.args.input.now) (g.I.Source.left c.archive_all-found.new.input) start now each c.archive_all-found.result c.archive_all-found.ensures.archived)
+    c.end.ensures.given

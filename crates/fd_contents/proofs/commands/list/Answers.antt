@@ -1,13 +1,15 @@
-use Rattle.std.proofs.Common.{rules, ◌≡◌, sym, subst, List, ℕ, Some, Ok, Err}
+use Rattle.std.proofs.Common.{◌≡◌, inl, sym, subst, List, ℕ, Some, Ok, Err}
 use Rattle.fd_disk.specs.Folders.{WhereTold}
 use Rattle.fd_words.specs.declared.command.Command.TheVariants as commands
 use Rattle.fd_outcome.specs.Objects.{object}
 use Rattle.fd_outcome.specs.Outcome.{outcome, refused}
-use Rattle.fd_outcome.specs.Store.{Stays}
-use Rattle.fd_retrieve.proofs.Staying.{stays_same}
+use Rattle.fd_outcome.specs.Store.{IsLookedThrough}
+use Rattle.fd_retrieve.proofs.Looking.{looked_unmoved}
 use Rattle.fd_telling.proofs.StopLemmas.{later_disk}
 use Rattle.fd_contents.specs.Asked.{Refuses, asked_in}
-use Rattle.fd_contents.proofs.Exits.{both_at, list_prints, list_refused, stopped}
+use Rattle.fd_contents.proofs.Exits.{both_at, list_opens, list_prints, list_refused, stopped}
+use Rattle.fd_contents.proofs.Noticed.{list_notices, list_records}
+use Rattle.fd_contents.proofs.Whole.{stop_whole}
 use Rattle.fd_contents.proofs.Partial.{refuses_more}
 use Rattle.fd_contents.proofs.commands.list.Goals as goal
 
@@ -18,6 +20,7 @@ returns-in-Ok-clause-ran g c =
     (record {
       is_listing = tt;
       prints = λ octets h d e names. list_prints c.args.root.now octets h c.in-Ok.partial (both_at (g.S.Store.has c.args.store.now) (g.I.Source.left c.args.input.now) (λ octets h. asked_in h octets ≡ Ok c.in-Ok.partial) c.in-Ok.ensures.asked octets h d e) names;
+      opens = λ octets h d e names name there. list_opens c.args.root.now octets h c.in-Ok.partial (both_at (g.S.Store.has c.args.store.now) (g.I.Source.left c.args.input.now) (λ octets h. asked_in h octets ≡ Ok c.in-Ok.partial) c.in-Ok.ensures.asked octets h d e) names name there;
       same = c.in-Ok.ensures.has;
       later = c.in-Ok.ensures.later;
       calm = c.in-Ok.ensures.calm;
@@ -29,8 +32,30 @@ returns-in-Err-clause-ran g c =
     stopped (commands.List c.args.root.now) tt (g.S.Store.has c.args.store.now) (g.S.Store.has c.tell_stop.new.store) (g.S.Store.faults c.args.store.now) (g.S.Store.faults c.tell_stop.new.store)
     (object (g.I.Source.left c.args.input.now) (g.I.Source.left c.partial.new.input) (g.I.Source.faults c.args.input.now) (g.I.Source.faults c.partial.new.input)) (g.K.Sink.taken c.args.output.now) (g.K.Sink.faults c.args.output.now)
     (object (g.E.Sink.taken c.args.report.now) (g.E.Sink.taken c.tell_stop.new.report) (g.E.Sink.faults c.args.report.now) (g.E.Sink.faults c.tell_stop.new.report)) c.tell_stop.result
-    (subst (λ o. WhereTold (g.S.Store.has c.args.store.now) o Stays) (sym c.tell_stop.ensures.has) (stays_same (g.S.Store.has c.args.store.now) (g.S.Store.has c.partial.new.store) c.in-Err.ensures.has))
+    (subst (λ o. WhereTold (g.S.Store.has c.args.store.now) o IsLookedThrough) (sym c.tell_stop.ensures.has) (looked_unmoved (g.S.Store.has c.args.store.now) (g.S.Store.has c.partial.new.store) c.in-Err.ensures.has))
     c.in-Err.stop c.tell_stop.ensures.told c.in-Err.ensures.early
     (λ octets h d e. refuses_more c.in-Err.stop (λ cause. asked_in h octets ≡ Err cause) (λ cause. (names : List (List ℕ)) → outcome (commands.List c.args.root.now) h names octets ≡ Some (refused cause)) (list_refused c.args.root.now octets h)
     (both_at (g.S.Store.has c.args.store.now) (g.I.Source.left c.args.input.now) (λ octets h. Refuses c.in-Err.stop (λ cause. asked_in h octets ≡ Err cause)) c.in-Err.ensures.refused octets h d e))
     c.in-Err.ensures.input (later_disk c.in-Err.stop (g.S.Store.faults c.args.store.now) (g.S.Store.faults c.partial.new.store) (g.S.Store.faults c.tell_stop.new.store) c.in-Err.ensures.later c.tell_stop.ensures.noted) c.in-Err.ensures.calm_err
+
+pub returns-in-Ok-clause-notices : goal.returns-in-Ok-clause-notices
+returns-in-Ok-clause-notices g c =
+    list_notices (g.S.Store.has c.args.store.now) (g.S.Store.has c.partial.new.store) (g.S.Store.has c.printed.new.store) (g.S.Store.faults c.args.store.now) (g.S.Store.faults c.printed.new.store)
+    (object (g.I.Source.left c.args.input.now) (g.I.Source.left c.partial.new.input) (g.I.Source.faults c.args.input.now) (g.I.Source.faults c.partial.new.input))
+    (object (g.K.Sink.taken c.args.output.now) (g.K.Sink.taken c.printed.new.output) (g.K.Sink.faults c.args.output.now) (g.K.Sink.faults c.printed.new.output))
+    (object (g.E.Sink.taken c.args.report.now) (g.E.Sink.taken c.printed.new.report) (g.E.Sink.faults c.args.report.now) (g.E.Sink.faults c.printed.new.report)) c.printed.result
+    c.in-Ok.ensures.has c.args.root.now c.in-Ok.partial c.in-Ok.ensures.asked c.printed.ensures.whole
+
+pub returns-in-Err-clause-notices : goal.returns-in-Err-clause-notices
+returns-in-Err-clause-notices g c = λ whole. stop_whole _ c.tell_stop.result (g.E.Sink.taken c.args.report.now) (g.E.Sink.taken c.tell_stop.new.report) (g.E.Sink.faults c.args.report.now) (g.E.Sink.faults c.tell_stop.new.report) c.in-Err.stop c.tell_stop.ensures.told whole
+
+pub returns-in-Ok-clause-recorded : goal.returns-in-Ok-clause-recorded
+returns-in-Ok-clause-recorded g c =
+    list_records (g.S.Store.has c.args.store.now) (g.S.Store.has c.partial.new.store) (g.S.Store.has c.printed.new.store) (g.S.Store.faults c.args.store.now) (g.S.Store.faults c.printed.new.store)
+    (object (g.I.Source.left c.args.input.now) (g.I.Source.left c.partial.new.input) (g.I.Source.faults c.args.input.now) (g.I.Source.faults c.partial.new.input))
+    (object (g.K.Sink.taken c.args.output.now) (g.K.Sink.taken c.printed.new.output) (g.K.Sink.faults c.args.output.now) (g.K.Sink.faults c.printed.new.output))
+    (object (g.E.Sink.taken c.args.report.now) (g.E.Sink.taken c.printed.new.report) (g.E.Sink.faults c.args.report.now) (g.E.Sink.faults c.printed.new.report)) c.printed.result
+    c.in-Ok.ensures.has c.in-Ok.partial c.in-Ok.ensures.asked c.printed.ensures.whole
+
+pub returns-in-Err-clause-recorded : goal.returns-in-Err-clause-recorded
+returns-in-Err-clause-recorded g c = λ done. stop_whole _ c.tell_stop.result (g.E.Sink.taken c.args.report.now) (g.E.Sink.taken c.tell_stop.new.report) (g.E.Sink.faults c.args.report.now) (g.E.Sink.faults c.tell_stop.new.report) c.in-Err.stop c.tell_stop.ensures.told (inl done)

@@ -1,15 +1,14 @@
-use Rattle.std.proofs.Common.{rules, ◌≡◌, ◌≤◌, ◌∙◌, refl, sym, subst, ap, Some, IfSome, List, ℕ}
-use Rattle.std.specs.Prelude.{option_map}
+use Rattle.std.proofs.Common.{refl, sym, subst, List, ℕ}
 use Rattle.fd_disk.specs.Folders.{WhereTold}
-use Rattle.fd_io.specs.Streams.{Takes, TakesFront}
 use Rattle.fd_outcome.specs.Objects.{object}
-use Rattle.fd_outcome.specs.Store.{AreNames, Stays}
-use Rattle.fd_outcome.specs.Outcome.{outcome, printed}
+use Rattle.fd_outcome.specs.Store.{AreNames, IsLookedThrough}
+use Rattle.fd_outcome.specs.declared.status.Status.TheVariants.{OutputFault}
+use Rattle.fd_outcome.specs.Ends.{output_failed}
 use Rattle.fd_retrieve.specs.Ready.{IsBrokenOf}
-use Rattle.fd_telling.proofs.StopLemmas.{rose_later}
 use Rattle.fd_telling.proofs.StopLemmas.{later_disk}
-use Rattle.fd_contents.specs.Texts.{texts_for}
-use Rattle.fd_contents.proofs.Exits.{done_ran, halted, later_both, lines_part, stays_since, told_since, unwritten_ran, whole_lines}
+use Rattle.fd_contents.proofs.Exits.{done_ran, halted, later_both, lines_part, looks_since, told_since, unwritten_ran, whole_lines}
+use Rattle.fd_contents.proofs.Printing.{took_all}
+use Rattle.fd_contents.proofs.Whole.{stop_whole, told_whole}
 use Rattle.fd_contents.proofs.commands.printed.Goals as goal
 
 pub returns-in-Ok-clause-ran : goal.returns-in-Ok-clause-ran
@@ -17,15 +16,16 @@ returns-in-Ok-clause-ran g c = λ command before faults input begins.
     done_ran command begins.is_listing before (g.S.Store.has c.print.new.store) faults (g.S.Store.faults c.print.new.store) input
     (object (g.K.Sink.taken c.args.output.now) (g.K.Sink.taken c.print.new.output) (g.K.Sink.faults c.args.output.now) (g.K.Sink.faults c.print.new.output))
     (object (g.E.Sink.taken c.args.report.now) (g.E.Sink.taken c.args.report.now) (g.E.Sink.faults c.args.report.now) (g.E.Sink.faults c.args.report.now)) _
-    (stays_since before (g.S.Store.has c.args.store.now) (g.S.Store.has c.print.new.store) begins.same c.print.ensures.stays) refl refl begins.calm c.in-Ok.ensures.calm begins.read
-    (λ octets h names d e an. whole_lines command before input.before c.args.lines.now (g.S.Store.has c.args.store.now) (g.K.Sink.taken c.args.output.now) (g.K.Sink.taken c.print.new.output) begins.prints begins.same c.in-Ok.ensures.took octets h names d e an)
+    (looks_since before (g.S.Store.has c.args.store.now) (g.S.Store.has c.print.new.store) begins.same c.print.ensures.looks) refl refl begins.calm c.in-Ok.ensures.calm begins.read
+    (λ octets h names d e an. whole_lines command before input.before c.args.lines.now (g.S.Store.has c.args.store.now) (g.K.Sink.taken c.args.output.now) (g.K.Sink.taken c.print.new.output) begins.prints begins.same
+    (took_all c.args.lines.now (g.S.Store.has c.args.store.now) (g.K.Sink.taken c.args.output.now) (g.K.Sink.taken c.print.new.output) c.in-Ok.ensures.printed) octets h names d e an)
 
 pub returns-in-Err-Unwritten-clause-ran : goal.returns-in-Err-Unwritten-clause-ran
 returns-in-Err-Unwritten-clause-ran g c = λ command before faults input begins.
     unwritten_ran command begins.is_listing before (g.S.Store.has c.print.new.store) faults (g.S.Store.faults c.print.new.store) input
     (object (g.K.Sink.taken c.args.output.now) (g.K.Sink.taken c.print.new.output) (g.K.Sink.faults c.args.output.now) (g.K.Sink.faults c.print.new.output))
     (object (g.E.Sink.taken c.args.report.now) (g.E.Sink.taken c.tell_output_failed.new.report) (g.E.Sink.faults c.args.report.now) (g.E.Sink.faults c.tell_output_failed.new.report)) c.tell_output_failed.result
-    (stays_since before (g.S.Store.has c.args.store.now) (g.S.Store.has c.print.new.store) begins.same c.print.ensures.stays) c.tell_output_failed.ensures (rw c.in-Err-Unwritten.field-0-is at c.in-Err-Unwritten.ensures.write)
+    (looks_since before (g.S.Store.has c.args.store.now) (g.S.Store.has c.print.new.store) begins.same c.print.ensures.looks) c.tell_output_failed.ensures (rw c.in-Err-Unwritten.field-0-is at c.in-Err-Unwritten.ensures.write)
     (λ octets h names d e an. lines_part command before input.before c.args.lines.now (g.S.Store.has c.args.store.now) (g.K.Sink.taken c.args.output.now) (g.K.Sink.taken c.print.new.output) begins.prints begins.same c.in-Err-Unwritten.ensures.front octets h names d e an)
 
 pub returns-clause-ran : goal.returns-clause-ran
@@ -33,8 +33,20 @@ returns-clause-ran g c = λ command before faults input begins.
     halted command begins.is_listing before (g.S.Store.has c.tell_stop.new.store) faults (g.S.Store.faults c.tell_stop.new.store) input
     (object (g.K.Sink.taken c.args.output.now) (g.K.Sink.taken c.print.new.output) (g.K.Sink.faults c.args.output.now) (g.K.Sink.faults c.print.new.output))
     (object (g.E.Sink.taken c.args.report.now) (g.E.Sink.taken c.tell_stop.new.report) (g.E.Sink.faults c.args.report.now) (g.E.Sink.faults c.tell_stop.new.report)) c.tell_stop.result
-    (subst (λ o. WhereTold before o Stays) (sym c.tell_stop.ensures.has) (stays_since before (g.S.Store.has c.args.store.now) (g.S.Store.has c.print.new.store) begins.same c.print.ensures.stays))
+    (subst (λ o. WhereTold before o IsLookedThrough) (sym c.tell_stop.ensures.has) (looks_since before (g.S.Store.has c.args.store.now) (g.S.Store.has c.print.new.store) begins.same c.print.ensures.looks))
     c.in-Err-Stop.stop c.tell_stop.ensures.told (rw c.in-Err-Stop.field-0-is at c.in-Err-Stop.ensures.of)
     (told_since before (g.S.Store.has c.args.store.now) (λ h. (names : List (List ℕ)) → AreNames h names → IsBrokenOf c.in-Err-Stop.stop h names) begins.same (rw c.in-Err-Stop.field-0-is at c.in-Err-Stop.ensures.broken))
     (later_disk c.in-Err-Stop.stop faults (g.S.Store.faults c.print.new.store) (g.S.Store.faults c.tell_stop.new.store) (later_both faults (g.S.Store.faults c.args.store.now) (g.S.Store.faults c.print.new.store) begins.later c.print.ensures.later) c.tell_stop.ensures.noted)
     (λ octets h names d e an. lines_part command before input.before c.args.lines.now (g.S.Store.has c.args.store.now) (g.K.Sink.taken c.args.output.now) (g.K.Sink.taken c.print.new.output) begins.prints begins.same c.in-Err-Stop.ensures.front octets h names d e an)
+    begins.opens
+
+pub returns-in-Ok-clause-whole : goal.returns-in-Ok-clause-whole
+returns-in-Ok-clause-whole g c = λ whole. record { done = refl; quiet = refl; each = c.in-Ok.ensures.printed }
+
+pub returns-in-Err-Unwritten-clause-whole : goal.returns-in-Err-Unwritten-clause-whole
+returns-in-Err-Unwritten-clause-whole g c = λ whole.
+    told_whole _ c.tell_output_failed.result (g.E.Sink.taken c.args.report.now) (g.E.Sink.taken c.tell_output_failed.new.report) (g.E.Sink.faults c.args.report.now) (g.E.Sink.faults c.tell_output_failed.new.report)
+    OutputFault output_failed refl c.tell_output_failed.ensures whole
+
+pub returns-clause-whole : goal.returns-clause-whole
+returns-clause-whole g c = λ whole. stop_whole _ c.tell_stop.result (g.E.Sink.taken c.args.report.now) (g.E.Sink.taken c.tell_stop.new.report) (g.E.Sink.faults c.args.report.now) (g.E.Sink.faults c.tell_stop.new.report) c.in-Err-Stop.stop c.tell_stop.ensures.told whole

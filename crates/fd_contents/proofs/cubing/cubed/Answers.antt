@@ -1,12 +1,12 @@
-use Rattle.std.proofs.Common.{rules, ◌≡◌, refl, sym, subst, List, ℕ}
+use Rattle.std.proofs.Common.{refl, sym, subst, List, ℕ}
 use Rattle.fd_disk.specs.Folders.{WhereTold}
 use Rattle.fd_outcome.specs.Matching.{matching}
 use Rattle.fd_outcome.specs.Objects.{object}
-use Rattle.fd_outcome.specs.Store.{AreNames, Stays}
-use Rattle.fd_retrieve.specs.Ready.{IsBrokenOf}
+use Rattle.fd_outcome.specs.Store.{AreNames, IsLookedThrough}
+use Rattle.fd_retrieve.specs.Ready.{IsBrokenOf, NoneIsDamaged}
 use Rattle.fd_telling.proofs.StopLemmas.{later_disk}
 use Rattle.fd_contents.proofs.CubeExits.{halted_ran, keys_ran}
-use Rattle.fd_contents.proofs.Exits.{later_both, stays_since, told_since}
+use Rattle.fd_contents.proofs.Exits.{later_both, looks_since, told_since}
 use Rattle.fd_contents.proofs.Gathered.{KeepsAll}
 use Rattle.fd_contents.proofs.cubing.cubed.Goals as goal
 
@@ -15,8 +15,9 @@ returns-in-Ok-clause-ran g c = λ root before faults input begins.
     keys_ran root before (g.S.Store.has c.keys_asked.new.store) faults (g.S.Store.faults c.keys_asked.new.store) input
     (object (g.K.Sink.taken c.args.output.now) (g.K.Sink.taken c.tell_keys.new.output) (g.K.Sink.faults c.args.output.now) (g.K.Sink.faults c.tell_keys.new.output))
     (object (g.E.Sink.taken c.args.report.now) (g.E.Sink.taken c.tell_keys.new.report) (g.E.Sink.faults c.args.report.now) (g.E.Sink.faults c.tell_keys.new.report)) c.tell_keys.result
-    (stays_since before (g.S.Store.has c.args.store.now) (g.S.Store.has c.keys_asked.new.store) begins.same c.keys_asked.ensures.stays)
+    (looks_since before (g.S.Store.has c.args.store.now) (g.S.Store.has c.keys_asked.new.store) begins.same c.keys_asked.ensures.looks) begins.unread
     c.args.partial.now c.in-Ok.found begins.asked begins.calm begins.read
+    (told_since before (g.S.Store.has c.args.store.now) (λ h. (names : List (List ℕ)) → AreNames h names → NoneIsDamaged h names) begins.same c.in-Ok.ensures.undamaged)
     (told_since before (g.S.Store.has c.args.store.now) (λ h. (names : List (List ℕ)) → AreNames h names → KeepsAll c.in-Ok.found (matching c.args.partial.now h names)) begins.same c.in-Ok.ensures.found)
     c.tell_keys.ensures
 
@@ -25,7 +26,7 @@ returns-in-Err-clause-ran g c = λ root before faults input begins.
     halted_ran root before (g.S.Store.has c.tell_stop.new.store) faults (g.S.Store.faults c.tell_stop.new.store) input
     (object (g.K.Sink.taken c.args.output.now) (g.K.Sink.taken c.args.output.now) (g.K.Sink.faults c.args.output.now) (g.K.Sink.faults c.args.output.now))
     (object (g.E.Sink.taken c.args.report.now) (g.E.Sink.taken c.tell_stop.new.report) (g.E.Sink.faults c.args.report.now) (g.E.Sink.faults c.tell_stop.new.report)) c.tell_stop.result
-    (subst (λ o. WhereTold before o Stays) (sym c.tell_stop.ensures.has) (stays_since before (g.S.Store.has c.args.store.now) (g.S.Store.has c.keys_asked.new.store) begins.same c.keys_asked.ensures.stays)) refl
-    c.in-Err.stop c.tell_stop.ensures.told c.in-Err.ensures.of
+    (subst (λ o. WhereTold before o IsLookedThrough) (sym c.tell_stop.ensures.has) (looks_since before (g.S.Store.has c.args.store.now) (g.S.Store.has c.keys_asked.new.store) begins.same c.keys_asked.ensures.looks)) begins.unread refl
+    c.args.partial.now begins.asked c.in-Err.stop c.tell_stop.ensures.told c.in-Err.ensures.of
     (told_since before (g.S.Store.has c.args.store.now) (λ h. (names : List (List ℕ)) → AreNames h names → IsBrokenOf c.in-Err.stop h names) begins.same c.in-Err.ensures.broken)
     (later_disk c.in-Err.stop faults (g.S.Store.faults c.keys_asked.new.store) (g.S.Store.faults c.tell_stop.new.store) (later_both faults (g.S.Store.faults c.args.store.now) (g.S.Store.faults c.keys_asked.new.store) begins.later c.keys_asked.ensures.later) c.tell_stop.ensures.noted)

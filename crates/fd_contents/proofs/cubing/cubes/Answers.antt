@@ -1,8 +1,8 @@
-use Rattle.std.proofs.Common.{rules, ◌≡◌, refl, sym, subst, List, ℕ, Err}
+use Rattle.std.proofs.Common.{◌≡◌, refl, sym, subst, Err}
 use Rattle.fd_disk.specs.Folders.{WhereTold}
 use Rattle.fd_outcome.specs.Objects.{object}
-use Rattle.fd_outcome.specs.Store.{Stays}
-use Rattle.fd_retrieve.proofs.Staying.{stays_same}
+use Rattle.fd_outcome.specs.Store.{IsLookedThrough}
+use Rattle.fd_retrieve.proofs.Looking.{looked_unmoved}
 use Rattle.fd_telling.proofs.StopLemmas.{later_disk}
 use Rattle.fd_contents.specs.Asked.{Refuses, asked_in}
 use Rattle.fd_contents.proofs.CubeExits.{stopped_ran}
@@ -19,6 +19,7 @@ returns-in-Ok-clause-ran g c =
       later = c.in-Ok.ensures.later;
       calm = c.in-Ok.ensures.calm;
       read = c.in-Ok.ensures.read;
+      unread = c.in-Ok.ensures.unread;
     })
 
 pub returns-in-Err-clause-ran : goal.returns-in-Err-clause-ran
@@ -27,7 +28,7 @@ returns-in-Err-clause-ran g c =
     (object (g.I.Source.left c.args.input.now) (g.I.Source.left c.partial.new.input) (g.I.Source.faults c.args.input.now) (g.I.Source.faults c.partial.new.input))
     (object (g.K.Sink.taken c.args.output.now) (g.K.Sink.taken c.args.output.now) (g.K.Sink.faults c.args.output.now) (g.K.Sink.faults c.args.output.now))
     (object (g.E.Sink.taken c.args.report.now) (g.E.Sink.taken c.tell_stop.new.report) (g.E.Sink.faults c.args.report.now) (g.E.Sink.faults c.tell_stop.new.report)) c.tell_stop.result
-    (subst (λ o. WhereTold (g.S.Store.has c.args.store.now) o Stays) (sym c.tell_stop.ensures.has) (stays_same (g.S.Store.has c.args.store.now) (g.S.Store.has c.partial.new.store) c.in-Err.ensures.has)) refl
+    (subst (λ o. WhereTold (g.S.Store.has c.args.store.now) o IsLookedThrough) (sym c.tell_stop.ensures.has) (looked_unmoved (g.S.Store.has c.args.store.now) (g.S.Store.has c.partial.new.store) c.in-Err.ensures.has)) c.in-Err.ensures.unread refl
     c.in-Err.stop c.tell_stop.ensures.told c.in-Err.ensures.early
     (λ octets h d e. both_at (g.S.Store.has c.args.store.now) (g.I.Source.left c.args.input.now) (λ octets h. Refuses c.in-Err.stop (λ cause. asked_in h octets ≡ Err cause)) c.in-Err.ensures.refused octets h d e)
     c.in-Err.ensures.input (later_disk c.in-Err.stop (g.S.Store.faults c.args.store.now) (g.S.Store.faults c.partial.new.store) (g.S.Store.faults c.tell_stop.new.store) c.in-Err.ensures.later c.tell_stop.ensures.noted) c.in-Err.ensures.calm_err refl

@@ -1,6 +1,5 @@
-use Rattle.std.proofs.Common.{rules, ◌≡◌, ◌∙◌, ◌∷◌, [], refl, ap, subst, sym, true, string_bytes}
+use Rattle.std.proofs.Common.{rules, ◌≡◌, ◌∷◌, [], subst, sym, true, string_bytes}
 use Rattle.fd_disk.specs.Folders.{folder_at}
-use Rattle.fd_inventory.proofs.Upserting.{self}
 use Rattle.fd_outcome.specs.Asking.{is_among}
 use Rattle.fd_outcome.specs.Causes.{BadFile}
 use Rattle.fd_outcome.specs.Store.{Stands}

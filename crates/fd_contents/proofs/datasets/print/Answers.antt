@@ -1,20 +1,21 @@
 use Rattle.std.proofs.Common.{◌≡◌, IfSome, List, ℕ, Some, subst}
-use Rattle.fd_io.specs.Streams.{Takes, TakesFront}
+use Rattle.fd_io.specs.Streams.{TakesFront}
 use Rattle.fd_schema.specs.Seen.{texts}
+use Rattle.fd_contents.specs.Printed.{ArePrinted}
 use Rattle.fd_contents.specs.Texts.{texts_for}
 use Rattle.fd_contents.proofs.Names.{named_lines, of_names}
 use Rattle.fd_contents.proofs.datasets.print.Goals as goal
 
-pub returns-in-Ok-print_each-clause-took : goal.returns-in-Ok-print_each-clause-took
-returns-in-Ok-print_each-clause-took g c =
+pub returns-in-Ok-print_each-clause-printed : goal.returns-in-Ok-print_each-clause-printed
+returns-in-Ok-print_each-clause-printed g c =
     let has = g.S.Store.has c.args.store.now in
     let mid = g.S.Store.has c.names.new.self in
-    let R = Takes (g.K.Sink.taken c.args.output.now) (g.K.Sink.taken c.print_each.new.output) in
+    let a = g.K.Sink.taken c.args.output.now in
+    let b = g.K.Sink.taken c.print_each.new.output in
     let l = c.args.lines.now in
-    let own = subst (λ ns. IfSome mid (λ h. (text : List ℕ) → texts_for l h (texts ns) ≡ Some text → R text)) c.deref.ensures.value c.in-Ok-print_each.ensures.took in
-    let here = subst (λ o. IfSome o (λ h. (text : List ℕ) → texts_for l h (texts c.in-Ok.names.items) ≡ Some text → R text)) c.names.ensures.has own in
-    named_lines has (λ h names text. texts_for l h names ≡ Some text) R
-    (of_names has c.in-Ok.names.items (g.S.Store.out c.args.store.now) (λ h names. (text : List ℕ) → texts_for l h names ≡ Some text → R text) c.requires.home c.in-Ok.ensures.sorted c.in-Ok.ensures.each here)
+    let own = subst (λ ns. IfSome mid (λ h. ArePrinted l h (texts ns) a b)) c.deref.ensures.value c.in-Ok-print_each.ensures.printed in
+    let here = subst (λ o. IfSome o (λ h. ArePrinted l h (texts c.in-Ok.names.items) a b)) c.names.ensures.has own in
+    of_names has c.in-Ok.names.items (g.S.Store.out c.args.store.now) (λ h names. ArePrinted l h names a b) c.requires.home c.in-Ok.ensures.sorted c.in-Ok.ensures.each here
 
 pub returns-clause-front : goal.returns-clause-front
 returns-clause-front g c =

@@ -1,4 +1,4 @@
-use Rattle.std.proofs.Common.{rules, ◌≡◌, ◌∙◌, subst, sym, ap, Ok, Err}
+use Rattle.std.proofs.Common.{rules, ◌≡◌, Ok, Err}
 use Rattle.fd_request.specs.Limits as limits
 use Rattle.fd_request.specs.Reading.{seen_kind}
 use Rattle.fd_contents.proofs.Partial.{partial_read, partial_refused}

@@ -1,5 +1,3 @@
-use Rattle.std.specs.Prelude.{Result}
-use Rattle.fd_schema.specs.Seen.{texts}
 use Rattle.fd_contents.proofs.Askable.{cubes_read}
 use Rattle.fd_contents.proofs.telling.lines_of_keys.Goals as goal
 

@@ -1,4 +1,4 @@
-use Rattle.std.proofs.Common.{rules, ◌≡◌, refl, subst, string_bytes}
+use Rattle.std.proofs.Common.{refl}
 use Rattle.fd_schema.specs.Seen.{texts}
 use Rattle.fd_contents.specs.Told.{KeysPrinted, KeysStarved}
 use Rattle.fd_contents.proofs.telling.print_cubes.Goals as goal

@@ -1,4 +1,4 @@
-use Rattle.std.proofs.Common.{◌≡◌, ◌≤◌, ◌<◌, refl, subst, arith, length, Some}
+use Rattle.std.proofs.Common.{◌≤◌, ◌<◌, refl, subst, arith, length}
 use Rattle.fd_outcome.specs.Causes.{NoRequest, TooManyKeys}
 use Rattle.fd_outcome.specs.Objects.{object}
 use Rattle.fd_contents.specs.Told.{ToldKeys}

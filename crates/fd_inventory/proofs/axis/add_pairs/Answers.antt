@@ -1,4 +1,4 @@
-use Rattle.std.proofs.Common.{rules, ◌≡◌, ◌∙◌, ◌-◌, arith, ap, sym, drop, Some}
+use Rattle.std.proofs.Common.{◌∙◌, ◌-◌, arith, ap, sym}
 use Rattle.fd_inventory.specs.Axes.{put_pair, put_pairs, seen_names}
 use Rattle.fd_inventory.proofs.Batches.{stands}
 use Rattle.fd_inventory.proofs.axis.add_pairs.Goals as goal

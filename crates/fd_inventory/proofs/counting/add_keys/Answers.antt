@@ -1,4 +1,4 @@
-use Rattle.std.proofs.Common.{rules, ◌≡◌, ◌+◌, ◌-◌, arith, sym, subst, length, Some, slice_get, zero, drop}
+use Rattle.std.proofs.Common.{◌≡◌, ◌-◌, arith, sym, subst, drop}
 use Rattle.fd_inventory.specs.Counted.{AreKeys}
 use Rattle.fd_outcome.specs.Rows.{put_keys}
 use Rattle.fd_inventory.proofs.Counts.{keys_start, keys_more}

@@ -1,4 +1,4 @@
-use Rattle.std.proofs.Common.{◌≡◌, ◌≤◌, List, ℕ, length, drop}
+use Rattle.std.proofs.Common.{◌≤◌, List, ℕ, length, drop}
 use Rattle.fd_entries.specs.declared.batch.Pair.{Pair}
 use Rattle.fd_inventory.specs.Counted.{AreKeys}
 use Rattle.fd_inventory.specs.Shown.{AreLengths}

@@ -1,8 +1,7 @@
-use Rattle.std.proofs.Common.{rules, ◌≡◌, ◌+◌, ◌-◌, ◌∙◌, arith, sym, subst, ap, length, Some, slice_get, map}
+use Rattle.std.proofs.Common.{◌≡◌, ◌+◌, ◌-◌, ◌∙◌, arith, ap, Some, slice_get, map}
 use Rattle.std.specs.Prelude.{option_map}
 use Rattle.std.proofs.lemmas.Option.{slice_get-map}
 use Rattle.fd_segment.specs.Held.{Standing}
-use Rattle.fd_entries.specs.declared.table.Entry.{Entry}
 use Rattle.fd_inventory.proofs.Counts.{sums_more}
 use Rattle.fd_inventory.proofs.counting.sums.Goals as goal
 

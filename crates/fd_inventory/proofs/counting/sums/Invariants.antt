@@ -1,4 +1,4 @@
-use Rattle.std.proofs.Common.{◌≡◌, ◌≤◌, ◌<◌, ◌+◌, ◌*◌, ◌-◌, ◌^◌, List, ℕ, length, map, drop}
+use Rattle.std.proofs.Common.{◌≡◌, ◌≤◌, ◌*◌, ◌-◌, length, map, drop}
 use Rattle.fd_outcome.specs.Rows.{sum_bytes, sum_fields}
 use Rattle.fd_inventory.proofs.counting.sums.Given as goal
 

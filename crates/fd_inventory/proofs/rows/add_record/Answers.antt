@@ -1,4 +1,4 @@
-use Rattle.std.proofs.Common.{rules, sym, ◌∙◌, ◌≡◌, subst, Some}
+use Rattle.std.proofs.Common.{rules, sym, subst}
 use Rattle.fd_request.specs.Matching.{Matches}
 use Rattle.fd_inventory.specs.Keys.{IsStored}
 use Rattle.fd_inventory.specs.Shown.{AreRows}

@@ -1,4 +1,4 @@
-use Rattle.std.proofs.Common.{rules, ◌≡◌, ◌+◌, ◌-◌, arith, sym, subst, length, Some, slice_get}
+use Rattle.std.proofs.Common.{rules, ◌-◌, arith, sym, subst}
 use Rattle.fd_inventory.proofs.Batches.{start, more, rows_behind}
 use Rattle.fd_inventory.specs.Shown.{AreRows}
 use Rattle.fd_inventory.proofs.rows.add_records.Goals as goal

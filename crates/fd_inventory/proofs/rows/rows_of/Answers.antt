@@ -1,23 +1,31 @@
-use Rattle.std.proofs.Common.{rules, ◌≡◌, ◌+◌, ◌-◌, arith, sym, subst, ap, length, Some, slice_get, ◌∙◌, map}
-use Rattle.std.specs.Prelude.{option_map}
-use Rattle.std.proofs.lemmas.List.{length-map}
-use Rattle.std.proofs.lemmas.Option.{slice_get-map}
-use Rattle.fd_dataset.specs.Listed.{listing}
-use Rattle.fd_inventory.proofs.Batches.{batch_at, one_batch, tells_length}
-use Rattle.fd_inventory.proofs.Lengths.{lengths_in}
+use Rattle.std.proofs.Common.{rules, ◌≡◌, ◌+◌, ◌-◌, arith, sym, subst, drop, []}
+use Rattle.fd_inventory.specs.Shown.{AreRows}
+use Rattle.fd_outcome.specs.Rows.{rows_from}
+use Rattle.fd_inventory.proofs.Batches.{one_batch}
+use Rattle.fd_inventory.proofs.Recording.{rest_all, rest_more, rest_none}
 use Rattle.fd_inventory.proofs.rows.rows_of.Goals as goal
 
+pub loop-left-init : goal.loop-left-init
+loop-left-init g c =
+    let empty : AreRows c.new-rows.result.entries [] = search rules in
+    record {
+      few = omega (arith, c.len-left.ensures.count);
+      rows = rest_none c.args.snapshot.now c.len-left.result (λ t. AreRows c.new-rows.result.entries (rows_from c.args.dataset.now c.args.partial.now t (drop c.len-left.result t))) (omega (arith, c.len-left.ensures.count))
+          (λ t none. subst (λ bs. AreRows c.new-rows.result.entries (rows_from c.args.dataset.now c.args.partial.now t bs)) (sym none) empty);
+    }
+
 pub loop-left-preserved : goal.loop-left-preserved
-loop-left-preserved g c = record {
-  few = omega (arith, c.loop-left.invariant.few);
-  rows = λ t tells.
-      let n = c.loop-left.left - 1 in
-      let seg = c.segment.result.now in
-      let at : slice_get c.args.snapshot.now n ≡ Some seg = c.segment.ensures in
-      let listed : slice_get (map listing c.args.snapshot.now) n ≡ Some (listing seg) = slice_get-map listing c.args.snapshot.now n ∙ ap (option_map listing) at in
-      let b = batch_at (map listing c.args.snapshot.now) t n (listing seg) tells listed in
-      let long = tells_length (map listing c.args.snapshot.now) t tells in
-      let same = length-map c.args.snapshot.now listing in
-      one_batch c.args.dataset.now c.args.partial.now t n c.loop-left.left b.0 c.in_ok-index.index c.loop-left.rows.entries c.add_records.new.rows.entries (omega (arith, c.loop-left-test.true)) b.2
-      (omega (arith, long, same, c.loop-left.invariant.few)) (lengths_in seg.files c.in_ok-index.index b.0 c.in_ok-index.ensures.records b.1) c.in-Ok.ensures (c.loop-left.invariant.rows t tells);
-}
+loop-left-preserved g c =
+    let n = c.loop-left.left - 1 in
+    let next : c.loop-left.left ≡ n + 1 = omega (arith, c.loop-left-test.true) in
+    record {
+      few = omega (arith, c.loop-left.invariant.few);
+      rows = rest_more c.args.snapshot.now n c.loop-left.left c.segment.result.now c.in_ok-index.index
+          (λ t. AreRows c.loop-left.rows.entries (rows_from c.args.dataset.now c.args.partial.now t (drop c.loop-left.left t))) (λ t. AreRows c.add_records.new.rows.entries (rows_from c.args.dataset.now c.args.partial.now t (drop n t)))
+          next c.segment.ensures c.in_ok-index.ensures.records
+          (λ t b at few lengths rows. one_batch c.args.dataset.now c.args.partial.now t n c.loop-left.left b c.in_ok-index.index c.loop-left.rows.entries c.add_records.new.rows.entries next at few lengths c.in-Ok.ensures rows)
+          c.loop-left.invariant.rows;
+    }
+
+pub returns-clause-rows : goal.returns-clause-rows
+returns-clause-rows g c = rest_all c.args.snapshot.now c.loop-left.left (λ k t. AreRows c.loop-left.rows.entries (rows_from c.args.dataset.now c.args.partial.now t (drop k t))) (omega (arith, c.loop-left-test.false)) c.loop-left.invariant.rows

@@ -1,4 +1,4 @@
-use Rattle.std.proofs.Common.{rules, sym, ◌∙◌, ◌≡◌, None, Some, ap}
+use Rattle.std.proofs.Common.{rules}
 use Rattle.fd_inventory.proofs.Pieces.{added, one_more}
 use Rattle.fd_inventory.proofs.stored_key.add_piece.Goals as goal
 

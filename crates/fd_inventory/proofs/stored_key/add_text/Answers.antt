@@ -1,7 +1,6 @@
-use Rattle.std.proofs.Common.{rules, sym, ◌∙◌, ap, refl, arith, ◌≡◌, Some, None, List, ◌∷◌, length, option_copied}
-use Rattle.fd_key.specs.Given.{pieces_of}
+use Rattle.std.proofs.Common.{rules, ◌∙◌, ap, ◌≡◌, Some, option_copied}
 use Rattle.fd_outcome.specs.Rows.{with_piece, with_pieces}
-use Rattle.fd_inventory.specs.Keys.{pieces_if, length_if}
+use Rattle.fd_inventory.specs.Keys.{pieces_if}
 use Rattle.fd_inventory.proofs.Pieces.{turn, refused, done}
 use Rattle.fd_inventory.proofs.stored_key.add_text.Goals as goal
 

@@ -1,4 +1,4 @@
-use Rattle.std.proofs.Common.{rules, sym, arith, ◌∙◌, ◌≡◌, ap, length}
+use Rattle.std.proofs.Common.{rules, sym, arith, ◌≡◌, ap, length}
 use Rattle.fd_spelling.proofs.PieceLaws.{cut_lengths}
 use Rattle.fd_inventory.proofs.stored_key.stored_key.Goals as goal
 

@@ -10,6 +10,8 @@ use Rattle.fd_retrieve.specs.Located.{AreAt}
 use Rattle.fd_retrieve.specs.Open.{table_in}
 use Rattle.fd_layered.specs.Finding.{AreNearest}
 use Rattle.fd_layered.specs.Ready.{laid_with}
+use Rattle.fd_retrieve.proofs.Plain.{with_ok}
+use Rattle.fd_layered.proofs.Noticing.{over_each}
 use Rattle.fd_layered.proofs.NearestLemmas.{nearest_at, nearest_in, nearest_long}
 use Rattle.fd_layered.proofs.retrieving.answered.Goals as goal
 
@@ -41,3 +43,17 @@ returns-clause-ran g c = λ root before faults input begins.
     (subst (λ w. AreNearest c.deref.result.now c.deref-2.result.now (w + 1) c.count.result v.items) c.len.ensures near)))
     e))
     c.locate_over-located.ensures.located)
+
+pub returns-clause-each : goal.returns-clause-each
+returns-clause-each g c = λ h octets ready whole.
+    let os = c.args.ready.opened.items in
+    let ks = c.args.ready.request in
+    let ps = c.args.ready.places.items in
+    let ls = c.args.layers.now in
+    with_ok c.locate_over-located.result (λ v. AreNearest c.deref.result.now c.deref-2.result.now (c.len.result + 1) c.count.result v.items) _ _ (c.answer_located.ensures.located whole) c.locate_over-located.ensures.located (c.answer_located.ensures.told whole)
+    (λ v near tells. over_each ls h octets ks ps os c.requires.chains ready c.count.result v.items c.count.ensures
+    (subst (λ l. AreNearest l ps (length ls + 1) c.count.result v.items) c.deref.ensures.value
+    (subst (λ l. AreNearest c.deref.result.now l (length ls + 1) c.count.result v.items) c.deref-2.ensures.value
+    (subst (λ w. AreNearest c.deref.result.now c.deref-2.result.now (w + 1) c.count.result v.items) c.len.ensures near)))
+    c.answer_located.result _ _ _ _
+    (λ xs at. tells xs (subst (λ l. AreAt l (expand ks) xs v.items) (sym c.deref-3.ensures.value) at)))

@@ -6,12 +6,13 @@ use Rattle.fd_turn.specs.Passes.{BoardId, view}
 use Rattle.fd_turn.specs.Views.{first_view}
 use Rattle.fd_dataset.specs.Listed.{listings}
 use Rattle.fd_recovery.specs.Causes.{OnDisk}
-use Rattle.fd_recovery.specs.Recovered.{all_of, batches_listed, held}
+use Rattle.fd_recovery.specs.Recovered.{IsUndamaged, all_of, batches_listed, held}
 use Rattle.fd_segment.specs.Shared.{entries, standings}
 use Rattle.fd_library.specs.Open.{OpenDataset, seat_of}
-use Rattle.fd_library.specs.Answers.{HoldsAs, IsOpened, TableBroke}
-use Rattle.fd_library.specs.Stores.{KeepsTable}
-use Rattle.fd_library.proofs.Holding.{as_many_listed, folder_cause, holds_as, looks_back, writers_listed}
+use Rattle.fd_library.specs.Answers.{HoldsAs, IsOpened, TableBroke, greatest_listed}
+use Rattle.fd_library.specs.Stores.{KeepsTable, ListsIn}
+use Rattle.fd_library.proofs.Holding.{as_many_listed, folder_cause, holds_as, listed_entries, looks_back, writers_listed}
+use Rattle.fd_library.proofs.Undamaged.{undamaged_in}
 use Rattle.fd_library.proofs.opening.opened.Goals as goal
 
 pub returns-in-Err-clause-cause : goal.returns-in-Err-clause-cause
@@ -48,6 +49,7 @@ returns-in-Ok-begun-clause-opened g c =
       opening = opening ∙ as_many_listed xs toc.entries entries;
       asked = (refl, refl);
       writers = writers_listed c.in-Ok-begun.start.last xs toc.entries entries c.in-Ok-begun.ensures.writers;
+      last = c.in-Ok-begun.ensures.last ∙ ap greatest_listed (sym (listed_entries xs ∙ entries));
     } in
     subst (λ (b : BoardId). IsOpened name b c.held.result.1) (sym board) (subst (IsOpened name c.in-Ok-begun.start.dataset) (sym is) begun)
 
@@ -66,11 +68,21 @@ returns-in-Ok-begun-clause-holds g c =
     let later : has c.taken_up.new.folder ≡ option_map without_table (has c.in-Ok.folder) = search rules in
     let files : IfSome (has c.in-Ok.folder) (λ v. batches_listed v.files (Ok toc.entries) ≡ held name v) = search rules in
     let told : IfSome (has c.in-Ok.folder) (λ v. all_of (map (λ s. batch_of s.files) (standings xs)) ≡ held name v) = search rules in
+    let lists : IfSome (has c.in-Ok.folder) (λ v. ListsIn name toc.entries v.table) = search rules in
     let kept : OpenDataset g.row.S-Folder.Denot = record { name = name; folder = c.taken_up.new.folder; pass = Some (seat_of c.in-Ok-begun.start.pass); opening = c.in-Ok-begun.start.opening; last = c.in-Ok-begun.start.last; given = 0; lent = 0 } in
     let is : c.held.result.1 ≡ kept = search rules in
     subst (λ (h : OpenDataset g.row.S-Folder.Denot). IfSome (g.S.Store.has c.args.store.now) (λ s. HoldsAs has s h)) (sym is)
     (holds_as has kept
-    (g.S.Store.has c.args.store.now) (has c.in-Ok.folder) name xs toc.entries c.in-Ok-begun.start.dataset tells refl (λ j. Some (record { board = c.in-Ok-begun.ensures.own j; view = known j })) first later entries files told)
+    (g.S.Store.has c.args.store.now) (has c.in-Ok.folder) name xs toc.entries c.in-Ok-begun.start.dataset tells refl (λ j. Some (record { board = c.in-Ok-begun.ensures.own j; view = known j })) first later entries files told lists)
+
+pub returns-in-Ok-begun-clause-undamaged : goal.returns-in-Ok-begun-clause-undamaged
+returns-in-Ok-begun-clause-undamaged g c =
+    let name = string_bytes c.args.name in
+    let has = g.S.Folder.Folder.has c.in-Ok.folder in
+    let text : c.as_str-2.result.now ≡ name = search rules in
+    let first : has ≡ option_map (λ s. folder_at s name) (g.S.Store.has c.args.store.now) = search rules in
+    let none : IfSome has (λ v. IsUndamaged c.as_str-2.result.now v) = search rules in
+    undamaged_in (g.S.Store.has c.args.store.now) has name first (subst (λ (n : List ℕ). IfSome has (λ v. IsUndamaged n v)) text none)
 
 pub returns-in-Err-begun-clause-store_err : goal.returns-in-Err-begun-clause-store_err
 returns-in-Err-begun-clause-store_err g c =

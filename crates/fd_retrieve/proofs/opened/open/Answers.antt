@@ -1,8 +1,11 @@
 use Rattle.std.proofs.Common.{rules, ◌≡◌, Some, IfSome}
 use Rattle.std.specs.Prelude.{option_map}
+use Rattle.std.proofs.lemmas.Result.{IfOk-weaker}
 use Rattle.fd_disk.specs.Folders.{SameBut, WhereTold, folder_at}
+use Rattle.fd_recovery.specs.Recovered.{IsUndamaged}
 use Rattle.fd_retrieve.proofs.Looking.{looked_given}
 use Rattle.fd_retrieve.proofs.Staying.{stays_given}
+use Rattle.fd_retrieve.proofs.Undamaged.{undamaged_in}
 use Rattle.fd_retrieve.proofs.opened.open.Goals as goal
 
 pub returns-clause-stays : goal.returns-clause-stays
@@ -32,3 +35,11 @@ returns-clause-looks g c =
     let home : WhereTold (g.S.Store.has c.folder.new.self) new (SameBut name) = search rules in
     let left : IfSome new (λ t. has e ≡ Some (folder_at t name)) = search rules in
     looked_given old (g.S.Store.has c.folder.new.self) new (has d) (has e) name away home first c.open_in-answer.ensures.looks left
+
+pub returns-clause-undamaged : goal.returns-clause-undamaged
+returns-clause-undamaged g c =
+    let name = c.args.name.now in
+    let old = g.S.Store.has c.args.store.now in
+    let d = g.S.Folder.Folder.has c.in-Ok.folder in
+    let first : d ≡ option_map (λ s. folder_at s name) old = search rules in
+    IfOk-weaker c.open_in-answer.result (λ o. IfSome d (λ v. IsUndamaged name v)) (λ o. IfSome old (λ h. IsUndamaged name (folder_at h name))) (λ o sound. undamaged_in old d name first sound) c.open_in-answer.ensures.undamaged

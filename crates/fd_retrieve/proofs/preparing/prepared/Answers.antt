@@ -6,8 +6,9 @@ use Rattle.fd_schema.specs.Seen.{texts}
 use Rattle.fd_outcome.specs.Asking.{count_distinct}
 use Rattle.fd_outcome.specs.Store.{Stays, has_table}
 use Rattle.fd_telling.specs.Stops.{OnTooMany}
-use Rattle.fd_retrieve.specs.Ready.{AreOpen, IsBrokenOf, asked_at, placed_of}
+use Rattle.fd_retrieve.specs.Ready.{AreOpen, IsBrokenOf, NoneIsDamaged, asked_at, placed_of}
 use Rattle.fd_retrieve.specs.Tables.{AreTables, datasets_in}
+use Rattle.fd_retrieve.proofs.Looking.{looked_both, looked_unmoved}
 use Rattle.fd_retrieve.proofs.PrepareLemmas.{broken_all, broken_told_says, many_of, many_told_says, ready_told}
 use Rattle.fd_retrieve.proofs.preparing.prepared.Goals as goal
 
@@ -35,7 +36,8 @@ returns-in-Ok-open_all-clause-prepared g c =
     let few : length names ≤ 2048 = omega (arith, length-map c.in-Ok-tables_of.names.items string_bytes, c.in-Ok-tables_of.ensures.few) in
     let stays : WhereTold has mid Stays = search rules in
     let opens : IfSome mid (λ h. AreOpen h names c.in-Ok-open_all.opened.items) = search rules in
-    ready_told has mid left request places names c.in-Ok-open_all.opened.items long is tables few stays opens
+    let sound : IfSome mid (λ h. NoneIsDamaged h names) = search rules in
+    ready_told has mid left request places names c.in-Ok-open_all.opened.items long is tables few stays opens sound
 
 pub returns-in-Err-open_all-clause-says : goal.returns-in-Err-open_all-clause-says
 returns-in-Err-open_all-clause-says g c =
@@ -52,3 +54,29 @@ returns-in-Err-open_all-clause-says g c =
     let stays : WhereTold has mid Stays = search rules in
     let broken : IfSome mid (λ h. IsBrokenOf c.in-Err-open_all.stop h names) = search rules in
     broken_told_says c.in-Err-open_all.stop has left request places names long is tables few (broken_all c.in-Err-open_all.stop has mid names stays broken)
+
+pub returns-in-Err-tables_of-clause-looks : goal.returns-in-Err-tables_of-clause-looks
+returns-in-Err-tables_of-clause-looks g c =
+    let old = g.S.Store.has c.args.store.now in
+    let mid = g.S.Store.has c.placed.new.store in
+    let same : mid ≡ old = search rules in
+    looked_both old mid (g.S.Store.has c.tables_of.new.store) (looked_unmoved old mid same) c.in-Err-tables_of.ensures.looks
+
+pub returns-in-Ok-open_all-clause-looks : goal.returns-in-Ok-open_all-clause-looks
+returns-in-Ok-open_all-clause-looks g c =
+    let old = g.S.Store.has c.args.store.now in
+    let mid = g.S.Store.has c.placed.new.store in
+    let same : mid ≡ old = search rules in
+    let tables = looked_both old mid (g.S.Store.has c.tables_of.new.store) (looked_unmoved old mid same) c.in-Ok-tables_of.ensures.looks in
+    looked_both old (g.S.Store.has c.tables_of.new.store) (g.S.Store.has c.open_all.new.store) tables c.in-Ok-open_all.ensures.looks
+
+pub returns-in-Err-open_all-clause-looks : goal.returns-in-Err-open_all-clause-looks
+returns-in-Err-open_all-clause-looks g c =
+    let old = g.S.Store.has c.args.store.now in
+    let mid = g.S.Store.has c.placed.new.store in
+    let same : mid ≡ old = search rules in
+    let tables = looked_both old mid (g.S.Store.has c.tables_of.new.store) (looked_unmoved old mid same) c.in-Ok-tables_of.ensures.looks in
+    looked_both old (g.S.Store.has c.tables_of.new.store) (g.S.Store.has c.open_all.new.store) tables c.in-Err-open_all.ensures.looks
+
+pub returns-in-Err-clause-looks : goal.returns-in-Err-clause-looks
+returns-in-Err-clause-looks g c = looked_unmoved (g.S.Store.has c.args.store.now) (g.S.Store.has c.placed.new.store) c.in-Err.ensures.has

@@ -1,13 +1,18 @@
-use Rattle.std.proofs.Common.{◌≡◌, ◌∙◌, List, Option, Some, IfOk, refl, sym, subst, arith}
+use Rattle.std.proofs.Common.{◌≡◌, List, Some, IfOk, refl, sym, ap, subst, arith}
+use Rattle.std.specs.Prelude.{is_ok}
 use Rattle.fd_request.specs.Expansion.{expand}
 use Rattle.fd_outcome.specs.Asking.{Answer}
+use Rattle.fd_outcome.specs.Ends.{Tells, disk_failed, no_memory, output_failed}
 use Rattle.fd_outcome.specs.Objects.{object}
+use Rattle.fd_outcome.specs.Outcome.{answered}
+use Rattle.fd_outcome.specs.declared.status.Status.TheVariants.{Damaged, DiskFault, NoMemory, OutputFault}
+use Rattle.fd_outcome.proofs.Exits.{never_whole}
 use Rattle.fd_telling.proofs.StopLemmas.{rose_later}
 use Rattle.fd_retrieve.specs.Located.{AreAt, OnLost}
 use Rattle.fd_retrieve.specs.Open.{IsDamagedAt}
 use Rattle.fd_retrieve.proofs.AnsweringLemmas.{took_nothing}
 use Rattle.fd_retrieve.proofs.DatasetLemmas.{at_get}
-use Rattle.fd_retrieve.proofs.RetrieveExits.{counted_ran, damaged_ran, disk_ran, part_none, starved_ran, untold_ran, unwritten_ran}
+use Rattle.fd_retrieve.proofs.RetrieveExits.{counted_ran, counted_tells, damaged_ran, disk_ran, either_not_whole, part_none, starved_ran, told_not_whole, untold_ran, unwritten_ran}
 use Rattle.fd_retrieve.proofs.retrieving.answer_located.Goals as goal
 
 pub returns-in-Err-Disk-clause-ran : goal.returns-in-Err-Disk-clause-ran
@@ -84,3 +89,65 @@ returns-clause-ran g c = λ root over before faults input o begins at.
     (object (g.E.Sink.taken c.args.report.now) (g.E.Sink.taken c.tell_no_memory-in-Err-NoMemory-answer_all.new.report) (g.E.Sink.faults c.args.report.now) (g.E.Sink.faults c.tell_no_memory-in-Err-NoMemory-answer_all.new.report))
     c.args.opened.now o begins refl (g.E.Sink.taken c.answer_all.new.report) (g.E.Sink.faults c.answer_all.new.report) c.tell_no_memory-in-Err-NoMemory-answer_all.result c.in-Err-NoMemory-answer_all.ensures.report
     c.tell_no_memory-in-Err-NoMemory-answer_all.ensures (λ xs e. c.in-Err-NoMemory-answer_all.ensures.halted xs (subst (AreAt c.args.opened.now (expand c.args.request.now) xs) (sym c.deref.ensures.value) (there xs e))) c.in-Err-NoMemory-answer_all.ensures.grew
+
+pub returns-in-Err-Disk-clause-located : goal.returns-in-Err-Disk-clause-located
+returns-in-Err-Disk-clause-located g c = λ whole. never_whole _ c.tell_disk_failed.result (told_not_whole DiskFault c.tell_disk_failed.result disk_failed _ _ _ _ refl c.tell_disk_failed.ensures) whole
+
+pub returns-in-Err-Disk-clause-told : goal.returns-in-Err-Disk-clause-told
+returns-in-Err-Disk-clause-told g c = λ whole. never_whole _ c.tell_disk_failed.result (told_not_whole DiskFault c.tell_disk_failed.result disk_failed _ _ _ _ refl c.tell_disk_failed.ensures) whole
+
+pub returns-in-Err-Damaged-clause-located : goal.returns-in-Err-Damaged-clause-located
+returns-in-Err-Damaged-clause-located g c = λ whole. never_whole _ c.tell_damaged.result (either_not_whole Damaged c.tell_damaged.result _ _ _ _ _ refl c.tell_damaged.ensures.told) whole
+
+pub returns-in-Err-Damaged-clause-told : goal.returns-in-Err-Damaged-clause-told
+returns-in-Err-Damaged-clause-told g c = λ whole. never_whole _ c.tell_damaged.result (either_not_whole Damaged c.tell_damaged.result _ _ _ _ _ refl c.tell_damaged.ensures.told) whole
+
+pub returns-in-Err-NoMemory-clause-located : goal.returns-in-Err-NoMemory-clause-located
+returns-in-Err-NoMemory-clause-located g c = λ whole. never_whole _ c.tell_no_memory.result (told_not_whole NoMemory c.tell_no_memory.result no_memory _ _ _ _ refl c.tell_no_memory.ensures) whole
+
+pub returns-in-Err-NoMemory-clause-told : goal.returns-in-Err-NoMemory-clause-told
+returns-in-Err-NoMemory-clause-told g c = λ whole. never_whole _ c.tell_no_memory.result (told_not_whole NoMemory c.tell_no_memory.result no_memory _ _ _ _ refl c.tell_no_memory.ensures) whole
+
+pub returns-in-Err-Disk-answer_all-clause-located : goal.returns-in-Err-Disk-answer_all-clause-located
+returns-in-Err-Disk-answer_all-clause-located g c = λ whole. never_whole _ c.tell_disk_failed-in-Err-Disk-answer_all.result (told_not_whole DiskFault c.tell_disk_failed-in-Err-Disk-answer_all.result disk_failed _ _ _ _ refl c.tell_disk_failed-in-Err-Disk-answer_all.ensures) whole
+
+pub returns-in-Err-Disk-answer_all-clause-told : goal.returns-in-Err-Disk-answer_all-clause-told
+returns-in-Err-Disk-answer_all-clause-told g c = λ whole. never_whole _ c.tell_disk_failed-in-Err-Disk-answer_all.result (told_not_whole DiskFault c.tell_disk_failed-in-Err-Disk-answer_all.result disk_failed _ _ _ _ refl c.tell_disk_failed-in-Err-Disk-answer_all.ensures) whole
+
+pub returns-in-Err-Unwritten-clause-located : goal.returns-in-Err-Unwritten-clause-located
+returns-in-Err-Unwritten-clause-located g c = λ whole. never_whole _ c.tell_output_failed.result (told_not_whole OutputFault c.tell_output_failed.result output_failed _ _ _ _ refl c.tell_output_failed.ensures) whole
+
+pub returns-in-Err-Unwritten-clause-told : goal.returns-in-Err-Unwritten-clause-told
+returns-in-Err-Unwritten-clause-told g c = λ whole. never_whole _ c.tell_output_failed.result (told_not_whole OutputFault c.tell_output_failed.result output_failed _ _ _ _ refl c.tell_output_failed.ensures) whole
+
+pub returns-in-Err-Untold-clause-located : goal.returns-in-Err-Untold-clause-located
+returns-in-Err-Untold-clause-located g c = λ whole. never_whole _ OutputFault (refl) whole
+
+pub returns-in-Err-Untold-clause-told : goal.returns-in-Err-Untold-clause-told
+returns-in-Err-Untold-clause-told g c = λ whole. never_whole _ OutputFault (refl) whole
+
+pub returns-in-Err-Damaged-answer_all-clause-located : goal.returns-in-Err-Damaged-answer_all-clause-located
+returns-in-Err-Damaged-answer_all-clause-located g c = λ whole. never_whole _ c.tell_damaged-in-Err-Damaged-answer_all.result (either_not_whole Damaged c.tell_damaged-in-Err-Damaged-answer_all.result _ _ _ _ _ refl c.tell_damaged-in-Err-Damaged-answer_all.ensures.told) whole
+
+pub returns-in-Err-Damaged-answer_all-clause-told : goal.returns-in-Err-Damaged-answer_all-clause-told
+returns-in-Err-Damaged-answer_all-clause-told g c = λ whole. never_whole _ c.tell_damaged-in-Err-Damaged-answer_all.result (either_not_whole Damaged c.tell_damaged-in-Err-Damaged-answer_all.result _ _ _ _ _ refl c.tell_damaged-in-Err-Damaged-answer_all.ensures.told) whole
+
+pub returns-clause-located : goal.returns-clause-located
+returns-clause-located g c = λ whole. never_whole _ c.tell_no_memory-in-Err-NoMemory-answer_all.result (told_not_whole NoMemory c.tell_no_memory-in-Err-NoMemory-answer_all.result no_memory _ _ _ _ refl c.tell_no_memory-in-Err-NoMemory-answer_all.ensures) whole
+
+pub returns-clause-told : goal.returns-clause-told
+returns-clause-told g c = λ whole. never_whole _ c.tell_no_memory-in-Err-NoMemory-answer_all.result (told_not_whole NoMemory c.tell_no_memory-in-Err-NoMemory-answer_all.result no_memory _ _ _ _ refl c.tell_no_memory-in-Err-NoMemory-answer_all.ensures) whole
+
+pub returns-in-Ok-answer_all-clause-located : goal.returns-in-Ok-answer_all-clause-located
+returns-in-Ok-answer_all-clause-located g c = λ whole. ap is_ok c.in-Ok.is
+
+pub returns-in-Ok-answer_all-clause-told : goal.returns-in-Ok-answer_all-clause-told
+returns-in-Ok-answer_all-clause-told g c = λ whole.
+    let a = g.K.Sink.taken c.args.output.now in
+    let b = g.K.Sink.taken c.answer_all.new.output in
+    let first = g.E.Sink.taken c.args.report.now in
+    let mid = g.E.Sink.taken c.answer_all.new.report in
+    let last = g.E.Sink.taken c.tell_counts.new.report in
+    subst (λ r. IfOk r (λ v. (xs : List Answer) → AreAt c.args.opened.now (expand c.args.request.now) xs v.items → Tells c.tell_counts.result (answered xs) a b first last)) (sym c.in-Ok.is)
+    (λ xs at. counted_tells xs a b first mid last c.tell_counts.result c.in-Ok-answer_all.found c.in-Ok-answer_all.missed _ _
+    (c.in-Ok-answer_all.ensures.answered xs (subst (AreAt c.args.opened.now (expand c.args.request.now) xs) (sym c.deref.ensures.value) at)) c.tell_counts.ensures whole)

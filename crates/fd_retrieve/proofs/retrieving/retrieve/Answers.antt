@@ -3,11 +3,12 @@ use Rattle.fd_disk.specs.Folders.{WhereTold}
 use Rattle.fd_outcome.specs.Asking.{asked_of}
 use Rattle.fd_outcome.specs.Ends.{AmongAsked}
 use Rattle.fd_outcome.specs.Objects.{object}
-use Rattle.fd_outcome.specs.Store.{Stays}
+use Rattle.fd_outcome.specs.Store.{IsLookedThrough}
+use Rattle.fd_outcome.proofs.Exits.{never_whole}
 use Rattle.fd_telling.proofs.StopLemmas.{later_disk}
 use Rattle.fd_telling.specs.Stops.{IsRefused}
-use Rattle.fd_retrieve.proofs.Plain.{plain_refuses, plain_told}
-use Rattle.fd_retrieve.proofs.StopExits.{stopped}
+use Rattle.fd_retrieve.proofs.Plain.{plain_notices, plain_refuses, plain_told}
+use Rattle.fd_retrieve.proofs.StopExits.{stop_not_whole, stopped}
 use Rattle.fd_retrieve.proofs.retrieving.retrieve.Goals as goal
 
 pub returns-in-Ok-clause-ran : goal.returns-in-Ok-clause-ran
@@ -15,7 +16,7 @@ returns-in-Ok-clause-ran g c =
     c.answered.ensures.ran c.args.root.now (g.S.Store.has c.args.store.now) (g.S.Store.faults c.args.store.now) (object (g.I.Source.left c.args.input.now) (g.I.Source.left c.prepared.new.input) (g.I.Source.faults c.args.input.now) (g.I.Source.faults c.prepared.new.input))
     (record {
       ready = plain_told c.args.root.now c.args.workers (g.S.Store.has c.args.store.now) (g.I.Source.left c.args.input.now) c.in-Ok.ready.request c.in-Ok.ready.places.items c.in-Ok.ready.opened.items c.in-Ok.ensures.count c.in-Ok.ensures.prepared;
-      stays = c.in-Ok.ensures.stays;
+      looks = c.in-Ok.ensures.looks;
       later = c.in-Ok.ensures.later;
       calm = c.in-Ok.ensures.calm;
       read = c.in-Ok.ensures.read;
@@ -26,5 +27,16 @@ returns-in-Err-clause-ran g c =
     stopped c.args.root.now None c.args.workers (λ h octets. IsRefused (asked_of h octets)) (λ h octets. AmongAsked (asked_of h octets)) (plain_refuses c.args.root.now c.args.workers) (λ h names octets name among. among) (g.S.Store.has c.args.store.now) (g.S.Store.has c.tell_stop.new.store) (g.S.Store.faults c.args.store.now) (g.S.Store.faults c.tell_stop.new.store)
     (object (g.I.Source.left c.args.input.now) (g.I.Source.left c.prepared.new.input) (g.I.Source.faults c.args.input.now) (g.I.Source.faults c.prepared.new.input)) (g.K.Sink.taken c.args.output.now) (g.K.Sink.faults c.args.output.now)
     (object (g.E.Sink.taken c.args.report.now) (g.E.Sink.taken c.tell_stop.new.report) (g.E.Sink.faults c.args.report.now) (g.E.Sink.faults c.tell_stop.new.report)) c.tell_stop.result
-    (subst (λ o. WhereTold (g.S.Store.has c.args.store.now) o Stays) (sym c.tell_stop.ensures.has) c.in-Err.ensures.stays) c.in-Err.stop c.tell_stop.ensures.told c.in-Err.ensures.says c.in-Err.ensures.input
+    (subst (λ o. WhereTold (g.S.Store.has c.args.store.now) o IsLookedThrough) (sym c.tell_stop.ensures.has) c.in-Err.ensures.looks) c.in-Err.stop c.tell_stop.ensures.told c.in-Err.ensures.says c.in-Err.ensures.input
     (later_disk c.in-Err.stop (g.S.Store.faults c.args.store.now) (g.S.Store.faults c.prepared.new.store) (g.S.Store.faults c.tell_stop.new.store) c.in-Err.ensures.later c.tell_stop.ensures.noted) c.in-Err.ensures.calm_err
+
+pub returns-in-Ok-clause-notices : goal.returns-in-Ok-clause-notices
+returns-in-Ok-clause-notices g c =
+    plain_notices c.args.root.now c.args.workers c.answered.result (object (g.S.Store.has c.args.store.now) (g.S.Store.has c.answered.new.store) (g.S.Store.faults c.args.store.now) (g.S.Store.faults c.answered.new.store))
+    (object (g.I.Source.left c.args.input.now) (g.I.Source.left c.prepared.new.input) (g.I.Source.faults c.args.input.now) (g.I.Source.faults c.prepared.new.input))
+    (object (g.K.Sink.taken c.args.output.now) (g.K.Sink.taken c.answered.new.output) (g.K.Sink.faults c.args.output.now) (g.K.Sink.faults c.answered.new.output))
+    (object (g.E.Sink.taken c.args.report.now) (g.E.Sink.taken c.answered.new.report) (g.E.Sink.faults c.args.report.now) (g.E.Sink.faults c.answered.new.report))
+    c.in-Ok.ready.request c.in-Ok.ready.places.items c.in-Ok.ready.opened.items c.in-Ok.ensures.count c.in-Ok.ensures.prepared c.answered.ensures.each
+
+pub returns-in-Err-clause-notices : goal.returns-in-Err-clause-notices
+returns-in-Err-clause-notices g c = λ whole. never_whole _ c.tell_stop.result (stop_not_whole c.in-Err.stop c.tell_stop.result _ _ _ _ c.tell_stop.ensures.told) whole

@@ -1,8 +1,8 @@
 use Rattle.std.proofs.Common.{refl, subst}
-use Rattle.fd_play.specs.Plays.{IsUnopened}
+use Rattle.fd_play.specs.Plays.{HoldsSame, IsUnopened, LeavesUnplayed}
 use Rattle.std.specs.Prelude.{IfSome}
 use Rattle.fd_session.proofs.Ending.{idle_ran, run_ran}
-use Rattle.fd_session.proofs.Halting.{accepted, counted_since, holds_since, kept_held, later_disk, played_since, unopened_halts}
+use Rattle.fd_session.proofs.Halting.{accepted, counted_since, kept_held, later_disk, played_since, told_since, unopened_halts}
 use Rattle.fd_session.proofs.running.run_script.Goals as goal
 
 pub returns-in-Ok-clause-ran : goal.returns-in-Ok-clause-ran
@@ -17,7 +17,8 @@ returns-in-Ok-clause-ran g c = λ before faults input begun.
 pub returns-in-Err-clause-ran : goal.returns-in-Err-clause-ran
 returns-in-Err-clause-ran g c = λ before faults input begun.
     let script = c.args.read.now.script in
-    idle_ran _ _ _ _ _ _ refl refl (kept_held _ input c.args.schema.now script c.args.read.now.messages (holds_since _ _ _ _ begun.same c.tell_unopened.ensures.has c.in-Err.ensures.idle) begun.rules_are
+    idle_ran _ _ _ _ _ _ refl refl (kept_held _ input c.args.schema.now script c.args.read.now.messages (told_since HoldsSame _ _ _ _ begun.same c.tell_unopened.ensures.has c.in-Err.ensures.idle)
+    (told_since (LeavesUnplayed script.dataset) _ _ _ _ begun.same c.tell_unopened.ensures.has c.in-Err.ensures.left) begun.rules_are
     (accepted c.args.schema.now script c.args.read.now.messages input.before begun.read c.requires.done))
     (unopened_halts _ _ input _ c.args.schema.now begun.rules_are begun.calm script c.args.read.now.messages begun.read c.requires.done c.in-Err.fault
     (subst (λ o. IfSome o (IsUnopened script.dataset c.in-Err.fault)) begun.same c.in-Err.ensures.refused) (rw c.dataset.ensures at c.tell_unopened.ensures.told)

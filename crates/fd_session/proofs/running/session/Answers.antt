@@ -3,6 +3,7 @@ use Rattle.std.specs.Prelude.{IfSome}
 use Rattle.fd_outcome.specs.Asking.{rules_of}
 use Rattle.fd_session.proofs.Ending.{Starves, Unheld, Refuses, idle_ran}
 use Rattle.fd_session.proofs.Halting.{kept, missing_is, rose_behind, schema_halts}
+use Rattle.fd_session.proofs.Unread.{reads_none, reads_ruled}
 use Rattle.fd_session.proofs.running.session.Goals as goal
 
 pub session_by-requires-clause-rules : goal.session_by-requires-clause-rules
@@ -26,3 +27,18 @@ returns-in-Err-At-clause-ran g c =
 
 pub returns-in-Err-NoMemory-clause-ran : goal.returns-in-Err-NoMemory-clause-ran
 returns-in-Err-NoMemory-clause-ran g c = idle_ran _ _ _ _ _ _ refl refl (kept _ _ c.stored_schema.ensures.has) (Starves c.tell_no_memory.ensures)
+
+pub returns-in-Ok-clause-unread : goal.returns-in-Ok-clause-unread
+returns-in-Ok-clause-unread g c = reads_ruled _ c.in-Ok.schema (g.S.Store.has c.args.store.now) c.in-Ok.ensures.ok
+
+pub returns-in-Err-Disk-clause-unread : goal.returns-in-Err-Disk-clause-unread
+returns-in-Err-Disk-clause-unread g c = reads_none _ (g.S.Store.has c.args.store.now) (record { same = refl; calm = refl })
+
+pub returns-in-Err-Missing-clause-unread : goal.returns-in-Err-Missing-clause-unread
+returns-in-Err-Missing-clause-unread g c = reads_none _ (g.S.Store.has c.args.store.now) (record { same = refl; calm = refl })
+
+pub returns-in-Err-At-clause-unread : goal.returns-in-Err-At-clause-unread
+returns-in-Err-At-clause-unread g c = reads_none _ (g.S.Store.has c.args.store.now) (record { same = refl; calm = refl })
+
+pub returns-in-Err-NoMemory-clause-unread : goal.returns-in-Err-NoMemory-clause-unread
+returns-in-Err-NoMemory-clause-unread g c = reads_none _ (g.S.Store.has c.args.store.now) (record { same = refl; calm = refl })

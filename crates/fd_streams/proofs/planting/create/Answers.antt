@@ -1,8 +1,10 @@
-use Rattle.std.proofs.Common.{◌≡◌, ◌∙◌, refl, subst, Some, ◌≤◌, arith}
+use Rattle.std.proofs.Common.{◌≡◌, ◌∙◌, refl, subst, Some, None, ◌≤◌, arith}
 use Rattle.std.specs.Prelude.{IfSome, option_map}
 use Rattle.fd_bytes.specs.Causes.{Rose}
 use Rattle.fd_disk.specs.Causes.{OnFault}
+use Rattle.fd_outcome.specs.Objects.{object}
 use Rattle.fd_streams.proofs.CreateExits.{disk_stop_at, earlier, memory_stop_at, present_at, rose_later}
+use Rattle.fd_streams.proofs.Created.{fit, none_there, nothing_read, only_from, same_only}
 use Rattle.fd_streams.proofs.planting.create.Goals as goal
 
 pub returns-in-Err-Fault-clause-ran : goal.returns-in-Err-Fault-clause-ran
@@ -29,3 +31,42 @@ returns-in-Err-Fault-schema-clause-ran g c = λ a k.
 
 pub returns-clause-ran : goal.returns-clause-ran
 returns-clause-ran g c = λ a k. memory_stop_at _ _ _ _ _ _ _ _ a k _ _ _ _ _ _ (c.in-Err-NoMemory-schema.ensures.has ∙ c.in-Ok.ensures.has) c.tell_no_memory-in-Err-NoMemory-schema.ensures
+
+pub returns-in-Err-Fault-clause-kept : goal.returns-in-Err-Fault-clause-kept
+returns-in-Err-Fault-clause-kept g c = same_only (g.I.Source.left c.args.input.now) (g.S.Store.has c.args.store.now) (g.S.Store.has c.enter.new.self) c.in-Err-Fault.ensures.has
+
+pub returns-in-Err-NoMemory-clause-kept : goal.returns-in-Err-NoMemory-clause-kept
+returns-in-Err-NoMemory-clause-kept g c = same_only (g.I.Source.left c.args.input.now) (g.S.Store.has c.args.store.now) (g.S.Store.has c.enter.new.self) c.in-Err-NoMemory.ensures.has
+
+pub returns-in-Ok-Some-clause-kept : goal.returns-in-Ok-Some-clause-kept
+returns-in-Ok-Some-clause-kept g c = same_only (g.I.Source.left c.args.input.now) (g.S.Store.has c.args.store.now) (g.S.Store.has c.schema.new.self) (c.in-Ok-Some.ensures.has ∙ c.in-Ok.ensures.has)
+
+pub returns-in-Err-Fault-schema-clause-kept : goal.returns-in-Err-Fault-schema-clause-kept
+returns-in-Err-Fault-schema-clause-kept g c = same_only (g.I.Source.left c.args.input.now) (g.S.Store.has c.args.store.now) (g.S.Store.has c.schema.new.self) (c.in-Err-Fault-schema.ensures.has ∙ c.in-Ok.ensures.has)
+
+pub returns-clause-kept : goal.returns-clause-kept
+returns-clause-kept g c = same_only (g.I.Source.left c.args.input.now) (g.S.Store.has c.args.store.now) (g.S.Store.has c.schema.new.self) (c.in-Err-NoMemory-schema.ensures.has ∙ c.in-Ok.ensures.has)
+
+pub returns-in-Ok-None-clause-kept : goal.returns-in-Ok-None-clause-kept
+returns-in-Ok-None-clause-kept g c = only_from (g.I.Source.left c.args.input.now) (g.S.Store.has c.args.store.now) (g.S.Store.has c.schema.new.self) (g.S.Store.has c.plant.new.store) (c.in-Ok-None.ensures.has ∙ c.in-Ok.ensures.has) c.plant.ensures.kept
+
+pub returns-in-Err-Fault-clause-unread : goal.returns-in-Err-Fault-clause-unread
+returns-in-Err-Fault-clause-unread g c = nothing_read c.args.root.now (g.S.Store.has c.args.store.now) (g.S.Store.has c.enter.new.self) (g.S.Store.faults c.args.store.now) (g.S.Store.faults c.enter.new.self) (g.I.Source.left c.args.input.now) (g.I.Source.faults c.args.input.now)
+
+pub returns-in-Err-NoMemory-clause-unread : goal.returns-in-Err-NoMemory-clause-unread
+returns-in-Err-NoMemory-clause-unread g c = nothing_read c.args.root.now (g.S.Store.has c.args.store.now) (g.S.Store.has c.enter.new.self) (g.S.Store.faults c.args.store.now) (g.S.Store.faults c.enter.new.self) (g.I.Source.left c.args.input.now) (g.I.Source.faults c.args.input.now)
+
+pub returns-in-Ok-Some-clause-unread : goal.returns-in-Ok-Some-clause-unread
+returns-in-Ok-Some-clause-unread g c = nothing_read c.args.root.now (g.S.Store.has c.args.store.now) (g.S.Store.has c.schema.new.self) (g.S.Store.faults c.args.store.now) (g.S.Store.faults c.schema.new.self) (g.I.Source.left c.args.input.now) (g.I.Source.faults c.args.input.now)
+
+pub returns-in-Err-Fault-schema-clause-unread : goal.returns-in-Err-Fault-schema-clause-unread
+returns-in-Err-Fault-schema-clause-unread g c = nothing_read c.args.root.now (g.S.Store.has c.args.store.now) (g.S.Store.has c.schema.new.self) (g.S.Store.faults c.args.store.now) (g.S.Store.faults c.schema.new.self) (g.I.Source.left c.args.input.now) (g.I.Source.faults c.args.input.now)
+
+pub returns-clause-unread : goal.returns-clause-unread
+returns-clause-unread g c = nothing_read c.args.root.now (g.S.Store.has c.args.store.now) (g.S.Store.has c.schema.new.self) (g.S.Store.faults c.args.store.now) (g.S.Store.faults c.schema.new.self) (g.I.Source.left c.args.input.now) (g.I.Source.faults c.args.input.now)
+
+pub returns-in-Ok-None-clause-unread : goal.returns-in-Ok-None-clause-unread
+returns-in-Ok-None-clause-unread g c =
+    fit c.args.root.now (g.S.Store.has c.args.store.now) (g.S.Store.has c.plant.new.store) (g.S.Store.faults c.args.store.now) (g.S.Store.faults c.plant.new.store)
+    (object (g.I.Source.left c.args.input.now) (g.I.Source.left c.plant.new.input) (g.I.Source.faults c.args.input.now) (g.I.Source.faults c.plant.new.input))
+    (subst (λ k. IfSome k (λ h. h.schema ≡ None)) c.in-Ok.ensures.has (none_there (g.S.Store.has c.enter.new.self) c.in-Ok-None.field-0 c.in-Ok-None.field-0-is c.in-Ok-None.ensures.given))

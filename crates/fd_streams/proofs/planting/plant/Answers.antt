@@ -1,4 +1,4 @@
-use Rattle.std.proofs.Common.{◌≡◌, ◌∙◌, sym, ap, subst, Err, Ok}
+use Rattle.std.proofs.Common.{◌≡◌, ◌∙◌, refl, sym, ap, subst, Err, Ok}
 use Rattle.std.specs.Prelude.{◌⊎◌, option_map}
 use Rattle.fd_bytes.specs.Causes.{Rose}
 use Rattle.fd_disk.specs.Folders.{planted as stores}
@@ -7,6 +7,7 @@ use Rattle.fd_disk.specs.Causes.{OnFault, OnNoMemory}
 use Rattle.fd_schema.specs.Reading.{GivesSchema}
 use Rattle.fd_outcome.specs.Reading.{OnUnread}
 use Rattle.fd_streams.proofs.CreateExits.{RanTo, input_stop, memory_stop, bad, done, failed}
+use Rattle.fd_streams.proofs.Created.{maybe_only, planted_only, same_only, Only}
 use Rattle.fd_streams.proofs.planting.plant.Goals as goal
 
 pub returns-in-Err-Fault-clause-ran : goal.returns-in-Err-Fault-clause-ran
@@ -43,3 +44,32 @@ returns-clause-ran g c = λ a k.
     let same = subst (λ e. OnNoMemory e (g.S.Store.has c.plant.new.self ≡ g.S.Store.has c.args.store.now)) c.in-Err-NoMemory-plant.field-0-is c.in-Err-NoMemory-plant.ensures.refused in
     subst (RanTo c.args.root.now (g.S.Store.has c.args.store.now) (g.S.Store.faults c.args.store.now) (g.S.Store.faults c.plant.new.self) (g.I.Source.left c.args.input.now) (g.I.Source.left c.read_front.new.input) (g.I.Source.faults c.args.input.now) (g.I.Source.faults c.read_front.new.input) a k (g.E.Sink.taken c.args.report.now) (g.E.Sink.taken c.tell_no_memory-in-Err-NoMemory-plant.new.report) (g.E.Sink.faults c.args.report.now) (g.E.Sink.faults c.tell_no_memory-in-Err-NoMemory-plant.new.report) c.tell_no_memory-in-Err-NoMemory-plant.result) (sym same)
     (memory_stop _ _ _ _ _ _ _ _ a k _ _ _ _ _ c.tell_no_memory-in-Err-NoMemory-plant.ensures)
+
+pub returns-in-Err-Fault-clause-kept : goal.returns-in-Err-Fault-clause-kept
+returns-in-Err-Fault-clause-kept g c = same_only (g.I.Source.left c.args.input.now) (g.S.Store.has c.args.store.now) (g.S.Store.has c.args.store.now) refl
+
+pub returns-in-Err-NoMemory-clause-kept : goal.returns-in-Err-NoMemory-clause-kept
+returns-in-Err-NoMemory-clause-kept g c = same_only (g.I.Source.left c.args.input.now) (g.S.Store.has c.args.store.now) (g.S.Store.has c.args.store.now) refl
+
+pub returns-in-Err-At-clause-kept : goal.returns-in-Err-At-clause-kept
+returns-in-Err-At-clause-kept g c = same_only (g.I.Source.left c.args.input.now) (g.S.Store.has c.args.store.now) (g.S.Store.has c.args.store.now) refl
+
+pub returns-in-Err-NoMemory-read-clause-kept : goal.returns-in-Err-NoMemory-read-clause-kept
+returns-in-Err-NoMemory-read-clause-kept g c = same_only (g.I.Source.left c.args.input.now) (g.S.Store.has c.args.store.now) (g.S.Store.has c.args.store.now) refl
+
+pub returns-in-Ok-plant-clause-kept : goal.returns-in-Ok-plant-clause-kept
+returns-in-Ok-plant-clause-kept g c =
+    let rules = subst (λ t. schema_of t ≡ Ok c.in-Ok-read.field-0) c.deref.ensures.value c.in-Ok-read.ensures in
+    let now = c.in-Ok-plant.ensures.ok ∙ ap (λ t. option_map (stores t) (g.S.Store.has c.args.store.now)) c.deref-2.ensures.value in
+    subst (Only (g.I.Source.left c.args.input.now) (g.S.Store.has c.args.store.now)) (sym now) (planted_only (g.I.Source.left c.args.input.now) (g.I.Source.left c.read_front.new.input) c.in-Ok.text.items c.in-Ok.ensures.given c.in-Ok.ensures.whole c.in-Ok-read.field-0 rules (g.S.Store.has c.args.store.now) c.requires.none)
+
+pub returns-in-Err-Fault-plant-clause-kept : goal.returns-in-Err-Fault-plant-clause-kept
+returns-in-Err-Fault-plant-clause-kept g c =
+    let rules = subst (λ t. schema_of t ≡ Ok c.in-Ok-read.field-0) c.deref.ensures.value c.in-Ok-read.ensures in
+    let now = subst (λ t. (g.S.Store.has c.plant.new.self ≡ g.S.Store.has c.args.store.now) ⊎ (g.S.Store.has c.plant.new.self ≡ option_map (stores t) (g.S.Store.has c.args.store.now))) c.deref-2.ensures.value c.in-Err-Fault-plant.ensures.err in
+    maybe_only (g.I.Source.left c.args.input.now) (g.I.Source.left c.read_front.new.input) c.in-Ok.text.items c.in-Ok.ensures.given c.in-Ok.ensures.whole c.in-Ok-read.field-0 rules (g.S.Store.has c.args.store.now) (g.S.Store.has c.plant.new.self) c.requires.none now
+
+pub returns-clause-kept : goal.returns-clause-kept
+returns-clause-kept g c =
+    let same = subst (λ e. OnNoMemory e (g.S.Store.has c.plant.new.self ≡ g.S.Store.has c.args.store.now)) c.in-Err-NoMemory-plant.field-0-is c.in-Err-NoMemory-plant.ensures.refused in
+    same_only (g.I.Source.left c.args.input.now) (g.S.Store.has c.args.store.now) (g.S.Store.has c.plant.new.self) same

@@ -6,6 +6,9 @@ use Rattle.fd_outcome.proofs.Starved.{starved}
 use Rattle.fd_trial.specs.Ruling.{IsLeft, IsUnruledIn, OnDisk}
 use Rattle.fd_outcome.specs.declared.status.Status.TheVariants.{DiskFault, NoMemory, Refused}
 use Rattle.fd_archive.proofs.Outlasting.{idle_trial, told_undone}
+use Rattle.fd_outcome.specs.Objects.{object}
+use Rattle.fd_archive.proofs.Noticing.{some_part, told_part}
+use Rattle.fd_trial.proofs.Noticing.{early_spares, part_notices, planted_spares, same_spares, whole_notices}
 use Rattle.fd_trial.proofs.Outlasting.{early, since_planted, some_undone}
 use Rattle.fd_trial.proofs.Stepping.{where_told}
 use Rattle.fd_trial.proofs.TrialExits.{different_ran, disk_early, schema_ran, starved_early}
@@ -66,3 +69,46 @@ returns-in-Err-At-clause-outlasts g c = λ left l.
 pub returns-clause-outlasts : goal.returns-clause-outlasts
 returns-clause-outlasts g c = λ left l.
     early c.tell_no_memory-in-Err-NoMemory.result c.args.workers c.args.count (g.S.Store.has c.args.store.now) (g.S.Store.has c.ruled.new.store) c.ruled.ensures.kept (told_undone NoMemory _ c.tell_no_memory-in-Err-NoMemory.result _ _ _ _ refl c.tell_no_memory-in-Err-NoMemory.ensures)
+
+pub returns-in_default-clause-notices : goal.returns-in_default-clause-notices
+returns-in_default-clause-notices g c = λ left l a k.
+    part_notices c.args.count c.args.workers c.args.root.now (g.S.Store.has c.args.store.now) (g.S.Store.has c.args.store.now) (g.S.Store.faults c.args.store.now) (g.S.Store.faults c.args.store.now) left l a k (object (g.E.Sink.taken c.args.report.now) (g.E.Sink.taken c.tell_no_memory.new.report) (g.E.Sink.faults c.args.report.now) (g.E.Sink.faults c.tell_no_memory.new.report)) c.tell_no_memory.result (told_part _ _ c.tell_no_memory.result _ _ _ _ c.tell_no_memory.ensures refl)
+
+pub returns-in_default-clause-spares : goal.returns-in_default-clause-spares
+returns-in_default-clause-spares g c = same_spares (g.S.Store.has c.args.store.now)
+
+pub returns-in-Err-Disk-clause-notices : goal.returns-in-Err-Disk-clause-notices
+returns-in-Err-Disk-clause-notices g c = λ left l a k.
+    part_notices c.args.count c.args.workers c.args.root.now (g.S.Store.has c.args.store.now) (g.S.Store.has c.ruled.new.store) (g.S.Store.faults c.args.store.now) (g.S.Store.faults c.ruled.new.store) left l a k (object (g.E.Sink.taken c.args.report.now) (g.E.Sink.taken c.tell_disk_failed.new.report) (g.E.Sink.faults c.args.report.now) (g.E.Sink.faults c.tell_disk_failed.new.report)) c.tell_disk_failed.result (told_part _ _ c.tell_disk_failed.result _ _ _ _ c.tell_disk_failed.ensures refl)
+
+pub returns-in-Err-Disk-clause-spares : goal.returns-in-Err-Disk-clause-spares
+returns-in-Err-Disk-clause-spares g c = early_spares (g.S.Store.has c.args.store.now) (g.S.Store.has c.ruled.new.store) c.ruled.ensures.kept
+
+pub returns-in-Err-Different-clause-notices : goal.returns-in-Err-Different-clause-notices
+returns-in-Err-Different-clause-notices g c = λ left l a k.
+    part_notices c.args.count c.args.workers c.args.root.now (g.S.Store.has c.args.store.now) (g.S.Store.has c.ruled.new.store) (g.S.Store.faults c.args.store.now) (g.S.Store.faults c.ruled.new.store) left l a k (object (g.E.Sink.taken c.args.report.now) (g.E.Sink.taken c.tell.new.report) (g.E.Sink.faults c.args.report.now) (g.E.Sink.faults c.tell.new.report)) c.tell.result (told_part _ _ c.tell.result _ _ _ _ c.tell.ensures refl)
+
+pub returns-in-Err-Different-clause-spares : goal.returns-in-Err-Different-clause-spares
+returns-in-Err-Different-clause-spares g c = early_spares (g.S.Store.has c.args.store.now) (g.S.Store.has c.ruled.new.store) c.ruled.ensures.kept
+
+pub returns-in-Err-At-clause-notices : goal.returns-in-Err-At-clause-notices
+returns-in-Err-At-clause-notices g c = λ left l a k.
+    part_notices c.args.count c.args.workers c.args.root.now (g.S.Store.has c.args.store.now) (g.S.Store.has c.ruled.new.store) (g.S.Store.faults c.args.store.now) (g.S.Store.faults c.ruled.new.store) left l a k (object (g.E.Sink.taken c.args.report.now) (g.E.Sink.taken c.tell_schema.new.report) (g.E.Sink.faults c.args.report.now) (g.E.Sink.faults c.tell_schema.new.report)) c.tell_schema.result (some_part c.tell_schema.result _ _ _ _ c.tell_schema.ensures.some)
+
+pub returns-in-Err-At-clause-spares : goal.returns-in-Err-At-clause-spares
+returns-in-Err-At-clause-spares g c = early_spares (g.S.Store.has c.args.store.now) (g.S.Store.has c.ruled.new.store) c.ruled.ensures.kept
+
+pub returns-clause-notices : goal.returns-clause-notices
+returns-clause-notices g c = λ left l a k.
+    part_notices c.args.count c.args.workers c.args.root.now (g.S.Store.has c.args.store.now) (g.S.Store.has c.ruled.new.store) (g.S.Store.faults c.args.store.now) (g.S.Store.faults c.ruled.new.store) left l a k (object (g.E.Sink.taken c.args.report.now) (g.E.Sink.taken c.tell_no_memory-in-Err-NoMemory.new.report) (g.E.Sink.faults c.args.report.now) (g.E.Sink.faults c.tell_no_memory-in-Err-NoMemory.new.report)) c.tell_no_memory-in-Err-NoMemory.result (told_part _ _ c.tell_no_memory-in-Err-NoMemory.result _ _ _ _ c.tell_no_memory-in-Err-NoMemory.ensures refl)
+
+pub returns-clause-spares : goal.returns-clause-spares
+returns-clause-spares g c = early_spares (g.S.Store.has c.args.store.now) (g.S.Store.has c.ruled.new.store) c.ruled.ensures.kept
+
+pub returns-in-Ok-ruled-clause-notices : goal.returns-in-Ok-ruled-clause-notices
+returns-in-Ok-ruled-clause-notices g c = λ left l a k.
+    whole_notices c.args.count c.args.workers c.args.root.now (g.S.Store.has c.args.store.now) (g.S.Store.has c.trial_by.new.store) (g.S.Store.faults c.args.store.now) (g.S.Store.faults c.trial_by.new.store) left l a k (object (g.E.Sink.taken c.args.report.now) (g.E.Sink.taken c.trial_by.new.report) (g.E.Sink.faults c.args.report.now) (g.E.Sink.faults c.trial_by.new.report)) c.trial_by.result c.in-Ok-ruled.schema (g.S.Store.has c.ruled.new.store)
+    c.in-Ok-ruled.ensures.rules c.ruled.ensures.kept c.trial_by.ensures.undamaged
+
+pub returns-in-Ok-ruled-clause-spares : goal.returns-in-Ok-ruled-clause-spares
+returns-in-Ok-ruled-clause-spares g c = planted_spares (g.S.Store.has c.args.store.now) (g.S.Store.has c.ruled.new.store) (g.S.Store.has c.trial_by.new.store) c.ruled.ensures.kept c.trial_by.ensures.spares

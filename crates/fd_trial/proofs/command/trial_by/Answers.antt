@@ -4,6 +4,8 @@ use Rattle.fd_outcome.specs.Trying.{trial_given}
 use Rattle.fd_telling.proofs.StopLemmas.{rose_later}
 use Rattle.fd_archive.specs.Kept.{InputKept, WholeKept}
 use Rattle.fd_trial.specs.Made.{made_left}
+use Rattle.fd_outcome.proofs.Exits.{never_whole}
+use Rattle.fd_trial.proofs.Noticing.{looked_spares, unstored_part, whole_undamaged}
 use Rattle.fd_trial.proofs.Outlasting.{asked_outlasts, unstored_outlasts}
 use Rattle.fd_trial.proofs.Stopping.{kept_ran, kept_whole, on_disk}
 use Rattle.fd_trial.proofs.command.trial_by.Goals as goal
@@ -45,3 +47,18 @@ returns-clause-outlasts g c =
     let w = subst (λ o. InputKept c.args.workers c.args.schema.now trial_given (Some o) after mid now (Err c.in-Err.fault)) c.new-messages.ensures.left
     (subst (λ given. InputKept c.args.workers c.args.schema.now given (Some (made_left c.new-messages.result)) after mid now (Err c.in-Err.fault)) c.requires.given c.in-Err.ensures.stored) in
     unstored_outlasts c.tell_unstored.result _ _ _ _ c.args.workers c.args.count c.args.schema.now mid now after c.in-Err.fault w c.tell_unstored.ensures
+
+pub returns-in-Ok-clause-undamaged : goal.returns-in-Ok-clause-undamaged
+returns-in-Ok-clause-undamaged g c = λ whole.
+    let mid = g.S.Store.has c.args.store.now in
+    let j = g.S.Store.has c.store_all.new.store in
+    let after = Some (made_left c.store_all.new.input) in
+    let w = subst (λ o. WholeKept c.args.workers c.args.schema.now trial_given (Some o) after mid j c.in-Ok.field-0) c.new-messages.ensures.left
+    (subst (λ given. WholeKept c.args.workers c.args.schema.now given (Some (made_left c.new-messages.result)) after mid j c.in-Ok.field-0) c.requires.given c.in-Ok.ensures.stored) in
+    whole_undamaged c.args.count c.args.workers c.args.schema.now mid j after c.in-Ok.field-0 w
+
+pub returns-clause-undamaged : goal.returns-clause-undamaged
+returns-clause-undamaged g c = λ whole. never_whole _ c.tell_unstored.result (unstored_part c.in-Err.fault c.tell_unstored.result _ _ _ _ c.tell_unstored.ensures) whole
+
+pub returns-in-Ok-clause-spares : goal.returns-in-Ok-clause-spares
+returns-in-Ok-clause-spares g c = looked_spares (g.S.Store.has c.args.store.now) (g.S.Store.has c.store_all.new.store) (g.S.Store.has c.ask.new.store) c.store_all.ensures.spares c.ask.ensures.looks

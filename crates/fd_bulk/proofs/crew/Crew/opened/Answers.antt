@@ -1,5 +1,6 @@
 use Rattle.std.proofs.Common.{rules, arith, ◌≡◌, ◌∙◌, ◌<◌, ◌≤◌, ◌++◌, ◌∷◌, [], List, ℕ, Option, Some, Ok, false, IfSome, sym, ap, subst, length, slice_get}
-use Rattle.fd_disk.specs.Folders.{WhereTold}
+use Rattle.fd_disk.specs.Folders.{WhereTold, folder_at}
+use Rattle.fd_recovery.specs.Recovered.{IsUndamaged}
 use Rattle.fd_library.specs.Calls.{Opens}
 use Rattle.fd_library.specs.Open.{OpenDataset, OpenDatasets, among, names_of}
 use Rattle.fd_library.specs.Stores.{held_with}
@@ -131,12 +132,13 @@ returns-clause-opens g c = λ start all waiting d.
     let ge : length c.args.opener.now.library.each ≤ c.made-number.result = omega (arith, c.if-number-len.false, c.len.ensures, c.reserve.new.self.passes.ok.0, ap length c.reserve.ensures.passes, c.requires.long) in
     let out = is_new g.S.Folder.Folder.has n name l m before after (λ e. (c.in-Ok-dataset.ensures.again e).0) at.0 at.1 ge in
     let o = opens out in
+    let undamaged = subst (λ (o : Option ℕ). IfSome o (λ n. IfSome (g.S.Store.has c.args.store.now) (λ s. IsUndamaged c.args.name.now (folder_at s c.args.name.now)))) c.made-number.ensures (c.in-Ok-dataset.ensures.undamaged out) in
     let p = c.meet.ensures.meets in
     let t = c.meet.new.self in
     let passes : t.passes.items ≡ s.passes.items ++ p.pass ∷ [] = p.passes ∙ ap (λ ps. ps ++ p.pass ∷ []) c.reserve.ensures.passes in
     let parcels : c.meet.new.self.parcels.items ≡ c.args.self.now.parcels.items = search rules in
     with_both (λ ps qs. OpenedAs g.S.Folder.Folder.has g.S.Folder.Shelf.Shelf.kept start after all waiting {Z = g.row.X.Denot} name (datasets_in (all ++ waiting)) (Ok n) c.meet.new.opener.library ps t.jobs.items qs) (s.passes.items ++ p.pass ∷ []) t.passes.items s.parcels.items t.parcels.items passes parcels
-    (opened_new g.S.Folder.Folder.has g.S.Folder.Shelf.Shelf.kept start all waiting name before after l s.passes.items s.jobs.items t.jobs.items s.parcels.items d out n m c.meet.new.opener.library p.pass o p.seats p.own c.meet.ensures.sound (same_more s.jobs.items r.jobs.items t.jobs.items c.reserve.ensures.jobs p.jobs) g.row.X.Denot)
+    (opened_new g.S.Folder.Folder.has g.S.Folder.Shelf.Shelf.kept start all waiting name before after l s.passes.items s.jobs.items t.jobs.items s.parcels.items d out n m c.meet.new.opener.library p.pass o p.seats p.own c.meet.ensures.sound (same_more s.jobs.items r.jobs.items t.jobs.items c.reserve.ensures.jobs p.jobs) undamaged g.row.X.Denot)
 
 pub returns-clause-too_many : goal.returns-clause-too_many
 returns-clause-too_many g c = λ start all waiting d.

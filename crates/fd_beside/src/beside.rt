@@ -1,8 +1,7 @@
-//! Jobs that threads change while this thread does something else.
 ghost use Rattle.std.specs.Prelude.{◌≡◌};
 ghost use Rattle.std.specs.Fork.{AcceptsEach};
 ghost use denote.Param.Send.{IsSend, IsSync};
-ghost use Rattle.fd_sheets.specs.Beside.{AreChanged};
+ghost use Rattle.fd_beside.specs.Beside.{AreChanged};
 
 use std::thread;
 use std::thread::{Threads, join_mut};

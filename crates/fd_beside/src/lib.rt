@@ -1,0 +1,6 @@
+//! Jobs that threads change while this thread does something else.
+#![tactic(auto)]
+
+mod beside;
+
+pub use beside::for_each_beside;

@@ -1,0 +1,126 @@
+-- What each kind of command has done, of what its own clauses say.
+use Rattle.std.proofs.Common.{◌≡◌, ◌∙◌, ℕ, List, [], Option, Some, None, refl, sym, subst, inl, inr}
+use Rattle.std.specs.Prelude.{◌⊎◌, IfSome}
+use Rattle.fd_key.specs.Pairs.{Pair}
+use Rattle.fd_disk.specs.Folders.{Holdings, WhereTold}
+use Rattle.fd_words.specs.declared.command.Command.{Command}
+use Rattle.fd_words.specs.declared.command.Command.TheVariants as commands
+use Rattle.fd_outcome.specs.declared.status.Status.{Status}
+use Rattle.fd_outcome.specs.declared.status.Status.TheVariants.{Done, Missed, OutputFault, NoMemory}
+use Rattle.fd_outcome.specs.Ends.{StoresFields, WhereAsked}
+use Rattle.fd_outcome.specs.Noticing.{IsUnfit, IsUnread, Noticed, Notices, ReadsFitly, SparesDamaged}
+use Rattle.fd_outcome.specs.Objects.{Object, object}
+use Rattle.fd_outcome.specs.Ran.{Ran}
+use Rattle.fd_outcome.specs.Store.{AreNames}
+use Rattle.fd_outcome.proofs.Asked.{asked_all}
+use Rattle.fd_outcome.proofs.Exits.{apart, is_whole}
+use Rattle.fd_archive.specs.Crashing.{OutlastsCrash}
+use Rattle.fd_contents.specs.Cubing.{CubesRan}
+use Rattle.fd_contents.proofs.CubesDone.{cubes_ran}
+use Rattle.fd_session.specs.Sessions.{SessionRan}
+use Rattle.fd_session.proofs.Commands.{session_ran}
+use Rattle.fd_program.specs.Served.{CommandRan}
+
+-- a status at which memory ran out, or at which that couldn't be told, is neither 0 nor 1
+never_whole : (s : Status) → (s ≡ NoMemory) ⊎ (s ≡ OutputFault) → (s ≡ Done) ⊎ (s ≡ Missed) → ⊥
+never_whole s (inl is) (inl e) = apart is_whole NoMemory Done refl refl (sym is ∙ e)
+never_whole s (inl is) (inr e) = apart is_whole NoMemory Missed refl refl (sym is ∙ e)
+never_whole s (inr is) (inl e) = apart is_whole OutputFault Done refl refl (sym is ∙ e)
+never_whole s (inr is) (inr e) = apart is_whole OutputFault Missed refl refl (sym is ∙ e)
+
+-- of a store that tells, what holds of any schema
+fits : (command : Command) (has : Option Holdings) (input : Object (List ℕ)) → ((schema : Option (List ℕ)) → IsUnfit command schema → IsUnread input) → IfSome has (λ h. IsUnfit command h.schema → IsUnread input)
+fits command None input all = tt
+fits command (Some h) input all = all h.schema
+
+-- ---- a run that ends for want of memory before it has done anything
+
+pub starved_notices : (o : Option Command) (s : Status) (store : Object Holdings) (input output report : Object (List ℕ)) → (s ≡ NoMemory) ⊎ (s ≡ OutputFault) → IfSome o (λ command. Notices command s store input output report)
+starved_notices None s store input output report idle = tt
+starved_notices (Some command) s store input output report idle = λ whole. absurd (never_whole s idle whole)
+
+pub starved_unread : (o : Option Command) (store : Object Holdings) (left : Option (List ℕ)) (k : ℕ) → IfSome o (λ command. ReadsFitly command store (object left left k k))
+starved_unread None store left k = tt
+starved_unread (Some command) store left k = fits command store.before (object left left k k) (λ schema unfit. record { same = refl; calm = refl })
+
+spares_same : (has : Option Holdings) → WhereTold has has SparesDamaged
+spares_same None = tt
+spares_same (Some h) = λ name damaged. record { files = refl; table = inl refl }
+
+pub starved_spares : (o : Option Command) (has : Option Holdings) → IfSome o (λ command. StoresFields command → WhereTold has has SparesDamaged)
+starved_spares None has = tt
+starved_spares (Some command) has = λ stores. spares_same has
+
+-- ---- by the kind of the command
+
+module _ (F : Type 0) where
+  pub did_by : (command is : Command) (s : Status) (store : Object Holdings) (input output report : Object (List ℕ)) → command ≡ is → CommandRan F is s store input output report → CommandRan F command s store input output report
+  did_by command is s store input output report same did = subst (λ c. CommandRan F c s store input output report) (sym same) did
+
+  module _ (s : Status) (store : Object Holdings) (input output report : Object (List ℕ)) where
+    silent : (command : Command) → ((octets : List ℕ) (h : Holdings) (names : List (List ℕ)) → Noticed command s h names octets output.before output.now report.before report.now) → Notices command s store input output report
+    silent command all whole = asked_all (λ octets h i. (names : List (List ℕ)) → AreNames h names → Noticed command s h names octets output.before output.now report.before report.now) (λ octets h i names are. all octets h names)
+        command input.before store.before store.now
+
+    -- a command over streams, or one that reclaims
+    abbrev pub IsPlain : Command → Type 0
+    IsPlain (commands.Pick wanted) = Unit {0}
+    IsPlain commands.Describe = Unit {0}
+    IsPlain commands.Split = Unit {0}
+    IsPlain (commands.Values decimals) = Unit {0}
+    IsPlain (commands.Generate count) = Unit {0}
+    IsPlain (commands.Create root) = ⊥
+    IsPlain (commands.Archive root given workers) = ⊥
+    IsPlain (commands.Retrieve root workers) = ⊥
+    IsPlain (commands.RetrieveOver root layers workers) = ⊥
+    IsPlain (commands.List root) = ⊥
+    IsPlain (commands.Axes root) = ⊥
+    IsPlain (commands.Stats root) = ⊥
+    IsPlain (commands.Cubes root) = ⊥
+    IsPlain (commands.Session root) = ⊥
+    IsPlain (commands.Purge root dataset) = Unit {0}
+    IsPlain (commands.Wipe root dataset) = Unit {0}
+    IsPlain (commands.Trial root count workers) = ⊥
+
+    never_unfit : (command : Command) → ((schema : Option (List ℕ)) → IsUnfit command schema → ⊥) → ReadsFitly command store input
+    never_unfit command never = fits command store.before input (λ schema unfit. absurd (never schema unfit))
+
+    pub plain : (command : Command) → IsPlain command → Ran command s store input output report → CommandRan F command s store input output report
+    plain (commands.Pick wanted) is ran =
+        record { ran = ran; session = tt; cubes = tt; notices = silent (commands.Pick wanted) (λ octets h names. tt); unread = never_unfit (commands.Pick wanted) (λ schema unfit. unfit); spares = λ stores. absurd stores; outlasts = tt }
+    plain commands.Describe is ran = record { ran = ran; session = tt; cubes = tt; notices = silent commands.Describe (λ octets h names. tt); unread = never_unfit commands.Describe (λ schema unfit. unfit); spares = λ stores. absurd stores; outlasts = tt }
+    plain commands.Split is ran = record { ran = ran; session = tt; cubes = tt; notices = silent commands.Split (λ octets h names. tt); unread = never_unfit commands.Split (λ schema unfit. unfit); spares = λ stores. absurd stores; outlasts = tt }
+    plain (commands.Values decimals) is ran =
+        record { ran = ran; session = tt; cubes = tt; notices = silent (commands.Values decimals) (λ octets h names. tt); unread = never_unfit (commands.Values decimals) (λ schema unfit. unfit); spares = λ stores. absurd stores; outlasts = tt }
+    plain (commands.Generate count) is ran =
+        record { ran = ran; session = tt; cubes = tt; notices = silent (commands.Generate count) (λ octets h names. tt); unread = never_unfit (commands.Generate count) (λ schema unfit. unfit); spares = λ stores. absurd stores; outlasts = tt }
+    plain (commands.Create root) is ran = absurd is
+    plain (commands.Archive root given workers) is ran = absurd is
+    plain (commands.Retrieve root workers) is ran = absurd is
+    plain (commands.RetrieveOver root layers workers) is ran = absurd is
+    plain (commands.List root) is ran = absurd is
+    plain (commands.Axes root) is ran = absurd is
+    plain (commands.Stats root) is ran = absurd is
+    plain (commands.Cubes root) is ran = absurd is
+    plain (commands.Session root) is ran = absurd is
+    plain (commands.Purge root dataset) is ran =
+        record { ran = ran; session = tt; cubes = tt; notices = silent (commands.Purge root dataset) (λ octets h names. tt); unread = never_unfit (commands.Purge root dataset) (λ schema unfit. unfit); spares = λ stores. absurd stores; outlasts = tt }
+    plain (commands.Wipe root dataset) is ran =
+        record { ran = ran; session = tt; cubes = tt; notices = silent (commands.Wipe root dataset) (λ octets h names. tt); unread = never_unfit (commands.Wipe root dataset) (λ schema unfit. unfit); spares = λ stores. absurd stores; outlasts = tt }
+    plain (commands.Trial root count workers) is ran = absurd is
+
+    pub created : (root : List ℕ) → Ran (commands.Create root) s store input output report → ReadsFitly (commands.Create root) store input → CommandRan F (commands.Create root) s store input output report
+    created root ran unread = record { ran = ran; session = tt; cubes = tt; notices = silent (commands.Create root) (λ octets h names. tt); unread = unread; spares = λ stores. absurd stores; outlasts = tt }
+
+    pub counted : (root : List ℕ) → Ran (commands.Stats root) s store input output report → Notices (commands.Stats root) s store input output report → CommandRan F (commands.Stats root) s store input output report
+    counted root ran notices = record { ran = ran; session = tt; cubes = tt; notices = notices; unread = never_unfit (commands.Stats root) (λ schema unfit. unfit); spares = λ stores. absurd stores; outlasts = tt }
+
+    pub cubed : (root : List ℕ) → CubesRan root s store input output report → CommandRan F (commands.Cubes root) s store input output report
+    cubed root ran = record { ran = cubes_ran root s store input output report ran; session = tt; cubes = ran; notices = λ whole. tt; unread = ran.unread; spares = λ stores. absurd stores; outlasts = tt }
+
+    pub played : (root : List ℕ) → SessionRan F s store input output report → ReadsFitly (commands.Session root) store input → CommandRan F (commands.Session root) s store input output report
+    played root ran unread = record { ran = session_ran F root s store input output report ran; session = ran; cubes = tt; notices = λ whole. tt; unread = unread; spares = λ stores. ran.spares; outlasts = tt }
+
+    pub tried : (root : List ℕ) (count workers : ℕ) → Ran (commands.Trial root count workers) s store input output report → OutlastsCrash (commands.Trial root count workers) s store input report
+        → Notices (commands.Trial root count workers) s store input output report → WhereTold store.before store.now SparesDamaged → CommandRan F (commands.Trial root count workers) s store input output report
+    tried root count workers ran outlasts notices spares = record { ran = ran; session = tt; cubes = tt; notices = notices; unread = never_unfit (commands.Trial root count workers) (λ schema unfit. unfit); spares = λ stores. spares; outlasts = outlasts }

@@ -1,9 +1,0 @@
--- Jobs that threads changed.
-use Rattle.std.specs.Prelude.{ℕ, List}
-use Rattle.std.specs.Fork.{ChangesEach}
-use denote.Ref.{MutBor}
-use denote.Param.Members.{Shared}
-
--- each job was changed by a call
-pub record AreChanged {F T : Type 0} (g : Shared F (ℕ × (MutBor T × Unit {0})) ((Unit {0}) × (MutBor T × Unit {0}))) (f : F) (old new : List T) : Type 0 where
-  pub each : ChangesEach g f old new
