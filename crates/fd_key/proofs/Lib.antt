@@ -4,5 +4,6 @@ mod ByOctets
 pub mod GivenLaws
 mod Rows
 pub mod PairLaws
+pub mod SpanLaws
 pub mod RangeTexts
 pub mod Short

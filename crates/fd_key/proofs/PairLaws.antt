@@ -1,39 +1,10 @@
--- The pairs of a key, by what the map ensures.
-use Rattle.std.proofs.Common.{◌≡◌, ◌<◌, ◌+◌, ◌≤◌, ℕ, suc, Bool, true, false, cond, List, [], ◌∷◌, ◌++◌, length, drop, Option, Some, None, refl, ap, ◌∙◌, sym, arith, append_assoc, length-append}
+-- The pairs of a key, and the length of their text.
+use Rattle.std.proofs.Common.{◌≡◌, ◌<◌, ◌+◌, ◌-◌, ◌≤◌, ℕ, suc, Bool, true, false, cond, List, [], ◌∷◌, ◌++◌, length, drop, Some, None, refl, ap, ◌∙◌, sym, arith, append_assoc, length-append}
 use Rattle.std.specs.Prelude.{slice_get}
 use Rattle.std.proofs.Math.Seq.{drop-cons}
 use Rattle.std.proofs.lemmas.Option.{slice_get_within, get_or_from_slice_get}
-use Rattle.std.specs.Prelude.{String, string_bytes}
-use Rattle.std.specs.String.{string_eq}
-use Rattle.std.specs.Option.{option_map}
-use Rattle.std.specs.declared.alloc.Global.{Global}
 use Rattle.std.specs.Str.{bytes_eq}
-use Rattle.indexmap.specs.IndexMap.{IndexMap, insert_entry, get_by}
-use Rattle.std.specs.Map.{lookup}
 use Rattle.fd_key.specs.Pairs.{Pair, with_pair, text_of, pair_text, rest_text, key_text}
-use Rattle.fd_key.specs.Seen.{seen_pairs}
-
-abbrev Text : Type 0
-Text = String Global
-
-kept : (b : Bool) (e : Text × Text) (v : Text) (es fs : List (Text × Text)) (rest : List Pair) → seen_pairs fs ≡ rest → seen_pairs (cond b ((e.0, v) ∷ es) (e ∷ fs)) ≡ cond b ((string_bytes e.0, string_bytes v) ∷ seen_pairs es) ((string_bytes e.0, string_bytes e.1) ∷ rest)
-kept true e v es fs rest h = refl
-kept false e v es fs rest h = ap (λ (ps : List Pair). (string_bytes e.0, string_bytes e.1) ∷ ps) h
-
-pub seen-insert : (es : List (Text × Text)) (k v : Text) → seen_pairs (insert_entry string_eq es k v) ≡ with_pair (seen_pairs es) (string_bytes k) (string_bytes v)
-seen-insert [] k v = refl
-seen-insert (e ∷ es) k v = kept (string_eq k e.0) e v es (insert_entry string_eq es k v) _ (seen-insert es k v)
-
-looked : (b : Bool) (v : Text) (o : Option Text) (rest : Option (List ℕ)) → option_map string_bytes o ≡ rest → option_map string_bytes (cond b (Some v) o) ≡ cond b (Some (string_bytes v)) rest
-looked true v o rest h = refl
-looked false v o rest h = h
-
-looked_up : (es : List (Text × Text)) (name : List ℕ) → option_map string_bytes (lookup (λ (k : Text). bytes_eq name (string_bytes k)) es) ≡ text_of (seen_pairs es) name
-looked_up [] name = refl
-looked_up (e ∷ es) name = looked (bytes_eq name (string_bytes e.0)) e.1 (lookup (λ (k : Text). bytes_eq name (string_bytes k)) es) _ (looked_up es name)
-
-pub text_is : {S : Type 0} (m : IndexMap Text Text S) (name : List ℕ) → option_map string_bytes (get_by (λ (k : Text). bytes_eq name (string_bytes k)) m) ≡ text_of (seen_pairs m.entries) name
-text_is m name = looked_up m.entries name
 
 -- the pair at a place is the first of what is left from there
 pub drop_from_slice_get : {X : Type 0} (xs : List X) (i : ℕ) (x : X) → slice_get xs i ≡ Some x → drop i xs ≡ x ∷ drop (i + 1) xs
@@ -102,7 +73,7 @@ rest_joined : (ps qs : List Pair) → length (rest_text (ps ++ qs)) ≡ length (
 rest_joined [] qs = omega arith
 rest_joined (p ∷ ps) qs = omega (arith, rest_joined ps qs, length-rest_text p (ps ++ qs), length-rest_text p ps)
 
-rest_short : (ps : List Pair) → length (rest_text ps) ≤ length (key_text ps) + 1
+pub rest_short : (ps : List Pair) → length (rest_text ps) ≤ length (key_text ps) + 1
 rest_short [] = omega arith
 rest_short (p ∷ ps) = omega (arith, length-rest_text p ps, length-key_text p ps)
 
@@ -128,3 +99,8 @@ length-rest_push ps name text = omega (arith, rest_joined ps ((name, text) ∷ [
 pub length-key_push : (ps : List Pair) (p : Pair) → length (key_text (ps ++ p ∷ [])) + 1 ≡ length (rest_text (ps ++ p ∷ []))
 length-key_push [] p = omega (arith, length-key_text p [], length-rest_text p [])
 length-key_push (q ∷ ps) p = omega (arith, length-key_text q (ps ++ p ∷ []), length-rest_text q (ps ++ p ∷ []))
+
+-- so their text is one byte shorter, where there are any
+pub key_from_rest : (ps : List Pair) → length (rest_text ps) - 1 ≡ length (key_text ps)
+key_from_rest [] = omega arith
+key_from_rest (p ∷ ps) = omega (arith, length-rest_text p ps, length-key_text p ps)

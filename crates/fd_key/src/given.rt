@@ -1,4 +1,4 @@
-ghost use Rattle.std.specs.Prelude.{◌≡◌, ◌<◌, ◌-◌, ◌^◌, length, [], true, Some, Ok, IfOk, IfSome, IfErr, OnOk, option_map, slice_get};
+ghost use Rattle.std.specs.Prelude.{◌≡◌, ◌<◌, ◌≤◌, ◌-◌, ◌^◌, length, [], true, Some, Ok, IfOk, IfSome, IfErr, OnOk, option_map, slice_get, string_bytes};
 ghost use Rattle.fd_spelling.specs.Names.{is_name, is_value};
 ghost use Rattle.fd_key.specs.Given.{IsGiven, given_of, pairs_from, with_piece, is_reserved, plain_pair, new_pair, pieces_of};
 ghost use Rattle.fd_key.specs.Reading.{GivesGiven, GivesNew, Refuses};
@@ -95,6 +95,15 @@ impl Given {
     {
         self.pairs.pair(i)
     }
+
+    /// The same, and that the name fits its place.
+    pub(crate) fn short_pair(&self, i: u32) -> (&str, &str)
+        requires { i < length self.now }
+        ensures pair { slice_get self.now i ≡ Some (result.0.now, result.1.now) }
+        ensures name { length result.0.now ≤ 16 }
+    {
+        self.pairs.short_pair(i)
+    }
 }
 
 /// Puts the pair of a piece, which begins at this place. After a refusal nothing has changed.
@@ -105,18 +114,20 @@ fn put_piece(alloc: Global, pairs: &mut Key, piece: &[u8], at: u32) -> Result<()
     ensures err { IfErr result (λ e. Refuses e (with_piece pairs.old piece.now at)) }
 {
     let (name, value) = new_pair(alloc, pairs, piece, at)?;
-    pairs.add(alloc, name.as_str(), value.as_str())?;
+    pairs.add(name.as_str(), value.as_str())?;
     Ok(())
 }
 
 /// The name and the value of a piece, which begins at this place.
+#[tactic(auto, using(crate::proofs::SpanLaws::name_fits))]
 fn new_pair(
     alloc: Global,
     before: &Key,
     piece: &[u8],
     at: u32,
 ) -> Result<(String, String), GivenFault>
-    ensures { GivesNew result (new_pair before.now (plain_pair piece.now) at) }
+    ensures pair { GivesNew result (new_pair before.now (plain_pair piece.now) at) }
+    ensures name { IfOk result (λ p. length (string_bytes p.0) ≤ 16) }
 {
     let Some((name, value)) = plain_pair(piece) else {
         return Err(GivenFault::Pair { at });

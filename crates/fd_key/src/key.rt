@@ -5,27 +5,36 @@ ghost use Rattle.fd_key.specs.Pairs.{with_pair, text_of, key_text, pair_text};
 ghost use Rattle.fd_key.specs.Given.{are_reserved};
 
 use crate::given::Given;
+use crate::span::{Span, in_place, value_at};
+use arrayvec::ArrayString;
 use fd_bytes::NoMemory;
 use indexmap::IndexMap;
 use std::alloc::Global;
 use std::marker::Model;
 
-/// Names and their texts, in the order in which they came, each name once.
+/// So many bytes of values have room in a new key, and so many names.
+const BYTES: usize = 128;
+
+const NAMES: usize = 18;
+
+/// Names and their texts, in the order in which they came, each name once. The texts stand in one, and a name stands in
+/// place, so that a key of a message asks for memory when it is made, and mostly not again.
 #[derive(Drop)]
 pub struct Key {
-    pairs: IndexMap<String, String>,
+    values: String,
+    spans: IndexMap<ArrayString<16>, Span>,
 }
 
 impl Model for Key {
-    ghost use Rattle.std.specs.Prelude.{List, ◌<◌, ◌^◌, length};
+    ghost use Rattle.std.specs.Prelude.{List, string_bytes};
     ghost use Rattle.fd_key.specs.Pairs.{Pair};
-    ghost use Rattle.fd_key.specs.Seen.{seen_pairs};
+    ghost use Rattle.fd_key.specs.Spans.{AreKept, pairs_at};
 
     ghost Value = { List Pair };
 
-    ghost view = { λ k. seen_pairs k.pairs.entries };
+    ghost view = { λ k. pairs_at (string_bytes k.values) k.spans.entries };
 
-    ghost invariant = { λ k. length (seen_pairs k.pairs.entries) < 2 ^ 32 };
+    ghost invariant = { λ k. AreKept (string_bytes k.values) k.spans.entries };
 }
 
 impl Key {
@@ -33,24 +42,29 @@ impl Key {
     pub fn new(alloc: Global) -> Result<Key, NoMemory>
         ensures { IfOk result (λ k. k ≡ []) }
     {
-        Ok(Key {
-            pairs: IndexMap::new(alloc),
-        })
+        let values = String::with_capacity(alloc, BYTES)?;
+        let spans = IndexMap::with_capacity(alloc, NAMES)?;
+        Ok(Key { values, spans })
     }
 
     /// The number of pairs.
     pub fn len(&self) -> u32
         ensures { result ≡ length self.now }
     {
-        self.pairs.len() as u32
+        self.spans.len() as u32
     }
 
     /// The text of a name, which is in lower case.
     pub fn get(&self, name: &str) -> Option<&str>
         ensures { option_copied result ≡ text_of self.now name.now }
     {
-        match self.pairs.get(name) {
-            Some(text) => Some(text.as_str()),
+        let values = self.values.as_str();
+        if name.len() > 16 {
+            return None;
+        }
+        let short = in_place(name);
+        match self.spans.get_full(&short) {
+            Some((_place, _name, span)) => Some(value_at(values, span)),
             None => None,
         }
     }
@@ -60,57 +74,70 @@ impl Key {
         requires { i < length self.now }
         ensures { slice_get self.now i ≡ Some (result.0.now, result.1.now) }
     {
-        match self.pairs.get_index(i as usize) {
-            Some((name, text)) => (name.as_str(), text.as_str()),
+        self.short_pair(i)
+    }
+
+    /// The same, and that the name fits its place.
+    pub(crate) fn short_pair(&self, i: u32) -> (&str, &str)
+        requires { i < length self.now }
+        ensures pair { slice_get self.now i ≡ Some (result.0.now, result.1.now) }
+        ensures name { length result.0.now ≤ 16 }
+    {
+        match self.spans.get_index(i as usize) {
+            Some((name, span)) => (name.as_str(), value_at(self.values.as_str(), span)),
             None => ("", ""),
         }
     }
 
     /// Adds the pair at the end, or puts the text in place of the one that the name has. After `NoMemory` nothing has
     /// changed.
-    pub fn set(&mut self, alloc: Global, name: &str, text: &str) -> Result<(), NoMemory>
+    #[tactic(auto, using(crate::proofs::SpanLaws::name_fits))]
+    pub fn set(&mut self, _alloc: Global, name: &str, text: &str) -> Result<(), NoMemory>
         requires name { IsTrue (is_name name.now) }
         requires value { IsTrue (is_value text.now) }
         requires room { length self.old < 2 ^ 32 - 1 }
         ensures ok { OnOk result (self.new ≡ with_pair self.old name.now text.now) }
         ensures err { OnErr result (self.new ≡ self.old) }
     {
-        self.put(alloc, name, text)
+        self.put(name, text)
     }
 
-    /// The same for any name and text.
-    pub(crate) fn put(&mut self, alloc: Global, name: &str, text: &str) -> Result<(), NoMemory>
+    /// The same for any name that fits its place, and any text.
+    pub(crate) fn put(&mut self, name: &str, text: &str) -> Result<(), NoMemory>
         requires room { length self.old < 2 ^ 32 - 1 }
+        requires fits { length name.now ≤ 16 }
         ensures ok { OnOk result (self.new ≡ with_pair self.old name.now text.now) }
         ensures err { OnErr result (self.new ≡ self.old) }
         ensures short { OnOk result (length (key_text self.new) ≤ length (key_text self.old) + length name.now + length text.now + 2) }
     {
-        let name = String::from_str(alloc, name)?;
-        let text = String::from_str(alloc, text)?;
-        self.pairs.insert(name, text)?;
+        let start = self.values.len();
+        self.values.push_str(text)?;
+        let end = self.values.len();
+        self.spans.insert(in_place(name), Span { start, end })?;
         Ok(())
     }
 
     /// Adds a pair whose name it doesn't have.
-    pub(crate) fn add(&mut self, alloc: Global, name: &str, text: &str) -> Result<(), NoMemory>
+    pub(crate) fn add(&mut self, name: &str, text: &str) -> Result<(), NoMemory>
         requires room { length self.old < 2 ^ 32 - 1 }
+        requires fits { length name.now ≤ 16 }
         requires other { text_of self.old name.now ≡ None }
         ensures pair { OnOk result (self.new ≡ self.old ++ (name.now, text.now) ∷ []) }
         ensures short { OnOk result (length (key_text self.new) ≤ length (key_text self.old) + length name.now + length text.now + 2) }
     {
-        self.put(alloc, name, text)
+        self.put(name, text)
     }
 
     /// Adds the given pairs to those of a message.
-    pub(crate) fn append(&mut self, alloc: Global, given: &Given) -> Result<(), NoMemory>
+    pub(crate) fn append(&mut self, given: &Given) -> Result<(), NoMemory>
         requires room { length (key_text self.old) ≤ 2 ^ 31 }
         requires own { are_reserved self.old ≡ true }
         ensures pairs { OnOk result (self.new ≡ self.old ++ given.now) }
         ensures short { OnOk result (length (key_text self.new) ≤ length (key_text self.old) + 2 ^ 31) }
     {
         for i in 0..given.len() {
-            let (name, text) = given.pair(i);
-            self.add(alloc, name, text)?;
+            let (name, text) = given.short_pair(i);
+            self.add(name, text)?;
         }
         Ok(())
     }
@@ -119,8 +146,9 @@ impl Key {
     pub fn text(&self, alloc: Global) -> Result<String, NoMemory>
         ensures { IfOk result (λ s. string_bytes s ≡ key_text self.now) }
     {
-        let mut out = String::new(alloc);
         let n = self.len();
+        let names = (n as usize).saturating_mul(18);
+        let mut out = String::with_capacity(alloc, self.values.len().saturating_add(names))?;
         if n == 0 {
             return Ok(out);
         }
@@ -132,6 +160,20 @@ impl Key {
             push_pair(&mut out, name, text)?;
         }
         Ok(out)
+    }
+
+    /// The length of that text.
+    pub(crate) fn text_len(&self) -> usize
+        requires { length (key_text self.now) ≤ 2 ^ 32 }
+        ensures { result ≡ length (key_text self.now) }
+    {
+        let mut len = 0;
+        for i in 0..self.len() {
+            let (name, text) = self.pair(i);
+            let both = name.len() + text.len();
+            len += both + 2;
+        }
+        len.saturating_sub(1)
     }
 }
 

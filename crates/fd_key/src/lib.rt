@@ -7,6 +7,7 @@ mod fields;
 mod given;
 mod key;
 mod of_message;
+mod span;
 
 pub use fault::{GivenFault, KeyFault};
 pub use fd_spelling::{

@@ -14,10 +14,9 @@ use crate::given::Given;
 use crate::key::Key;
 use fd_bytes::NoMemory;
 use fd_sections::Message;
-use fd_spelling::{
-    date_text, is_date, is_time, levtype_text, number_text, param_text, step_text, time_text,
-};
+use fd_spelling::{date_text, is_date, is_time, levtype_text, param_text, step_text, time_text};
 use fd_templates::{AnyFault, AnyProduct, Ensemble, Ident, Interval, Product, TemplateFault};
+use itoa::Buffer;
 use std::alloc::Global;
 
 /// The key of a message: `centre`, `date`, `time`, `type`, `param`, `levtype`, `levelist`, `step`, `number` and `stat` of its
@@ -32,8 +31,8 @@ pub fn key_of(alloc: Global, message: &Message<'_>, given: &Given) -> Result<Key
     ensures { GivesKey result (key_of (sections_of message.now) given.now) }
 {
     let mut key = message_key(alloc, message)?;
-    key.append(alloc, given)?;
-    let len = key.text(alloc)?.len();
+    key.append(given)?;
+    let len = key.text_len();
     if len > 255 {
         return Err(KeyFault::KeyTooLong { len: len as u32 });
     }
@@ -89,12 +88,12 @@ fn origin_key(alloc: Global, ident: &Ident) -> Result<Key, NoMemory>
     ensures short { IfOk result (λ k. length (key_text k) ≤ 150) }
 {
     let mut key = Key::new(alloc)?;
-    put_number(alloc, &mut key, "centre", u32::from(ident.centre))?;
+    put_number(&mut key, "centre", u32::from(ident.centre))?;
     let date = date_of(alloc, ident)?;
-    key.put(alloc, "date", date.as_str())?;
+    key.put("date", date.as_str())?;
     let time = time_of(alloc, ident)?;
-    key.put(alloc, "time", time.as_str())?;
-    put_number(alloc, &mut key, "type", u32::from(ident.data_type))?;
+    key.put("time", time.as_str())?;
+    put_number(&mut key, "type", u32::from(ident.data_type))?;
     Ok(key)
 }
 
@@ -118,13 +117,13 @@ fn put_field(
     ensures short { OnOk result (length (key_text key.new) ≤ length (key_text key.old) + 100) }
 {
     let param = param_in(alloc, discipline, product)?;
-    key.put(alloc, "param", param.as_str())?;
+    key.put("param", param.as_str())?;
     let levtype = levtype_text(
         alloc,
         product.first_surface_type,
         product.second_surface_type,
     )?;
-    key.put(alloc, "levtype", levtype.as_str())?;
+    key.put("levtype", levtype.as_str())?;
     Ok(())
 }
 
@@ -136,7 +135,7 @@ fn put_levels(alloc: Global, key: &mut Key, product: &Product) -> Result<(), NoM
     ensures short { OnOk result (length (key_text key.new) ≤ length (key_text key.old) + 710) }
 {
     match levels_of(alloc, product)? {
-        Some(levels) => key.put(alloc, "levelist", levels.as_str()),
+        Some(levels) => key.put("levelist", levels.as_str()),
         None => Ok(()),
     }
 }
@@ -154,7 +153,7 @@ fn own_pairs(
     ensures own { IfOk result (λ k. are_reserved k ≡ true) }
 {
     let mut key = base_key(alloc, discipline, ident, &product.base)?;
-    put_number_of(alloc, &mut key, &product.ensemble)?;
+    put_number_of(&mut key, &product.ensemble)?;
     put_stat(alloc, &mut key, &product.interval)?;
     Ok(key)
 }
@@ -175,13 +174,13 @@ fn base_key(
     put_field(alloc, &mut key, discipline, product)?;
     put_levels(alloc, &mut key, product)?;
     let step = step_of(alloc, product)?;
-    key.put(alloc, "step", step.as_str())?;
+    key.put("step", step.as_str())?;
     Ok(key)
 }
 
 /// Puts the number of the member of an ensemble, unless it is missing.
 #[tactic(auto, using(crate::proofs::PairLaws::with_pair_longer))]
-fn put_number_of(alloc: Global, key: &mut Key, ensemble: &Option<Ensemble>) -> Result<(), NoMemory>
+fn put_number_of(key: &mut Key, ensemble: &Option<Ensemble>) -> Result<(), NoMemory>
     requires { length key.old < 100 }
     ensures pairs { OnOk result (key.new ≡ with_pair_if key.old (codes "number") (number_of ensemble.now)) }
     ensures short { OnOk result (length (key_text key.new) ≤ length (key_text key.old) + 20) }
@@ -192,7 +191,7 @@ fn put_number_of(alloc: Global, key: &mut Key, ensemble: &Option<Ensemble>) -> R
             if ensemble.number == 255 {
                 return Ok(());
             }
-            put_number(alloc, key, "number", u32::from(ensemble.number))
+            put_number(key, "number", u32::from(ensemble.number))
         }
         None => Ok(()),
     }
@@ -207,7 +206,7 @@ fn put_stat(alloc: Global, key: &mut Key, interval: &Option<Interval>) -> Result
     match interval {
         Some(interval) => {
             let text = ranges_text(alloc, interval.ranges.as_slice())?;
-            key.put(alloc, "stat", text.as_str())
+            key.put("stat", text.as_str())
         }
         None => Ok(()),
     }
@@ -255,13 +254,13 @@ fn time_of(alloc: Global, ident: &Ident) -> Result<String, NoMemory>
 }
 
 /// Puts a number at a name.
-fn put_number(alloc: Global, key: &mut Key, name: &str, number: u32) -> Result<(), NoMemory>
-    requires { length key.old < 2 ^ 32 - 1 }
+fn put_number(key: &mut Key, name: &str, number: u32) -> Result<(), NoMemory>
+    requires room { length key.old < 2 ^ 32 - 1 }
+    requires fits { length name.now ≤ 16 }
     ensures pair { OnOk result (key.new ≡ with_pair key.old name.now (decimal number)) }
     ensures short { OnOk result (length (key_text key.new) ≤ length (key_text key.old) + length name.now + 12) }
 {
-    let text = number_text(alloc, number)?;
-    key.put(alloc, name, text.as_str())
+    key.put(name, Buffer::new().format(number))
 }
 
 /// The forecast time.

@@ -17,15 +17,15 @@ add-requires-clause-room c =
 
 pub add-requires-clause-other : goal.add-requires-clause-other
 add-requires-clause-other c =
-    let p : Pair = (c.pair.result.0.now, c.pair.result.1.now) in
-    let at = drop_from_slice_get c.args.given.now c.loop-i.i p c.pair.ensures in
+    let p : Pair = (c.short_pair.result.0.now, c.short_pair.result.1.now) in
+    let at = drop_from_slice_get c.args.given.now c.loop-i.i p c.short_pair.ensures.pair in
     (first_differs c.loop-i.self p (drop (c.loop-i.i + 1) c.args.given.now) (rw at at c.loop-i.invariant.1)).0
 
 pub loop-i-preserved : goal.loop-i-preserved
 loop-i-preserved c =
-    let p : Pair = (c.pair.result.0.now, c.pair.result.1.now) in
+    let p : Pair = (c.short_pair.result.0.now, c.short_pair.result.1.now) in
     let others : List Pair = drop (c.loop-i.i + 1) c.args.given.now in
-    let at : drop c.loop-i.i c.args.given.now ≡ p ∷ others = drop_from_slice_get c.args.given.now c.loop-i.i p c.pair.ensures in
+    let at : drop c.loop-i.i c.args.given.now ≡ p ∷ others = drop_from_slice_get c.args.given.now c.loop-i.i p c.short_pair.ensures.pair in
     let new : c.add.new.self ≡ c.loop-i.self ++ p ∷ [] = c.in_ok-add.ensures.pair in (
       ap (λ ps. ps ++ others) new ∙ append_assoc c.loop-i.self (p ∷ []) others ∙ ap (λ ps. c.loop-i.self ++ ps) (sym at) ∙ c.loop-i.invariant.0,
       ap (λ ps. differ_after ps others) new ∙ (first_differs c.loop-i.self p others (rw at at c.loop-i.invariant.1)).1,
