@@ -16,6 +16,9 @@ use fd_bytes::NoMemory;
 use fd_key::Key;
 use std::alloc::Global;
 
+/// So many bytes have room in a new text of a level. Most such texts have fewer, so that memory is asked for once.
+const ROOM: usize = 128;
+
 /// Where a key belongs.
 #[derive(Debug, Drop)]
 pub struct Place {
@@ -35,7 +38,8 @@ impl Place {
     pub fn file_key(&self, alloc: Global) -> Result<Vec<u8>, NoMemory>
         ensures { IfOk result (λ v. v.items ≡ file_key (seen_place self.now)) }
     {
-        let mut key = Vec::new(alloc);
+        let texts = self.index.len().saturating_add(self.datum.len());
+        let mut key = Vec::with_capacity(alloc, texts.saturating_add(1))?;
         key.extend_from_slice(self.index.as_bytes())?;
         key.push(b'|')?;
         key.extend_from_slice(self.datum.as_bytes())?;
@@ -148,7 +152,7 @@ fn push_pair(out: &mut String, name: &str, text: &str) -> Result<(), NoMemory>
 fn level_text(alloc: Global, level: Level, rule: &[Item], key: &Key) -> Result<String, NoMemory>
     ensures { IfOk result (λ s. string_bytes s ≡ level_text level (seen_items rule.now) key.now) }
 {
-    let mut out = String::new(alloc);
+    let mut out = String::with_capacity(alloc, ROOM)?;
     for item in rule {
         if same_level(item.level, level) {
             if let Some(text) = key.get(item.name.as_str()) {
