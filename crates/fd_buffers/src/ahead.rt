@@ -10,8 +10,9 @@ use std::alloc::Global;
 use std::marker::PhantomData;
 
 /// A reader of a sealed file that reads ahead. A read is answered out of what was read ahead where that has all that is
-/// wanted. Else a short or a large one goes to the reader that it holds, and for any other as many bytes as there is room
-/// for are read at once, from its place on. The file changes no more, so what was read ahead stays right.
+/// wanted. Else a large one goes to the reader that it holds, and so does a short one that doesn't begin where the last one
+/// ended; for any other as many bytes as there is room for are read at once, from its place on. The file changes no more, so
+/// what was read ahead stays right.
 pub struct Ahead<F: Send, R: Reader<F>> {
     inner: R,
     /// The room, in whose front stands what was read ahead.
@@ -19,8 +20,10 @@ pub struct Ahead<F: Send, R: Reader<F>> {
     /// How many bytes were read ahead, and the place of the first.
     filled: usize,
     start: u64,
-    /// The shortest read for which more is read.
+    /// The shortest read for which more is read, wherever it begins.
     least: usize,
+    /// Where the last read ended; before the first one no place.
+    next: u64,
     reads: u64,
     asked: u64,
     of: PhantomData<F>,
@@ -37,6 +40,7 @@ impl<F: Send, R: Reader<F>> Drop for Ahead<F, R> {
             filled: _,
             start: _,
             least: _,
+            next: _,
             reads: _,
             asked: _,
             of: _,
@@ -45,8 +49,8 @@ impl<F: Send, R: Reader<F>> Drop for Ahead<F, R> {
 }
 
 impl<F: Send, R: Reader<F>> Ahead<F, R> {
-    /// Reads ahead over this reader: for reads of at least so many bytes, as many as there is room for. The room is made
-    /// now.
+    /// Reads ahead over this reader: for reads of at least so many bytes, and for those that begin where the last one ended, as
+    /// many as there is room for. The room is made now.
     pub fn new(alloc: Global, inner: R, least: usize, room: usize) -> Result<Ahead<F, R>, NoMemory>
         ensures bytes { IfOk result (λ a. ⟦<Ahead<F, R> as Reader<F>>⟧.bytes a ≡ R.bytes inner) }
         ensures len { IfOk result (λ a. ⟦<Ahead<F, R> as Reader<F>>⟧.len a ≡ R.len inner) }
@@ -61,6 +65,7 @@ impl<F: Send, R: Reader<F>> Ahead<F, R> {
             filled: 0,
             start: 0,
             least,
+            next: u64::MAX,
             reads: 0,
             asked: 0,
             of: PhantomData,
@@ -92,11 +97,13 @@ impl<F: Send, R: Reader<F>> Reader<F> for Ahead<F, R> {
     fn read_at(&mut self, at: u64, into: &mut [u8]) -> Result<usize, F> {
         self.reads = self.reads.saturating_add(1);
         self.asked = self.asked.saturating_add(into.len() as u64);
+        let is_next = at == self.next;
+        self.next = at.saturating_add(into.len() as u64);
         if has(self.filled, self.start, at, into.len()) {
             let from = (at - self.start) as usize;
             return Ok(copied(&self.ahead[..self.filled], from, into));
         }
-        if into.len() < self.least || into.len() >= self.ahead.len() {
+        if into.len() >= self.ahead.len() || (into.len() < self.least && !is_next) {
             return self.inner.read_at(at, into);
         }
         self.filled = 0;

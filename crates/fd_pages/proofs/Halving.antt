@@ -213,7 +213,7 @@ page_count : (len : ℕ) (b : List ℕ) → len ≤ length b → pages_in (take 
 page_count len b le = ap pages_by (length-take-le len b le)
 
 -- a page of the file is what the page by itself reads as
-page_same : (len : ℕ) (b : List ℕ) (m : ℕ) (rs : List Record) (file : IsByPages (take len b) rs) → len ≤ length b → m < pages_by len → page_in b m ≡ Ok (get_or file.ps m [])
+pub page_same : (len : ℕ) (b : List ℕ) (m : ℕ) (rs : List Record) (file : IsByPages (take len b) rs) → len ≤ length b → m < pages_by len → page_in b m ≡ Ok (get_or file.ps m [])
 page_same len b m rs file le lt =
     let count = page_count len b le in
     let under : m < pages_in (take len b) = omega (arith, lt, count) in

@@ -196,6 +196,7 @@ impl<F: Send, R: Reader<F>> Paged<F, R> {
     /// The bytes of the whole index file, by one read.
     pub fn read_all(&mut self, alloc: Global) -> Result<Vec<u8>, PagedFault<F>>
         ensures bytes { IfOk result (λ v. IfSome self.old.bytes (λ b. v.items ≡ take self.old.len b)) }
+        ensures whole { IfSome self.old.bytes (λ b. self.old.len ≤ length b) }
         ensures bad { IfErr result (λ e. OnBadIndex e (λ _. ⊥)) }
         ensures file { (self.new.bytes ≡ self.old.bytes) × (self.new.len ≡ self.old.len) }
         ensures later { self.old.faults ≤ self.new.faults }

@@ -11,6 +11,8 @@ use Rattle.fd_index.specs.Reading.{index_at}
 use Rattle.fd_index.specs.First.{IsFirstPlace}
 use Rattle.fd_index.proofs.Alone.{by_pages}
 use Rattle.fd_index.proofs.FaultRead.{first_place_read}
+use Rattle.fd_index.proofs.Spelled.{same_ok}
+use Rattle.fd_pages.proofs.Whole.{seen_of_all}
 use Rattle.fd_pages.specs.declared.fault.PagedFault.{PagedFault}
 use Rattle.fd_pages.specs.declared.fault.PagedFault.TheVariants as faults
 use Rattle.fd_pages.specs.Causes.{OnBadIndex}
@@ -22,7 +24,7 @@ use Rattle.fd_segment.specs.declared.fault.LensFault.{LensFault}
 use Rattle.fd_segment.specs.declared.fault.LensFault.TheVariants as lenses
 use Rattle.fd_segment.specs.Held.{Files, IsIndexOf, Opened, are_digested, batch_by_records, batch_in, batch_of, batch_told, behind, digests_stand, end_by, is_digested, pairs_of, pairs_within, records_in}
 use Rattle.sha2.specs.Sha256.{sha256}
-use Rattle.fd_segment.specs.Causes.{IsBadFrame, IsBadIndex, IsFieldDamage, IsKeyDamage, IsPlace, OnDamaged, StandsForNone, lens_fault}
+use Rattle.fd_segment.specs.Causes.{AreAllOf, IsBadFrame, IsBadIndex, IsFieldDamage, IsKeyDamage, IsPlace, OnDamaged, StandsForNone, lens_fault}
 use Rattle.fd_segment.specs.Copying.{IsBatchIndex, IsOfBatch, IsPiece, bytes_at}
 use Rattle.fd_segment.proofs.Keys.{eq_is, rising_differ}
 use Rattle.fd_segment.proofs.Places.{first_last, pairs_last}
@@ -201,6 +203,33 @@ batch_index f rs reads = λ b stands.
 pub batch_index_ok : (E : Type 0) (r : Result (List Record) E) (l m : Opened) → l ≡ m → IfOk r (IsIndexOf l.files.entry l.files.index) → IfOk r (IsBatchIndex m.files)
 batch_index_ok E (Ok rs) l m is reads = batch_index m.files rs (subst (λ (x : Opened). IsIndexOf x.files.entry x.files.index rs) is reads)
 batch_index_ok E (Err e) l m is reads = tt
+
+-- ---- All records of an index
+
+seen_untold : (len : ℕ) (key : List ℕ) (place : Option (ℕ × ℕ)) → pages.IsSeen None len key place
+seen_untold len key (Some place) = (tt, tt)
+seen_untold len key None = (tt, tt)
+
+pub all_of : (f : Files) (rs : List Record) → IsIndexOf f.entry f.index rs → IfSome f.index (λ b. f.entry.index_len ≤ length b) → AreAllOf f rs
+all_of f rs read whole = record { read = read; seen = λ key. go f.index read whole key }
+  where
+    go : (index : Option (List ℕ)) → IsIndexOf f.entry index rs → IfSome index (λ b. f.entry.index_len ≤ length b) → (key : List ℕ) → pages.IsSeen index f.entry.index_len key (place_of key rs)
+    go None read whole key = seen_untold f.entry.index_len key (place_of key rs)
+    go (Some b) read whole key = seen_of_all b f.entry.index_len key rs whole read
+
+-- the same of an answer, where the fields that were read are seen as a lens
+pub all_of_ok : (E : Type 0) (r : Result (List Record) E) (l m : Opened) (len : ℕ) → l ≡ m → len ≡ l.files.entry.index_len → IfOk r (IsIndexOf m.files.entry m.files.index) → IfSome l.files.index (λ b. len ≤ length b) → IfOk r (AreAllOf m.files)
+all_of_ok E (Ok rs) l m len is same reads whole =
+    let long = subst (λ (n : ℕ). IfSome l.files.index (λ b. n ≤ length b)) same whole in
+    all_of m.files rs reads (subst (λ (x : Opened). IfSome x.files.index (λ b. x.files.entry.index_len ≤ length b)) is long)
+all_of_ok E (Err e) l m len is same reads whole = tt
+
+pub all_place : (f : Files) (rs : List Record) (key : List ℕ) → AreAllOf f rs → IsPlace f.entry f.index key (place_of key rs)
+all_place f rs key all = go f.index all.read
+  where
+    go : (index : Option (List ℕ)) → IsIndexOf f.entry index rs → IsPlace f.entry index key (place_of key rs)
+    go None read = tt
+    go (Some b) read = λ other again. ap (place_of key) (same_ok rs other (sym read ∙ again))
 
 -- ---- What the paged index of a lens answers
 

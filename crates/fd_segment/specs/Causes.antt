@@ -20,7 +20,7 @@ use Rattle.fd_pages.specs.declared.fault.PagedFault.{PagedFault}
 use Rattle.fd_pages.specs.declared.fault.PagedFault.TheVariants as pages
 use Rattle.fd_pages.specs.Parts.{IsBadPage, IsFrameFault, IsSeen}
 use Rattle.fd_segment.specs.Copying.{IsDigestOf, IsPiece}
-use Rattle.fd_segment.specs.Held.{Files, batch_of, behind, records_in}
+use Rattle.fd_segment.specs.Held.{Files, IsIndexOf, batch_of, behind, records_in}
 
 -- `Full` is answered exactly where the key has no room in the index, with these numbers
 abbrev pub FullAs : {F : Type 0} → Result (Unit {0}) Full → Result (Unit {0}) (PutFault F) → Type 0
@@ -78,6 +78,11 @@ IsBadFrame e index (FieldDigest file at want got) = ⊥
 -- the index says that the key's bytes are at this place, where told
 abbrev pub IsPlace : Entry → Option (List ℕ) → List ℕ → Option (ℕ × ℕ) → Type 0
 IsPlace e index key place = IfSome index (λ bytes. (rs : List Record) → records_in e bytes ≡ Ok rs → place ≡ place_of key rs)
+
+-- These are all records of the index, where told, and what they say of a key is what a look-up of it says.
+pub record AreAllOf (f : Files) (rs : List Record) : Type 0 where
+  pub read : IsIndexOf f.entry f.index rs
+  pub seen : (key : List ℕ) → IsSeen f.index f.entry.index_len key (place_of key rs)
 
 -- a page of the index has a record of the key, which ends there, with its digest where the entry has digests; and so has
 -- the index, where it is in its format

@@ -3,7 +3,10 @@ ghost use Rattle.fd_disk.specs.Names.{name_of};
 ghost use Rattle.fd_bytes.specs.Causes.{Rose};
 ghost use Rattle.fd_pages.specs.Paging.{HasRead, digits};
 ghost use Rattle.fd_pages.specs.Parts.{IsSeen, pages_by};
-ghost use Rattle.fd_segment.specs.Causes.{IsBadIndex, IsFieldDamage, IsFindDamage, IsPlace, OnCheckDamaged, OnCheckFault, OnCopyFault, OnDamaged, OnLensFault, StandsForNone, UnlessWrite, lens_fault};
+ghost use Rattle.fd_disk.specs.declared.folders.FileKind.TheVariants.{Fields};
+ghost use Rattle.fd_segment.specs.declared.fault.Damage.TheVariants.{Beyond};
+ghost use Rattle.fd_segment.specs.declared.fault.LensFault.TheVariants.{Damaged};
+ghost use Rattle.fd_segment.specs.Causes.{AreAllOf, IsBadIndex, IsFieldDamage, IsFindDamage, IsPlace, OnCheckDamaged, OnCheckFault, OnCopyFault, OnDamaged, OnLensFault, StandsForNone, UnlessWrite, lens_fault};
 ghost use Rattle.fd_segment.specs.Copying.{IsBatchIndex, IsCopied, IsCopiedInPart, IsDigestedAt, IsOfBatch, IsPiece};
 ghost use Rattle.fd_segment.specs.Counts.{HasChecked, HasCopied, HasReadOnce, KeepsFieldCounts, KeepsIndexCounts, paging_of};
 ghost use Rattle.fd_segment.specs.Held.{IsIndexOf, behind};
@@ -104,16 +107,47 @@ impl<F: Send, R: Reader<F>> Lens<F, R> {
         if end <= u128::from(self.entry.fields_len) {
             return Ok(Some((at, len)));
         }
-        Err(LensFault::Damaged(Damage::Beyond {
-            file: file_name(&self.entry, FileKind::Fields),
-            end,
-            len: self.entry.fields_len,
-        }))
+        Err(beyond(&self.entry, end))
+    }
+
+    /// The place and the length of the key's newest bytes in the field file, or none where the batch doesn't have the key, by
+    /// the records of the whole index, as `records` answers them: what `find` answers, without a read. `Damaged` is here only
+    /// `Beyond`, where the key's record ends beyond the fields.
+    pub fn find_among(
+        &self,
+        records: &Index,
+        key: &[u8],
+    ) -> Result<Option<(u64, u64)>, LensFault<F>>
+        requires { AreAllOf self.now.files records.now }
+        ensures place { IfOk result (IsPlace self.now.files.entry self.now.files.index key.now) }
+        ensures seen { IfOk result (IsSeen self.now.files.index self.now.files.entry.index_len key.now) }
+        ensures batch { IfOk result (IsOfBatch self.now.files key.now) }
+        ensures inside { IfOk result (λ o. IfSome o (λ p. p.0 + p.1 + behind self.now.files.entry ≤ self.now.files.entry.fields_len)) }
+        ensures damaged { IfErr result (λ e. OnDamaged e (IsFindDamage self.now.files.entry self.now.files.index key.now)) }
+        ensures sound { IfErr result (λ e. OnDamaged e (λ _. StandsForNone self.now.files)) }
+        ensures cause { IfErr result (λ e. OnLensFault e ⊥) }
+    {
+        let Some((at, len)) = records.find(key) else {
+            return Ok(None);
+        };
+        let end = u128::from(at) + u128::from(len) + u128::from(behind(&self.entry));
+        if end <= u128::from(self.entry.fields_len) {
+            return Ok(Some((at, len)));
+        }
+        Err(beyond(&self.entry, end))
+    }
+
+    /// How many bytes the index file has.
+    pub fn index_len(&self) -> u64
+        ensures { result ≡ self.now.files.entry.index_len }
+    {
+        self.entry.index_len
     }
 
     /// Reads the index file as a whole, and answers the index that its first bytes are, as many as the entry says.
     pub fn records(&mut self, alloc: Global) -> Result<Index, LensFault<F>>
         ensures read { IfOk result (λ rs. IsIndexOf self.old.files.entry self.old.files.index rs) }
+        ensures all { IfOk result (AreAllOf self.old.files) }
         ensures batch { IfOk result (IsBatchIndex self.old.files) }
         ensures damaged { IfErr result (λ e. OnDamaged e (IsBadIndex self.old.files.entry self.old.files.index)) }
         ensures files { self.new.files ≡ self.old.files }
@@ -239,6 +273,17 @@ fn behind(entry: &Entry) -> u64
     ensures few { result ≤ 32 }
 {
     if entry.digest.is_some() { 32 } else { 0 }
+}
+
+/// The answer for a record that ends there, beyond the fields.
+fn beyond<F>(entry: &Entry, end: u128) -> LensFault<F>
+    ensures { result ≡ Damaged (Beyond (name_of entry.now.writer entry.now.seq Fields) end entry.now.fields_len) }
+{
+    LensFault::Damaged(Damage::Beyond {
+        file: file_name(entry, FileKind::Fields),
+        end,
+        len: entry.fields_len,
+    })
 }
 
 /// The name of a file of an entry.

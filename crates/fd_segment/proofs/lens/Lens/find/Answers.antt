@@ -1,5 +1,6 @@
-use Rattle.std.proofs.Common.{None, Some, sym, subst, arith}
+use Rattle.std.proofs.Common.{◌<◌, ◌+◌, None, Some, sym, subst, arith}
 use Rattle.fd_segment.specs.Causes.{OnDamaged, StandsForNone}
+use Rattle.fd_segment.specs.Held.{behind}
 use Rattle.fd_segment.proofs.Looking.{batch_seen, beyond_seen, sound_seen}
 use Rattle.fd_segment.proofs.lens.Lens.find.Goals as goal
 
@@ -17,5 +18,6 @@ returns-then-end-from-clause-batch g c =
 
 pub returns-clause-sound : goal.returns-clause-sound
 returns-clause-sound g c =
-    beyond_seen _ _ c.self.inside.index.len c.self.view_is c.self.invariant.0 c.args.key.now c.in-Ok-Some.place.0 c.in-Ok-Some.place.1 (rw c.in-Ok-Some.field-0-is at c.in-Ok-Some.ensures.place)
-    (omega (arith, c.if-end-from.false, c.from.ensures, c.from-2.ensures, c.from-3.ensures, c.from-4.ensures, c.behind.ensures.count))
+    let past : c.self.inside.entry.fields_len < c.in-Ok-Some.place.0 + c.in-Ok-Some.place.1 + behind c.self.inside.entry = omega (arith, c.if-end-from.false, c.from.ensures, c.from-2.ensures, c.from-3.ensures, c.from-4.ensures, c.behind.ensures.count) in
+    subst (λ e. OnDamaged e (λ _. StandsForNone c.args.self.now.files)) (sym c.beyond.ensures)
+    (beyond_seen _ _ c.self.inside.index.len c.self.view_is c.self.invariant.0 c.args.key.now c.in-Ok-Some.place.0 c.in-Ok-Some.place.1 (rw c.in-Ok-Some.field-0-is at c.in-Ok-Some.ensures.place) past)
