@@ -27,7 +27,7 @@ returns-clause-sound g c =
     let at = c.in-Some.at in
     let len = c.in-Some.len in
     let past : c.self.inside.entry.fields_len < at + len + behind c.self.inside.entry =
-        omega (arith, c.if-end-from.false, c.from.ensures, c.from-2.ensures, c.from-3.ensures, c.from-4.ensures, c.behind.ensures.count) in
+    omega (arith, c.if-end-from.false, c.from.ensures, c.from-2.ensures, c.from-3.ensures, c.from-4.ensures, c.behind.ensures.count) in
     subst (λ e. OnDamaged e (λ _. StandsForNone f)) (sym c.beyond.ensures)
     (beyond_none f key at len (subst (λ (o : Option (ℕ × ℕ)). IsPlace f.entry f.index key o) (sym c.in-Some.ensures) (all_place f c.args.records.now key c.requires))
     (subst (λ (x : Opened). x.files.entry.fields_len < at + len + behind x.files.entry) c.self.view_is past))
