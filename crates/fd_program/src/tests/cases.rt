@@ -11,7 +11,8 @@ use std::sync::Wait;
 use std::sync::atomic::{AtomicU64, Ordering};
 use std::thread::Threads;
 
-/// Holds the step of one of the first two lanes or workers until the other has asked for so many steps.
+/// Holds a step of one of the first three lanes or workers, or a read of the input, which is lane 0. The first two wait until the
+/// other has asked for so many steps, and so do the third and the input.
 #[derive(Clone, Copy)]
 pub(super) struct Hold {
     pub(super) lane: u32,
@@ -94,11 +95,14 @@ pub(super) const CASE: Case = Case {
     after: &[],
 };
 
-/// The gate of a row: how many steps the first two lanes have asked for, how many of these were held, and how many in vain.
+/// The gate of a row: how many steps the first three lanes and the input have asked for, how many of these were held, and how many in
+/// vain.
 #[derive(Drop)]
 struct Turns {
     first: AtomicU64,
     second: AtomicU64,
+    third: AtomicU64,
+    reads: AtomicU64,
     held: AtomicU64,
     vain: AtomicU64,
     holds: &'static [Hold],
@@ -120,6 +124,8 @@ impl Turns {
         Turns {
             first: AtomicU64::new(0),
             second: AtomicU64::new(0),
+            third: AtomicU64::new(0),
+            reads: AtomicU64::new(0),
             held: AtomicU64::new(0),
             vain: AtomicU64::new(0),
             holds,
@@ -144,11 +150,14 @@ impl Turns {
             }
         }
     }
-}
 
-impl Gate for Turns {
-    fn pass<R: Wait>(&self, _rt: &R, lane: u32, step: u32) {
+    /// A step of a lane, or a read of the input.
+    fn come(&self, lane: u32, step: u32) {
         match lane {
+            0 => {
+                self.reads.fetch_add(1, Ordering::SeqCst);
+                self.hold(lane, step, &self.third);
+            }
             1 => {
                 self.first.fetch_add(1, Ordering::SeqCst);
                 self.hold(lane, step, &self.second);
@@ -157,8 +166,38 @@ impl Gate for Turns {
                 self.second.fetch_add(1, Ordering::SeqCst);
                 self.hold(lane, step, &self.first);
             }
+            3 => {
+                self.third.fetch_add(1, Ordering::SeqCst);
+                self.hold(lane, step, &self.reads);
+            }
             _ => {}
         }
+    }
+}
+
+impl Gate for Turns {
+    fn pass<R: Wait>(&self, _rt: &R, lane: u32, step: u32) {
+        self.come(lane, step);
+    }
+}
+
+/// A source whose reads come to the gate of a row.
+#[derive(Drop)]
+struct Gated<'a, I: Drop> {
+    input: I,
+    reads: u32,
+    gate: &'a Turns,
+}
+
+impl<X, I: Source<X> + Drop> Source<X> for Gated<'_, I> {
+    ghost left = { λ s. I.left s.input };
+
+    ghost faults = { λ s. I.faults s.input };
+
+    fn read(&mut self, into: &mut [u8]) -> Result<usize, X> {
+        self.reads = self.reads.saturating_add(1);
+        self.gate.come(0, self.reads);
+        self.input.read(into)
     }
 }
 
@@ -219,11 +258,18 @@ where
 }
 
 /// Tells whether a run with this status has written what its row says, and met what its gate holds.
-fn is_right(alloc: Global, row: &Row, streams: &Streams, status: u8, gate: &Turns) -> bool {
+fn is_right(
+    alloc: Global,
+    row: &Row,
+    output: &MemSink,
+    report: &MemSink,
+    status: u8,
+    gate: &Turns,
+) -> bool {
     status == row.status
         && gate.are_met()
-        && streams.report.taken() == row.report.as_bytes()
-        && are(alloc, streams.output.taken(), row.output)
+        && report.taken() == row.report.as_bytes()
+        && are(alloc, output.taken(), row.output)
 }
 
 /// Runs a row over this store, and tells whether it ends as it says.
@@ -239,21 +285,31 @@ where
     requires home { (name : List ℕ) → S.out store.old name ≡ false }
     ensures home { (name : List ℕ) → S.out store.new name ≡ false }
 {
-    let Some(mut streams) = streams_of(alloc, row, piece) else {
+    let Some(streams) = streams_of(alloc, row, piece) else {
         return false;
     };
+    let Streams {
+        input,
+        mut output,
+        mut report,
+    } = streams;
     let gate = Turns::new(row.holds);
+    let mut input = Gated {
+        input,
+        reads: 0,
+        gate: &gate,
+    };
     let status = status_of(
         rt,
         alloc,
         row,
         store,
-        &mut streams.input,
-        &mut streams.output,
-        &mut streams.report,
+        &mut input,
+        &mut output,
+        &mut report,
         &gate,
     );
-    is_right(alloc, row, &streams, status, &gate)
+    is_right(alloc, row, &output, &report, status, &gate)
 }
 
 /// Runs rows over this store, one after the other, and tells whether each ends as it says.

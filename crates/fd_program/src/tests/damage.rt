@@ -1,4 +1,4 @@
-//! What a retrieve says of a store of one field in which a file was damaged, or in which a call fails.
+//! What a retrieve, and an archive, says of a store of one field in which a file was damaged, or in which a call fails.
 use super::cases::{CASE, Case, Event, Row, first_wrong};
 use super::octets::Part;
 use super::sessions::UPPER;
@@ -189,10 +189,17 @@ const TABLES: &[Case] = &[
     },
     Case {
         event: Event::Replaced(TABLE, TABLE_FILE, &[Part::At(0, 0)]),
-        after: &[Row {
-            report: "damaged class=od,expver=0001,date=20240101,time=0000 NotATable 0 70 0\n",
-            ..DAMAGED
-        }],
+        after: &[
+            Row {
+                report: "damaged class=od,expver=0001,date=20240101,time=0000 NotATable 0 70 0\n",
+                ..DAMAGED
+            },
+            Row {
+                report: "damaged class=od,expver=0001,date=20240101,time=0000 NotATable 0 70 0\n",
+                status: 8,
+                ..ARCHIVED
+            },
+        ],
         ..SOUND
     },
     Case {
@@ -205,10 +212,17 @@ const TABLES: &[Case] = &[
     },
     Case {
         event: Event::Replaced("schema", &[Part::Text("[a")], &[]),
-        after: &[Row {
-            report: "damaged schema 1 End\n",
-            ..DAMAGED
-        }],
+        after: &[
+            Row {
+                report: "damaged schema 1 End\n",
+                ..DAMAGED
+            },
+            Row {
+                report: "damaged schema 1 End\n",
+                status: 8,
+                ..ARCHIVED
+            },
+        ],
         ..SOUND
     },
 ];

@@ -32,7 +32,8 @@ const MANY: &[Part] = &[
     Part::Generated(0, 3000),
 ];
 
-/// The eighth round of the first and of the second worker waits until both have come so far.
+/// The eighth round of the first and of the second worker waits until both have come so far; and that of the third and the seventh read of
+/// the input, which more than fill what is read ahead, wait for one another.
 const MEETING: &[Hold] = &[
     Hold {
         lane: 1,
@@ -42,6 +43,16 @@ const MEETING: &[Hold] = &[
     Hold {
         lane: 2,
         step: 8,
+        until: 8,
+    },
+    Hold {
+        lane: 3,
+        step: 8,
+        until: 7,
+    },
+    Hold {
+        lane: 0,
+        step: 7,
         until: 8,
     },
 ];
@@ -150,4 +161,111 @@ const ARCHIVING: &[Case] = &[
 #[test]
 fn stores_many(rt: HostRuntime) {
     assert_eq!(rt; first_wrong(&rt, rt.alloc(), ARCHIVING), None);
+}
+
+/// The front of a message of 1,048,576 octets.
+const LONGEST: Part = Part::Field(&[(13, 0x10), (15, 0), (171, 0x0F), (172, 0xFF), (173, 0x52)]);
+
+const LONGEST_REST: Part = Part::Repeated(&[0], 1_048_389);
+
+/// The fronts of messages of 100,000 octets of another centre, of steps 0 and 6.
+const FIRST_LONG: Part = Part::Field(&[
+    (13, 1),
+    (14, 0x86),
+    (15, 0xA0),
+    (22, 99),
+    (171, 1),
+    (172, 0x85),
+    (173, 0xF2),
+]);
+
+const LAST_LONG: Part = Part::Field(&[
+    (13, 1),
+    (14, 0x86),
+    (15, 0xA0),
+    (22, 99),
+    (130, 6),
+    (171, 1),
+    (172, 0x85),
+    (173, 0xF2),
+]);
+
+const LONG_REST: Part = Part::Repeated(&[0], 99_813);
+
+const END: Part = Part::Text("7777");
+
+/// Five of the longest, of one key, of which the last four are as many octets as are read ahead; then two of the other dataset, before
+/// the last of which the longest are stored, so that their buffers are kept.
+const LONG_ONES: &[Part] = &[
+    LONGEST,
+    LONGEST_REST,
+    END,
+    LONGEST,
+    LONGEST_REST,
+    END,
+    LONGEST,
+    LONGEST_REST,
+    END,
+    LONGEST,
+    LONGEST_REST,
+    END,
+    LONGEST,
+    LONGEST_REST,
+    END,
+    FIRST_LONG,
+    LONG_REST,
+    END,
+    LAST_LONG,
+    LONG_REST,
+    END,
+];
+
+/// The first round of the third worker, and the first read behind the longest messages, wait for one another.
+const BEGINNING: &[Hold] = &[
+    Hold {
+        lane: 3,
+        step: 1,
+        until: 81,
+    },
+    Hold {
+        lane: 0,
+        step: 81,
+        until: 1,
+    },
+];
+
+const LENGTHY: &[Case] = &[Case {
+    size: 8_388_608,
+    rows: &[
+        BY_CENTRE,
+        Row {
+            words: WORKERS,
+            input: LONG_ONES,
+            report: "archived 7 datasets 2 junk 0\n",
+            holds: BEGINNING,
+            ..STORED
+        },
+        Row {
+            output: &[Part::Text(
+                "class=od,expver=0001,centre=98 entries 1 fields 1 keys 1 bytes 5243040
+class=od,expver=0001,centre=99 entries 2 fields 2 keys 2 bytes 200064
+",
+            )],
+            ..BY_ONE
+        },
+        Row {
+            input: &[Part::Text(
+                "retrieve,class=od,expver=0001,centre=99,date=20240101,time=00,type=1,levtype=100,param=0.0.0,step=6,levelist=100000",
+            )],
+            output: &[LAST_LONG, LONG_REST, END],
+            ..FOUND
+        },
+    ],
+    ..LARGE
+}];
+
+/// Few messages are stored while the input is read on where they are long.
+#[test]
+fn stores_long_ones(rt: HostRuntime) {
+    assert_eq!(rt; first_wrong(&rt, rt.alloc(), LENGTHY), None);
 }

@@ -233,9 +233,22 @@ const FAILING: &[Case] = &[
         ],
         ..CASE
     },
+    Case {
+        fails: Some(("schema", Op::Read, 2)),
+        rows: &[
+            CREATED,
+            Row {
+                report: "disk failed\n",
+                status: 6,
+                ..ARCHIVED
+            },
+            ARCHIVED,
+        ],
+        ..CASE
+    },
 ];
 
-/// Archives and trials tell of a gate that could not be made to last.
+/// Archives and trials tell of a gate that could not be made to last, and an archive of a schema that could not be read.
 #[test]
 fn faults_are_told(rt: HostRuntime) {
     assert_eq!(rt; first_wrong(&rt, rt.alloc(), FAILING), None);
