@@ -8,7 +8,7 @@ top=$(cd "$(dirname "$0")/.." && pwd)
 work=$(mktemp -d)
 trap 'rm -rf "$work"' EXIT
 mkdir "$work/crates"
-for crate in fd_bytes fd_region fd_index fd_disk fd_disk_real fd_pages; do
+for crate in fd_bytes fd_region fd_index fd_disk fd_buffers fd_host fd_unsynced fd_untold fd_disk_real fd_pages; do
   mkdir "$work/crates/$crate"
   cp -r "$top/crates/$crate/src" "$work/crates/$crate/"
   for part in specs proofs; do

@@ -1,26 +1,26 @@
 // A dataset whose table is renewed or taken away, and whose files are removed.
 ghost use Rattle.std.specs.Prelude.{◌≡◌, ◌⊎◌, true, false, OnOk, OnErr};
-ghost use Rattle.fd_disk_real.specs.Lost.{all_firm};
+ghost use Rattle.fd_unsynced.specs.Lost.{all_firm};
 
 use crate::fault::counted;
 use crate::shelf::path_of;
-use crate::unsynced::Unsynced;
-use crate::{RealDisk, RealFault, RealFolder};
+use crate::{Ground, Place, SystemFault, UntoldDisk, UntoldFolder};
 use fd_disk::{Down, FileName, Folder, Renew};
+use fd_unsynced::Unsynced;
 use std::alloc::Global;
 use std::io;
 
-impl Renew<RealFault> for RealFolder {
+impl<P: Place> Renew<SystemFault> for UntoldFolder<P> {
     /// The new table is firm under another name before it takes the place of the old one. A dataset to which another process
     /// writes, or has written since the table was read, is a fault. After another fault the table's name counts as
     /// lost, since either of the two may be there after a crash.
     fn renew(
         &mut self,
         alloc: Global,
-        table: RealDisk,
+        table: UntoldDisk<P::Device>,
         bytes: &[u8],
-    ) -> Result<(), Down<RealFault>> {
-        self.give_table(table);
+    ) -> Result<(), Down<SystemFault>> {
+        self.take_back(table.file.unsynced);
         match self.replaced(alloc, bytes) {
             Ok(()) => Ok(()),
             Err(error) => Err(Down::Fault(counted(&mut self.faults, error))),
@@ -28,8 +28,12 @@ impl Renew<RealFault> for RealFolder {
     }
 
     /// Faults as those of `renew`.
-    fn unfound(&mut self, alloc: Global, table: RealDisk) -> Result<(), Down<RealFault>> {
-        self.give_table(table);
+    fn unfound(
+        &mut self,
+        alloc: Global,
+        table: UntoldDisk<P::Device>,
+    ) -> Result<(), Down<SystemFault>> {
+        self.take_back(table.file.unsynced);
         match self.unlisted(alloc) {
             Ok(()) => Ok(()),
             Err(error) => Err(Down::Fault(counted(&mut self.faults, error))),
@@ -37,7 +41,7 @@ impl Renew<RealFault> for RealFolder {
     }
 
     /// Faults as those of `renew`.
-    fn remove(&mut self, alloc: Global, file: FileName) -> Result<(), Down<RealFault>> {
+    fn remove(&mut self, alloc: Global, file: FileName) -> Result<(), Down<SystemFault>> {
         let Ok(path) = path_of(alloc, self.place.path(), file) else {
             return Err(Down::NoMemory);
         };
@@ -48,7 +52,7 @@ impl Renew<RealFault> for RealFolder {
     }
 }
 
-impl RealFolder {
+impl<P: Ground> UntoldFolder<P> {
     // Has a table of these bytes in place of the one that is there.
     fn replaced(&mut self, alloc: Global, bytes: &[u8]) -> io::Result<()>
         ensures out { self.new.table_out ≡ self.old.table_out }

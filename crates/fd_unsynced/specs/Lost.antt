@@ -1,7 +1,7 @@
 -- What a sync that failed may have lost of a file.
 use Rattle.std.specs.Prelude.{◌&&◌, ◌||◌, if◌then◌else◌, ℕ, Bool, false, min, max, nat_le, nat_eq, Option, Some, None, is_some}
-use Rattle.fd_disk_real.specs.declared.unsynced.Span.{Span}
-use Rattle.fd_disk_real.specs.declared.unsynced.Unsynced.{Unsynced}
+use Rattle.fd_unsynced.specs.declared.unsynced.Span.{Span}
+use Rattle.fd_unsynced.specs.declared.unsynced.Unsynced.{Unsynced}
 
 -- a write from one place up to another covers all of these bytes
 abbrev pub covers : ℕ → ℕ → Span → Bool

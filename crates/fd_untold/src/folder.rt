@@ -1,44 +1,38 @@
 // One dataset.
-ghost use Rattle.std.specs.Prelude.{◌≡◌, ◌≤◌, IfOk, IfSome, None, true, false, length, string_bytes};
+ghost use Rattle.std.specs.Prelude.{◌≡◌, ◌≤◌, None, true, false, string_bytes};
 ghost use Rattle.fd_disk.specs.Folders.{with_table};
 ghost use Rattle.fd_disk.specs.Renewals.{StandsStill};
 
 use crate::fault::{counted, told};
-use crate::file::RealFile;
 use crate::shelf::path_of;
-use crate::unsynced::Unsynced;
-use crate::{RealDisk, RealFault, RealSealed, RealShelf};
+use crate::{Ground, Place, SystemFault, UntoldDisk, UntoldShelf};
 use fd_disk::{Down, FileName, Folder};
-use fd_host::{Budget, Names, Place, TABLES, length_of};
-use std::alloc::{AllocError, Global};
-use std::io;
-use std::sync::Arc;
+use fd_unsynced::{Unsynced, Writing};
+use std::alloc::Global;
 
 /// One dataset: a folder that is made when its table is founded or a shelf is asked for. From then on this process is the
 /// one that writes to it.
 #[derive(Drop)]
-pub struct RealFolder {
-    pub(crate) host: HostRuntime,
+pub struct UntoldFolder<P> {
     pub(crate) name: String,
-    pub(crate) place: Place,
+    pub(crate) place: P,
     pub(crate) table_out: bool,
     pub(crate) last_writer: u32,
     pub(crate) faults: u64,
     /// What of the table may not be firm.
     pub(crate) unsynced: Unsynced,
-    pub(crate) budget: Arc<Budget>,
 }
 
-impl Folder<RealFault> for RealFolder {
+impl<P: Place> Folder<SystemFault> for UntoldFolder<P> {
     ghost use Rattle.std.specs.Prelude.{None, string_bytes};
     ghost use Rattle.std.proofs.Common.{inl};
-    ghost use Rattle.fd_disk_real.specs.Clocks.{still};
+    ghost use Rattle.fd_untold.specs.Clocks.{still};
 
-    type Sealed = RealSealed;
+    type Sealed = P::Sealed;
 
-    type Table = RealDisk;
+    type Table = UntoldDisk<P::Device>;
 
-    type Shelf = RealShelf;
+    type Shelf = UntoldShelf<P::Files>;
 
     ghost has = { λ d. None };
 
@@ -67,25 +61,34 @@ impl Folder<RealFault> for RealFolder {
     ghost quiet = { λ d old new t left leaves since. inl since };
 
     /// A table that another process has made meanwhile is a fault.
-    fn found(&mut self, alloc: Global, first: &[u8]) -> Result<(), Down<RealFault>> {
+    fn found(&mut self, alloc: Global, first: &[u8]) -> Result<(), Down<SystemFault>> {
         match self.place.found(alloc, first) {
             Ok(()) => Ok(()),
             Err(error) => Err(Down::Fault(counted(&mut self.faults, error))),
         }
     }
 
-    fn table(&mut self, alloc: Global) -> Result<Option<RealDisk>, Down<RealFault>> {
+    fn table(&mut self, alloc: Global) -> Result<Option<UntoldDisk<P::Device>>, Down<SystemFault>> {
         if self.name.len() > 255 {
             return Ok(None);
         }
-        let Ok(mut table) = self.named_table(alloc) else {
+        let (Ok(name), Ok(mut device)) = (
+            String::from_str(alloc, self.name.as_str()),
+            self.place.table(alloc),
+        ) else {
             return Err(Down::NoMemory);
         };
-        match self.place.open(alloc) {
-            Ok(Some(opened)) => {
-                table.file.found(opened);
+        match self.place.open(alloc, &mut device) {
+            Ok(Some(is_new)) => {
                 self.table_out = true;
-                Ok(Some(table))
+                Ok(Some(UntoldDisk {
+                    name,
+                    made: None,
+                    file: Writing::found(device, is_new, self.unsynced),
+                    extent: 0,
+                    is_synced: false,
+                    faults: 0,
+                }))
             }
             Ok(None) => Ok(None),
             Err(error) => Err(told(&mut self.faults, error)),
@@ -93,7 +96,7 @@ impl Folder<RealFault> for RealFolder {
     }
 
     /// What a failed sync may have lost of the table is lost for whoever it is handed out to again.
-    fn give_table(&mut self, table: RealDisk)
+    fn give_table(&mut self, table: UntoldDisk<P::Device>)
         requires out { self.old.table_out ≡ true }
         requires table_name { string_bytes table.name ≡ string_bytes self.old.name }
         ensures has { None ≡ with_table None None }
@@ -104,37 +107,39 @@ impl Folder<RealFault> for RealFolder {
         ensures faults { self.old.faults ≤ self.new.faults }
         ensures unsynced { self.new.unsynced ≡ table.file.unsynced }
     {
-        self.unsynced = table.file.unsynced;
-        self.table_out = false;
-        self.place.close();
+        self.take_back(table.file.unsynced);
     }
 
     /// A dataset to which another process writes is a fault.
-    fn shelf(&mut self, alloc: Global, writer: u32) -> Result<RealShelf, Down<RealFault>> {
-        let (Ok(name), Ok(folder), Ok(budget)) = (
+    fn shelf(
+        &mut self,
+        alloc: Global,
+        writer: u32,
+    ) -> Result<UntoldShelf<P::Files>, Down<SystemFault>> {
+        let (Ok(name), Ok(folder)) = (
             String::from_str(alloc, self.name.as_str()),
             String::from_str(alloc, self.place.path()),
-            Arc::try_clone(&self.budget),
         ) else {
             return Err(Down::NoMemory);
         };
-        let names = match self.entered(alloc) {
-            Ok(names) => names,
+        if let Err(error) = self.place.enter(alloc, self.table_out) {
+            return Err(Down::Fault(counted(&mut self.faults, error)));
+        }
+        let files = match self.place.files(alloc) {
+            Ok(files) => files,
             Err(error) => return Err(Down::Fault(counted(&mut self.faults, error))),
         };
         self.last_writer = writer;
-        Ok(RealShelf {
-            host: self.host,
+        Ok(UntoldShelf {
             name,
             folder,
-            names,
-            budget,
+            files,
             writer,
             faults: 0,
         })
     }
 
-    fn give_shelf(&mut self, shelf: RealShelf) {
+    fn give_shelf(&mut self, shelf: UntoldShelf<P::Files>) {
         let _ = shelf;
     }
 
@@ -142,75 +147,45 @@ impl Folder<RealFault> for RealFolder {
         &mut self,
         alloc: Global,
         file: FileName,
-    ) -> Result<Option<RealSealed>, Down<RealFault>> {
+    ) -> Result<Option<P::Sealed>, Down<SystemFault>> {
         let (Ok(name), Ok(path)) = (
             String::from_str(alloc, self.name.as_str()),
             path_of(alloc, self.place.path(), file),
         ) else {
             return Err(Down::NoMemory);
         };
-        match length_of(self.host, path.as_str()) {
-            Ok(Some(len)) => Ok(Some(RealSealed {
-                host: self.host,
-                name,
-                made: Some(file),
-                path,
-                len,
-            })),
+        match self.place.length_of(path.as_str()) {
+            Ok(Some(len)) => Ok(Some(self.place.sealed(path, name, file, len))),
             Ok(None) => Ok(None),
             Err(error) => Err(told(&mut self.faults, error)),
         }
     }
 }
 
-impl RealFolder {
+impl<P: Ground> UntoldFolder<P> {
     /// The dataset's text, of a folder that is let go.
     pub(crate) fn into_name(self) -> String {
-        let RealFolder {
-            host: _,
+        let UntoldFolder {
             name,
             place: _,
             table_out: _,
             last_writer: _,
             faults: _,
             unsynced: _,
-            budget: _,
         } = self;
         name
     }
 
-    // Has the dataset locked: the names of a new shelf's files.
-    fn entered(&mut self, alloc: Global) -> io::Result<Arc<Names>>
-        ensures out { self.new.table_out ≡ self.old.table_out }
+    /// Has the table back, of which this may not be firm.
+    pub(crate) fn take_back(&mut self, unsynced: Unsynced)
+        ensures unsynced { self.new.unsynced ≡ unsynced }
+        ensures back { self.new.table_out ≡ false }
         ensures last_writer { self.new.last_writer ≡ self.old.last_writer }
         ensures name { self.new.name ≡ self.old.name }
         ensures faults { self.new.faults ≡ self.old.faults }
     {
-        self.place.enter(alloc, self.table_out)?;
-        let names = Names::new(alloc, self.host, &self.budget, self.place.path())?;
-        Ok(Arc::new(alloc, names)?)
-    }
-
-    // The table, whether or not it is there.
-    fn named_table(&self, alloc: Global) -> Result<RealDisk, AllocError>
-        ensures name { IfOk result (λ d. string_bytes d.name ≡ string_bytes self.now.name) }
-        ensures unsynced { IfOk result (λ d. d.file.unsynced ≡ self.now.unsynced) }
-    {
-        let file = RealFile::new(
-            alloc,
-            self.host,
-            self.place.table(),
-            &self.budget,
-            TABLES,
-            self.unsynced,
-        )?;
-        Ok(RealDisk {
-            name: String::from_str(alloc, self.name.as_str())?,
-            made: None,
-            file,
-            extent: 0,
-            is_synced: false,
-            faults: 0,
-        })
+        self.unsynced = unsynced;
+        self.table_out = false;
+        self.place.close();
     }
 }

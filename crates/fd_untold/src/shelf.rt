@@ -1,38 +1,32 @@
 // One writer's files in one dataset.
-ghost use Rattle.std.specs.Prelude.{◌≡◌, ◌≤◌, IfOk, None, Some, string_bytes};
 
 use crate::fault::counted;
-use crate::file::RealFile;
-use crate::unsynced::Unsynced;
-use crate::{RealDisk, RealFault, RealGathered, RealSealed};
+use crate::{Files, SystemFault, UntoldDisk};
 use fd_bytes::NoMemory;
 use fd_disk::{Down, FileKind, FileName, Shelf};
-use fd_host::{Budget, FILES, Names};
+use fd_unsynced::Writing;
 use std::alloc::{AllocError, Global};
 use std::io::{Error, ErrorKind};
-use std::sync::Arc;
 
 /// How many bytes of small writes to a file of fields are gathered.
 const GATHERED: usize = 8192;
 
 /// One writer's files in one dataset. They stand in the folder from the time when they are made.
 #[derive(Drop)]
-pub struct RealShelf {
-    pub(crate) host: HostRuntime,
+pub struct UntoldShelf<N> {
     pub(crate) name: String,
     pub(crate) folder: String,
-    pub(crate) names: Arc<Names>,
-    pub(crate) budget: Arc<Budget>,
+    pub(crate) files: N,
     pub(crate) writer: u32,
     pub(crate) faults: u64,
 }
 
-impl Shelf<RealFault> for RealShelf {
+impl<N: Files> Shelf<SystemFault> for UntoldShelf<N> {
     ghost use Rattle.std.specs.Prelude.{None, false, string_bytes};
 
-    type Sealed = RealSealed;
+    type Sealed = N::Sealed;
 
-    type File = RealGathered;
+    type File = N::Gathered;
 
     ghost kept = { λ s. None };
 
@@ -50,24 +44,37 @@ impl Shelf<RealFault> for RealShelf {
         alloc: Global,
         seq: u32,
         kind: FileKind,
-    ) -> Result<RealGathered, Down<RealFault>> {
+    ) -> Result<N::Gathered, Down<SystemFault>> {
         let made = FileName {
             writer: self.writer,
             seq,
             kind,
         };
-        let (Ok(mut disk), Ok(names)) = (self.named(alloc, made), Arc::try_clone(&self.names))
-        else {
+        let (Ok(name), Ok(path)) = (
+            String::from_str(alloc, self.name.as_str()),
+            path_of(alloc, self.folder.as_str(), made),
+        ) else {
             return Err(Down::NoMemory);
         };
-        if let Err(error) = disk.file.create(names) {
-            return Err(Down::Fault(counted(&mut self.faults, error)));
-        }
+        let Ok(device) = self.files.device(alloc, path) else {
+            return Err(Down::NoMemory);
+        };
+        let disk = match Writing::create(device) {
+            Ok(file) => UntoldDisk {
+                name,
+                made: Some(made),
+                file,
+                extent: 0,
+                is_synced: false,
+                faults: 0,
+            },
+            Err(error) => return Err(Down::Fault(counted(&mut self.faults, error))),
+        };
         let room = match kind {
             FileKind::Fields => GATHERED,
             FileKind::Index => 0,
         };
-        match RealGathered::new(alloc, disk, room) {
+        match self.files.gathered(alloc, disk, room) {
             Ok(file) => Ok(file),
             Err(_) => {
                 let error = Error::from(ErrorKind::OutOfMemory);
@@ -76,44 +83,19 @@ impl Shelf<RealFault> for RealShelf {
         }
     }
 
+    #[tactic(auto, using(crate::proofs::Keeping::untold_both))]
     fn keep(
         &mut self,
         alloc: Global,
         seq: u32,
-        fields: &RealSealed,
-        index: &RealSealed,
+        fields: &N::Sealed,
+        index: &N::Sealed,
     ) -> Result<(), NoMemory> {
         let _ = alloc;
         let _ = seq;
         let _ = fields;
         let _ = index;
         Ok(())
-    }
-}
-
-impl RealShelf {
-    // The file of this name, which isn't made yet.
-    fn named(&self, alloc: Global, file: FileName) -> Result<RealDisk, AllocError>
-        ensures name { IfOk result (λ d. string_bytes d.name ≡ string_bytes self.now.name) }
-        ensures made { IfOk result (λ d. d.made ≡ Some file) }
-    {
-        let path = path_of(alloc, self.folder.as_str(), file)?;
-        let written = RealFile::new(
-            alloc,
-            self.host,
-            path.as_str(),
-            &self.budget,
-            FILES,
-            Unsynced::made(),
-        )?;
-        Ok(RealDisk {
-            name: String::from_str(alloc, self.name.as_str())?,
-            made: Some(file),
-            file: written,
-            extent: 0,
-            is_synced: false,
-            faults: 0,
-        })
     }
 }
 

@@ -1,0 +1,154 @@
+// A dataset's folder on the host.
+ghost use Rattle.std.specs.Prelude.{◌≡◌, IfOk, None, string_bytes};
+
+use crate::device::Naming;
+use crate::{HostDevice, HostPath, RealDisk, RealFault, RealGathered, RealSealed};
+use fd_bytes::NoMemory;
+use fd_disk::{Disk, FileName};
+use fd_host::{Budget, FILES, Names, Opened, TABLES, length_of};
+use fd_untold::{Files, Ground, Place};
+use std::alloc::{AllocError, Global};
+use std::io;
+use std::sync::Arc;
+
+/// Where a shelf makes its files.
+#[derive(Drop)]
+pub struct HostFiles {
+    host: HostRuntime,
+    names: Arc<Names>,
+    budget: Arc<Budget>,
+}
+
+impl Files for HostFiles {
+    type Sealed = RealSealed;
+
+    type Device = HostDevice;
+
+    type Gathered = RealGathered;
+
+    fn device(&self, alloc: Global, path: String) -> Result<HostDevice, AllocError> {
+        let _ = alloc;
+        Ok(HostDevice {
+            host: self.host,
+            path,
+            file: None,
+            leave: None,
+            naming: Naming::Among(Arc::try_clone(&self.names)?, 0),
+            budget: Arc::try_clone(&self.budget)?,
+            most: FILES,
+            seen: None,
+        })
+    }
+
+    fn gathered(&self, alloc: Global, file: RealDisk, room: usize) -> Result<RealGathered, NoMemory>
+        ensures file { IfOk result (λ d. ⟦<RealGathered as Disk<RealFault>>⟧.file d ≡ None) }
+        ensures name { IfOk result (λ d. ⟦<RealGathered as Disk<RealFault>>⟧.name d ≡ string_bytes file.name) }
+        ensures made { IfOk result (λ d. ⟦<RealGathered as Disk<RealFault>>⟧.made d ≡ file.made) }
+    {
+        RealGathered::new(alloc, file, room)
+    }
+}
+
+/// A dataset's folder, with its table, and what this process holds of it.
+#[derive(Drop)]
+pub struct HostPlace {
+    pub(crate) host: HostRuntime,
+    pub(crate) place: fd_host::Place,
+    pub(crate) budget: Arc<Budget>,
+}
+
+impl Ground for HostPlace {
+    fn path(&self) -> &str {
+        self.place.path()
+    }
+
+    fn found(&mut self, alloc: Global, first: &[u8]) -> io::Result<()> {
+        self.place.found(alloc, first)
+    }
+
+    fn close(&mut self) {
+        self.place.close();
+    }
+
+    fn enter(&mut self, alloc: Global, is_open: bool) -> io::Result<()> {
+        self.place.enter(alloc, is_open)
+    }
+
+    fn claim(&mut self, alloc: Global) -> io::Result<()> {
+        self.place.claim(alloc)
+    }
+
+    fn replace(&mut self, bytes: &[u8]) -> io::Result<()> {
+        self.place.replace(bytes)
+    }
+
+    fn unlist(&self) -> io::Result<()> {
+        self.place.unlist()
+    }
+
+    fn remove(&self, path: &str) -> io::Result<()> {
+        self.place.remove(path)
+    }
+
+    fn length_of(&self, path: &str) -> io::Result<Option<u64>> {
+        length_of(self.host, path)
+    }
+}
+
+impl Place for HostPlace {
+    type Sealed = RealSealed;
+
+    type Device = HostDevice;
+
+    type Files = HostFiles;
+
+    fn table(&self, alloc: Global) -> Result<HostDevice, AllocError> {
+        Ok(HostDevice {
+            host: self.host,
+            path: String::from_str(alloc, self.place.table())?,
+            file: None,
+            leave: None,
+            naming: Naming::Firm,
+            budget: Arc::try_clone(&self.budget)?,
+            most: TABLES,
+            seen: None,
+        })
+    }
+
+    fn open(&mut self, alloc: Global, table: &mut HostDevice) -> io::Result<Option<bool>> {
+        let Some(opened) = self.place.open(alloc)? else {
+            return Ok(None);
+        };
+        let Opened {
+            file,
+            folder,
+            seen,
+            is_new,
+        } = opened;
+        table.file = Some(file);
+        table.naming = Naming::Alone(folder);
+        table.seen = Some(seen);
+        Ok(Some(is_new))
+    }
+
+    fn files(&self, alloc: Global) -> io::Result<HostFiles> {
+        let names = Names::new(alloc, self.host, &self.budget, self.place.path())?;
+        Ok(HostFiles {
+            host: self.host,
+            names: Arc::new(alloc, names)?,
+            budget: Arc::try_clone(&self.budget)?,
+        })
+    }
+
+    fn sealed(&self, path: String, name: String, made: FileName, len: u64) -> RealSealed {
+        RealSealed {
+            path: HostPath {
+                host: self.host,
+                path,
+            },
+            name,
+            made: Some(made),
+            len,
+        }
+    }
+}
