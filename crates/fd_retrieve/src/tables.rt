@@ -7,7 +7,7 @@ ghost use Rattle.fd_schema.specs.Seen.{texts};
 ghost use Rattle.fd_outcome.specs.Store.{Stays, has_table};
 ghost use Rattle.fd_retrieve.specs.Looking.{IsLookedThrough};
 ghost use Rattle.fd_telling.specs.Stops.{NotRefused, OnTooMany};
-ghost use Rattle.fd_retrieve.specs.Tables.{AreTables, MayAdd, datasets_in};
+ghost use Rattle.fd_retrieve.specs.Tables.{AreTables, MayAdd, MayNote, datasets_in};
 
 use fd_disk::{Down, Folder, Store};
 use fd_schema::Place;
@@ -28,6 +28,7 @@ pub fn tables_of<F: Send, S: Store<F>>(
     ensures tables { IfOk result (λ v. IfSome (S.has store.old) (λ h. AreTables h (datasets_in places.now) (texts v.items))) }
     ensures few { IfOk result (λ v. length v.items ≤ 2048) }
     ensures too_many { IfErr result (λ e. OnTooMany e (IfSome (S.has store.old) (λ h. 2048 < count_distinct (filter (has_table h) (datasets_in places.now))))) }
+    ensures many { IfErr result (λ e. OnTooMany e (2048 < count_distinct (datasets_in places.now))) }
     ensures stops { IfErr result (NotRefused) }
     ensures stays { WhereTold (S.has store.old) (S.has store.new) Stays }
     ensures looks { WhereTold (S.has store.old) (S.has store.new) IsLookedThrough }
@@ -56,6 +57,8 @@ fn add_table<F: Send, S: Store<F>>(
     ensures few { length names.new.items ≤ 2048 }
     ensures added { OnOk result (IfSome (S.has store.old) (λ h. MayAdd h (texts names.old.items) (seen_place place.now).dataset (texts names.new.items))) }
     ensures too_many { IfErr result (λ e. OnTooMany e (IfSome (S.has store.old) (λ h. (length names.old.items ≡ 2048) × (is_among (texts names.old.items) (seen_place place.now).dataset ≡ false) × (has_table h (seen_place place.now).dataset ≡ true)))) }
+    ensures noted { OnOk result (MayNote (texts names.old.items) (seen_place place.now).dataset (texts names.new.items)) }
+    ensures full { IfErr result (λ e. OnTooMany e ((length names.old.items ≡ 2048) × (is_among (texts names.old.items) (seen_place place.now).dataset ≡ false))) }
     ensures stops { IfErr result (NotRefused) }
     ensures stays { WhereTold (S.has store.old) (S.has store.new) Stays }
     ensures looks { WhereTold (S.has store.old) (S.has store.new) IsLookedThrough }
