@@ -13,9 +13,13 @@ use fd_disk::{Down, Folder, Store};
 use fd_schema::Place;
 use fd_telling::Stop;
 use std::alloc::Global;
+use std::collections::BTreeMap;
 
 /// How many datasets may be opened.
 const MOST: usize = 2048;
+
+/// Where names stand in their list.
+type Noted = BTreeMap<String, usize>;
 
 /// The datasets of the places that have a table, each once, in the order in which they are first met. `TooMany` comes
 /// exactly where they are more than may be opened.
@@ -36,8 +40,9 @@ pub fn tables_of<F: Send, S: Store<F>>(
     ensures later { S.faults store.old ≤ S.faults store.new }
 {
     let mut names = Vec::new(alloc);
+    let mut noted = BTreeMap::new(alloc);
     for i in 0..places.len() {
-        match add_table(alloc, store, &mut names, &places[i]) {
+        match add_table(alloc, store, &mut names, &mut noted, &places[i]) {
             Ok(()) => {}
             Err(stop) => return Err(stop),
         }
@@ -50,6 +55,7 @@ fn add_table<F: Send, S: Store<F>>(
     alloc: Global,
     store: &mut S,
     names: &mut Vec<String>,
+    noted: &mut Noted,
     place: &Place,
 ) -> Result<(), Stop<F>>
     requires home { (n : List ℕ) → S.out store.old n ≡ false }
@@ -66,7 +72,7 @@ fn add_table<F: Send, S: Store<F>>(
     ensures later { S.faults store.old ≤ S.faults store.new }
 {
     let name = place.dataset.as_str();
-    if is_one_of(names, name) {
+    if is_known(names, noted, name) {
         return Ok(());
     }
     match has_table(alloc, store, name) {
@@ -81,10 +87,42 @@ fn add_table<F: Send, S: Store<F>>(
     let Ok(text) = String::from_str(alloc, name) else {
         return Err(Stop::NoMemory);
     };
+    note(alloc, noted, name, names.len());
     match names.push(text) {
         Ok(()) => Ok(()),
         Err(_) => Err(Stop::NoMemory),
     }
+}
+
+/// Notes where a name will stand. Where memory is refused for it, the name is looked for among all.
+fn note(alloc: Global, noted: &mut Noted, name: &str, place: usize) {
+    if let Ok(text) = String::from_str(alloc, name) {
+        let _ = noted.insert(text, place);
+    }
+}
+
+/// Tells that one of the names is this text, which is looked for first where it was noted.
+fn is_known(names: &[String], noted: &Noted, text: &str) -> bool
+    ensures { result ≡ is_among (texts names.now) text.now }
+{
+    if is_where_noted(names, noted, text) {
+        return true;
+    }
+    is_one_of(names, text)
+}
+
+/// Tells that the name that stands where this text was noted is it.
+fn is_where_noted(names: &[String], noted: &Noted, text: &str) -> bool
+    ensures { result ≡ true → is_among (texts names.now) text.now ≡ true }
+{
+    let Some(place) = noted.get(text) else {
+        return false;
+    };
+    let place = *place;
+    if place < names.len() {
+        return text == names[place].as_str();
+    }
+    false
 }
 
 /// Tells that one of the names is this text.
