@@ -15,7 +15,7 @@ use std::alloc::Global;
 /// Has the table of a dataset list only entries that no later ones mask, removes the files of the others, and tells how many
 /// these are: `purged d kept k`. Each key keeps its newest message. The input isn't read, and nothing goes to the output. No
 /// folder of the store is out, and none is out afterwards.
-pub fn purge<F: Send + Drop, X: Drop, S: Store<F>, E: Sink<X>>(
+pub fn purge<F: Send, X: Drop, S: Store<F>, E: Sink<X>>(
     alloc: Global,
     root: &Root,
     dataset: &Dataset,
@@ -37,7 +37,7 @@ where
 
 /// Takes away the table of a dataset and the files of its entries, and tells how many entries there were: `wiped n`. The input
 /// isn't read, and nothing goes to the output. No folder of the store is out, and none is out afterwards.
-pub fn wipe<F: Send + Drop, X: Drop, S: Store<F>, E: Sink<X>>(
+pub fn wipe<F: Send, X: Drop, S: Store<F>, E: Sink<X>>(
     alloc: Global,
     root: &Root,
     dataset: &Dataset,

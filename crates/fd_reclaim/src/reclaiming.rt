@@ -27,7 +27,7 @@ fn ruled<F: Send, S: Store<F>>(alloc: Global, root: &str, store: &mut S) -> Resu
 }
 
 /// Purges a dataset of a store that has a schema, and leaves every other.
-pub(crate) fn purged<F: Send + Drop, S: Store<F>>(
+pub(crate) fn purged<F: Send, S: Store<F>>(
     alloc: Global,
     root: &str,
     store: &mut S,
@@ -55,7 +55,7 @@ where
 }
 
 /// Wipes a dataset of a store that has a schema, and leaves every other. Answers how many entries there were.
-pub(crate) fn wiped<F: Send + Drop, S: Store<F>>(
+pub(crate) fn wiped<F: Send, S: Store<F>>(
     alloc: Global,
     root: &str,
     store: &mut S,

@@ -62,7 +62,7 @@ fn tell_writers<X: Drop, E: Sink<X>>(
 }
 
 /// Writes why the dataset isn't purged or wiped. A fault of the store is counted.
-pub(crate) fn tell_halt<F: Send + Drop, X: Drop, S: Store<F>, E: Sink<X>>(
+pub(crate) fn tell_halt<F: Send, X: Drop, S: Store<F>, E: Sink<X>>(
     alloc: Global,
     store: &mut S,
     report: &mut E,

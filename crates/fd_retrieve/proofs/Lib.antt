@@ -1,6 +1,7 @@
 pub mod Staying
 pub mod Looking
 pub mod TableLemmas
+pub mod Distinct
 pub mod OpenLemmas
 pub mod Undamaged
 pub mod DatasetLemmas

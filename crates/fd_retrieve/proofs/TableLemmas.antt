@@ -15,13 +15,13 @@ or_false : (b : Bool) → (b || false) ≡ b
 or_false true = refl
 or_false false = refl
 
-among_push : (xs : List (List ℕ)) (x n : List ℕ) → is_among (xs ++ x ∷ []) n ≡ (is_among xs n || bytes_eq n x)
+pub among_push : (xs : List (List ℕ)) (x n : List ℕ) → is_among (xs ++ x ∷ []) n ≡ (is_among xs n || bytes_eq n x)
 among_push xs x n = list_any-append (λ m. bytes_eq n m) xs (x ∷ []) ∙ ap (λ b. is_among xs n || b) (or_false (bytes_eq n x))
 
 one_more : Bool → ℕ
 one_more b = if b then 0 else 1
 
-count_push : (xs : List (List ℕ)) (x : List ℕ) → count_distinct (xs ++ x ∷ []) ≡ count_distinct xs + (if is_among xs x then 0 else 1)
+pub count_push : (xs : List (List ℕ)) (x : List ℕ) → count_distinct (xs ++ x ∷ []) ≡ count_distinct xs + (if is_among xs x then 0 else 1)
 count_push [] x = refl
 count_push (n ∷ ns) x = (elim (bytes_eq n x) as (λ b. bytes_eq n x ≡ b → count_distinct (n ∷ ns ++ x ∷ []) ≡ count_distinct (n ∷ ns) + (if is_among (n ∷ ns) x then 0 else 1)) [
   | true ↦ λ same.
@@ -59,7 +59,7 @@ count_push (n ∷ ns) x = (elim (bytes_eq n x) as (λ b. bytes_eq n x ≡ b → 
     later_is later true b e f = let g = ap (λ c. count_distinct ns + (if c then 0 else 1)) (f ∙ sym e) in omega (arith, later, g)
     later_is later false b e f = let g = ap (λ c. count_distinct ns + (if c then 0 else 1)) (f ∙ sym e) in omega (arith, later, g)
 
-count_more : (xs ys : List (List ℕ)) → count_distinct xs ≤ count_distinct (xs ++ ys)
+pub count_more : (xs ys : List (List ℕ)) → count_distinct xs ≤ count_distinct (xs ++ ys)
 count_more xs [] = let e = ap count_distinct (append-nil xs) in omega (arith, e)
 count_more xs (y ∷ ys) =
     let e = ap count_distinct (append_assoc xs (y ∷ []) ys) in

@@ -20,3 +20,14 @@ abbrev pub MayAdd : Holdings → List (List ℕ) → List ℕ → List (List ℕ
 MayAdd h names name after =
     ((is_among names name ≡ false) × (has_table h name ≡ true) × (after ≡ names ++ name ∷ []))
     ⊎ (((is_among names name ≡ true) ⊎ (has_table h name ≡ false)) × (after ≡ names))
+
+-- ---- whatever the store tells
+
+-- the names are some of the datasets, each once
+pub record AreSome (datasets names : List (List ℕ)) : Type 0 where
+  pub within : (name : List ℕ) → is_among names name ≡ true → is_among datasets name ≡ true
+  pub apart : count_distinct names ≡ length names
+
+-- the name was added, and wasn't among the names; or they are as before
+abbrev pub MayNote : List (List ℕ) → List ℕ → List (List ℕ) → Type 0
+MayNote names name after = ((is_among names name ≡ false) × (after ≡ names ++ name ∷ [])) ⊎ (after ≡ names)

@@ -73,6 +73,7 @@ where
     // A fault of the store, damage, too many datasets and want of memory are all that is told.
     ensures of { IfErr result IsOfKeys }
     ensures too_many { IfErr result (λ e. OnTooMany e (IfSome (S.has store.old) (λ h. 2048 < count_distinct (filter (has_table h) (datasets_in places.now))))) }
+    ensures many { IfErr result (λ e. OnTooMany e (2048 < count_distinct (datasets_in places.now))) }
     ensures stays { WhereTold (S.has store.old) (S.has store.new) Stays }
     ensures looks { WhereTold (S.has store.old) (S.has store.new) IsLookedThrough }
     ensures home { (n : List ℕ) → S.out store.new n ≡ false }

@@ -37,7 +37,7 @@ pub(crate) struct Ready<F: Send, Z: Sealed<F>> {
 }
 
 /// Reads the request, and opens the datasets of its keys. Each is given back.
-pub(crate) fn prepared<F: Send + Drop, X: Drop, S: Store<F>, I: Source<X>>(
+pub(crate) fn prepared<F: Send, X: Drop, S: Store<F>, I: Source<X>>(
     alloc: Global,
     root: &str,
     store: &mut S,
@@ -114,7 +114,7 @@ fn placed<F: Send, X: Drop, S: Store<F>, I: Source<X>>(
 }
 
 /// Opens the datasets of these names, and gives each back.
-pub fn open_all<F: Send + Drop, S: Store<F>>(
+pub fn open_all<F: Send, S: Store<F>>(
     alloc: Global,
     store: &mut S,
     names: &[String],
@@ -141,7 +141,7 @@ where
 }
 
 /// Opens one dataset more, where it has a table, and gives it back.
-fn open_more<F: Send + Drop, S: Store<F>>(
+fn open_more<F: Send, S: Store<F>>(
     alloc: Global,
     store: &mut S,
     opened: &mut Vec<Opened<F, <S::Folder as Folder<F>>::Sealed>>,
@@ -169,7 +169,7 @@ where
 }
 
 /// Why a dataset isn't opened.
-pub fn unopened<F: Drop>(alloc: Global, name: &str, fault: OpenFault<F>) -> Stop<F>
+pub fn unopened<F>(alloc: Global, name: &str, fault: OpenFault<F>) -> Stop<F>
     requires { NotTooMany fault }
     ensures is { IsUnopened name.now fault result }
     ensures of { OfDataset result }

@@ -50,7 +50,7 @@ fn tell_schema<X: Drop, E: Sink<X>>(
 
 /// Stores the input as the schema of a store that has none. Where it has one, nothing of the input is read; and whatever is
 /// told, the store is the same but for the whole input as its schema.
-pub fn create<F: Send + Drop, X: Drop, S: Store<F>, I: Source<X>, E: Sink<X>>(
+pub fn create<F: Send, X: Drop, S: Store<F>, I: Source<X>, E: Sink<X>>(
     alloc: Global,
     root: &Root,
     store: &mut S,
@@ -65,19 +65,25 @@ pub fn create<F: Send + Drop, X: Drop, S: Store<F>, I: Source<X>, E: Sink<X>>(
 {
     match store.enter(alloc, root.as_str()) {
         Ok(()) => {}
-        Err(Down::Fault(_)) => return tell_disk_failed(report),
+        Err(Down::Fault(fault)) => {
+            store.note(fault);
+            return tell_disk_failed(report);
+        }
         Err(Down::NoMemory) => return tell_no_memory(report),
     }
     match store.schema(alloc) {
         Ok(None) => plant(alloc, root, store, input, report),
         Ok(Some(_)) => tell(report, "refused SchemaPresent\n", Status::Refused),
-        Err(Down::Fault(_)) => tell_disk_failed(report),
+        Err(Down::Fault(fault)) => {
+            store.note(fault);
+            tell_disk_failed(report)
+        }
         Err(Down::NoMemory) => tell_no_memory(report),
     }
 }
 
 /// The same, where the store has none.
-fn plant<F: Send + Drop, X: Drop, S: Store<F>, I: Source<X>, E: Sink<X>>(
+fn plant<F: Send, X: Drop, S: Store<F>, I: Source<X>, E: Sink<X>>(
     alloc: Global,
     root: &Root,
     store: &mut S,
@@ -102,7 +108,10 @@ fn plant<F: Send + Drop, X: Drop, S: Store<F>, I: Source<X>, E: Sink<X>>(
     }
     match store.plant(alloc, &text) {
         Ok(()) => tell(report, "created\n", Status::Done),
-        Err(Down::Fault(_)) => tell_disk_failed(report),
+        Err(Down::Fault(fault)) => {
+            store.note(fault);
+            tell_disk_failed(report)
+        }
         Err(Down::NoMemory) => tell_no_memory(report),
     }
 }

@@ -22,7 +22,7 @@ use fd_segment::Damage;
 use std::alloc::{AllocError, Global};
 
 /// Writes the line of what isn't answered. A fault of the store is counted.
-pub fn tell_stop<F: Send + Drop, X: Drop, S: Store<F>, E: Sink<X>>(
+pub fn tell_stop<F: Send, X: Drop, S: Store<F>, E: Sink<X>>(
     alloc: Global,
     store: &mut S,
     report: &mut E,

@@ -1,5 +1,5 @@
 -- From what the store's calls say to the exits of `trial`.
-use Rattle.std.proofs.Common.{◌≡◌, ◌∙◌, ◌≤◌, ℕ, true, List, [], ◌∷◌, ◌++◌, Option, Some, None, refl, sym, ap, subst, length, map}
+use Rattle.std.proofs.Common.{◌≡◌, ◌∙◌, ◌≤◌, ℕ, true, List, [], ◌∷◌, ◌++◌, Option, Some, None, refl, sym, ap, arith, subst, length, map}
 use Rattle.std.specs.Prelude.{IfSome, Contains, codes}
 use Rattle.std.specs.Fmt.{decimal}
 use Rattle.fd_disk.specs.Folders.{Contents, Holdings, WhereTold, folder_at}
@@ -9,7 +9,7 @@ use Rattle.fd_schema.specs.declared.place.Place.{Place}
 use Rattle.fd_schema.specs.Reading.{seen_place}
 use Rattle.fd_schema.specs.Rules.{Rule, Texts}
 use Rattle.fd_outcome.specs.Archiving.{Stored, datasets_in, pairs_for, taken}
-use Rattle.fd_outcome.specs.Asking.{is_among}
+use Rattle.fd_outcome.specs.Asking.{count_distinct, is_among}
 use Rattle.fd_outcome.specs.Outcome.{are_told, generated_messages}
 use Rattle.fd_outcome.specs.Causes.{Broken}
 use Rattle.fd_outcome.specs.Store.{AddsAll, Grows, GrowsBy, Stands, Stays, StaysFolder, StayFolders, table_at}
@@ -21,7 +21,7 @@ use Rattle.fd_retrieve.proofs.Staying.{same_at, stands_before}
 use Rattle.fd_trial.specs.Asking.{Begins, IsTried}
 use Rattle.fd_trial.specs.Placed.{ArePlaced}
 use Rattle.fd_trial.proofs.Finding.{among_stored, finds_stored}
-use Rattle.fd_trial.proofs.Keeping.{AreStored, places_stored}
+use Rattle.fd_trial.proofs.Keeping.{AreStored, few_stored, places_stored, stored_datasets}
 use Rattle.fd_trial.proofs.TrialExits.{Since, folders_stay}
 
 -- ---- through a store between two
@@ -108,6 +108,15 @@ module _ (count workers : ℕ) (rules : List Rule) where
     datasets_are : (places : List Place) → map (λ (p : Texts). p.dataset) (map seen_place places) ≡ tables.datasets_in places
     datasets_are [] = refl
     datasets_are (p ∷ qs) = ap (λ ds. (seen_place p).dataset ∷ ds) (datasets_are qs)
+
+    -- they are few enough to be opened
+    pub few_asked : (places : List Place) → ps ≡ map seen_place places → count_distinct (tables.datasets_in places) ≤ 2048
+    few_asked places same =
+        let sorted = stored_datasets ps stored are in
+        let datasets : tables.datasets_in places ≡ datasets_in stored = sym (datasets_are places) ∙ (ap (λ (qs : List Texts). map (λ (p : Texts). p.dataset) qs) (sym same) ∙ sorted) in
+        let many = ap count_distinct datasets in
+        let most = few_stored rules trial_given count few none in
+        omega (arith, many, most)
 
     stands_after : (name : List ℕ) (v w : Contents) (b : Broken) → StaysFolder name v w → Stands name v b → Stands name w b
     stands_after name v w b s x = stands_before name w v b (record { table = sym s.table; files = λ n. sym (s.files n) }) x

@@ -26,7 +26,7 @@ use Rattle.fd_outcome.specs.Trying.{trial_given, trial_rules}
 use Rattle.fd_retrieve.specs.Counting.{IsBrokenAmong, IsOfKeys}
 use Rattle.fd_telling.specs.declared.stop.Stop.{Stop}
 use Rattle.fd_telling.specs.declared.stop.Stop.TheVariants as stops
-use Rattle.fd_telling.specs.Stops.{OnDisk, seen_broken}
+use Rattle.fd_telling.specs.Stops.{OnDisk, OnTooMany, ToldStop, seen_broken}
 use Rattle.fd_retrieve.specs.Tables as tables
 use Rattle.fd_bulk.specs.Archived as bulk
 use Rattle.fd_bulk.specs.Archived.{IsFront}
@@ -38,7 +38,7 @@ use Rattle.fd_archive.specs.Kept.{InputKept, RefusedKept, WholeKept}
 use Rattle.fd_archive.proofs.Growing.{grows_front, grows_of}
 use Rattle.fd_trial.specs.Asking.{Begins}
 use Rattle.fd_trial.specs.Placed.{ArePlaced}
-use Rattle.fd_trial.specs.Telling.{ToldUnfound, ToldUnstored}
+use Rattle.fd_trial.specs.Telling.{ToldUnstored}
 use Rattle.fd_trial.proofs.Stepping.{asked, broken_told, grown, through, where_told}
 use Rattle.fd_trial.proofs.TrialExits.{Out, Since, broken_later_ran, broken_ran, cause_ran, disk_ran, full_ran, starved_ran}
 
@@ -52,19 +52,19 @@ module _ (root : List ℕ) (count workers : ℕ) (start mid now : Option Holding
   -- ---- when keys are asked for
 
   pub asked_stop : {F : Type 0} → (few : count ≤ 100000) (places : List Place) → ArePlaced rules trial_given 0 (map seen_place places) → length (map seen_place places) ≡ count → Begins workers rules count start mid → WhereTold mid now Stays
-      → (stop : Stop F) → ToldUnfound stop result report.before report.now report.faults_before report.faults_now → IsOfKeys stop → IfSome mid (λ h. IsBrokenAmong stop h (tables.datasets_in places)) → OnDisk stop (Rose sm sn) → Goal
-  asked_stop few places placed long begins stays (stops.Disk f) told of broken rose = disk_ran root count workers start now sm sn left l a k report result rules (grown count workers rules start now (asked count workers rules start mid now begins stays)) rose told
-  asked_stop few places placed long begins stays stops.TooMany told of broken rose = starved_ran root count workers start now sm sn left l a k report result rules (grown count workers rules start now (asked count workers rules start mid now begins stays)) told
-  asked_stop few places placed long begins stays stops.NoMemory told of broken rose = starved_ran root count workers start now sm sn left l a k report result rules (grown count workers rules start now (asked count workers rules start mid now begins stays)) told
-  asked_stop few places placed long begins stays (stops.Broken dataset b) told of broken rose =
+      → (stop : Stop F) → ToldStop stop result report.before report.now report.faults_before report.faults_now → OnTooMany stop ⊥ → IsOfKeys stop → IfSome mid (λ h. IsBrokenAmong stop h (tables.datasets_in places)) → OnDisk stop (Rose sm sn) → Goal
+  asked_stop few places placed long begins stays (stops.Disk f) told never of broken rose = disk_ran root count workers start now sm sn left l a k report result rules (grown count workers rules start now (asked count workers rules start mid now begins stays)) rose told
+  asked_stop few places placed long begins stays stops.TooMany told never of broken rose = absurd never
+  asked_stop few places placed long begins stays stops.NoMemory told never of broken rose = starved_ran root count workers start now sm sn left l a k report result rules (grown count workers rules start now (asked count workers rules start mid now begins stays)) told
+  asked_stop few places placed long begins stays (stops.Broken dataset b) told never of broken rose =
       broken_later_ran root count workers start now sm sn left l a k report result rules (string_bytes dataset) (seen_broken b)
       (broken_told count workers rules (map seen_place places) few placed long begins.none places refl (string_bytes dataset) (seen_broken b) start mid now begins stays broken) told
-  asked_stop few places placed long begins stays stops.Input told of broken rose = absurd of
-  asked_stop few places placed long begins stays stops.Missing told of broken rose = absurd of
-  asked_stop few places placed long begins stays (stops.Schema number kind) told of broken rose = absurd of
-  asked_stop few places placed long begins stays (stops.Request at kind) told of broken rose = absurd of
-  asked_stop few places placed long begins stays (stops.NoRule text) told of broken rose = absurd of
-  asked_stop few places placed long begins stays (stops.NoLayer layer text) told of broken rose = absurd of
+  asked_stop few places placed long begins stays stops.Input told never of broken rose = absurd of
+  asked_stop few places placed long begins stays stops.Missing told never of broken rose = absurd of
+  asked_stop few places placed long begins stays (stops.Schema number kind) told never of broken rose = absurd of
+  asked_stop few places placed long begins stays (stops.Request at kind) told never of broken rose = absurd of
+  asked_stop few places placed long begins stays (stops.NoRule text) told never of broken rose = absurd of
+  asked_stop few places placed long begins stays (stops.NoLayer layer text) told never of broken rose = absurd of
 
   -- ---- when messages are stored
 

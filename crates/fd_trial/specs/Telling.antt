@@ -7,16 +7,8 @@ use Rattle.fd_outcome.specs.declared.status.Status.TheVariants.{NoMemory}
 use Rattle.fd_bulk.specs.declared.bulk.BulkFault.{BulkFault}
 use Rattle.fd_bulk.specs.declared.bulk.BulkFault.TheVariants as faults
 use Rattle.fd_archive.specs.Telling.{ToldFault}
-use Rattle.fd_telling.specs.declared.stop.Stop.{Stop}
-use Rattle.fd_telling.specs.declared.stop.Stop.TheVariants as stops
-use Rattle.fd_telling.specs.Stops.{ToldStop}
 
 -- a message that can't be made is want of memory
 abbrev pub ToldUnstored : {X : Type 0} → BulkFault X → Status → Option (List ℕ) → Option (List ℕ) → ℕ → ℕ → Type 0
 ToldUnstored (faults.Input f) result c d m n = Told NoMemory no_memory result c d m n
 ToldUnstored fault result c d m n = ToldFault fault result c d m n
-
--- too many datasets never come, and are told as want of memory
-abbrev pub ToldUnfound : {F : Type 0} → Stop F → Status → Option (List ℕ) → Option (List ℕ) → ℕ → ℕ → Type 0
-ToldUnfound stops.TooMany result c d m n = Told NoMemory no_memory result c d m n
-ToldUnfound stop result c d m n = ToldStop stop result c d m n

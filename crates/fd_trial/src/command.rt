@@ -1,5 +1,5 @@
 //! `trial`.
-ghost use Rattle.std.specs.Prelude.{◌≡◌, ◌⊎◌, ◌≤◌, ◌++◌, false, codes, List, ℕ, Ok, Option, IfOk, IfSome, string_bytes};
+ghost use Rattle.std.specs.Prelude.{◌≡◌, ◌⊎◌, ◌≤◌, ◌++◌, None, false, codes, List, ℕ, Ok, Option, IfOk, IfSome, string_bytes};
 ghost use Rattle.std.specs.Fmt.{decimal};
 ghost use Rattle.fd_disk.specs.Folders.{Holdings, WhereTold};
 ghost use Rattle.fd_listing.specs.Lines.{line};
@@ -13,13 +13,11 @@ ghost use Rattle.fd_outcome.specs.Outcome.{generated_messages};
 ghost use Rattle.fd_outcome.specs.Ran.{Ran};
 ghost use Rattle.fd_outcome.specs.Told.{ToldOrNoMemory};
 ghost use Rattle.fd_outcome.specs.Trying.{trial_given, trial_rules};
-ghost use Rattle.fd_bytes.specs.Causes.{Rose};
-ghost use Rattle.fd_telling.specs.Stops.{OnDisk};
 ghost use Rattle.fd_archive.specs.Crashing.{OutlastsCrash, OutlastsTrial};
 ghost use Rattle.fd_archive.specs.Kept.{NoneDamaged};
 ghost use Rattle.fd_retrieve.specs.Looking.{IsLookedThrough};
 ghost use Rattle.fd_trial.specs.Asking.{Begins};
-ghost use Rattle.fd_trial.specs.Telling.{ToldUnfound, ToldUnstored};
+ghost use Rattle.fd_trial.specs.Telling.{ToldUnstored};
 
 use crate::made::{MadeMessages, Unmade};
 use crate::places::places_of;
@@ -29,11 +27,11 @@ use fd_bulk::BulkFault;
 use fd_bytes::NoMemory;
 use fd_disk::Store;
 use fd_io::{Gate, Sink};
-use fd_key::Given;
+use fd_key::{Given, GivenFault};
 use fd_outcome::{Status, tell, tell_disk_failed, tell_no_memory};
 use fd_retrieve::{Counted, count_found};
 use fd_schema::Schema;
-use fd_telling::{Stop, tell_schema, tell_stop};
+use fd_telling::{tell_schema, tell_stop};
 use fd_words::Root;
 use std::alloc::{AllocError, Global};
 use std::sync::Wait;
@@ -45,7 +43,10 @@ fn given(alloc: Global) -> Result<Given, NoMemory>
 {
     match Given::read(alloc, "class=od,expver=0001") {
         Ok(given) => Ok(given),
-        Err(_) => Err(NoMemory),
+        Err(GivenFault::Pair { at: _ }) => unreachable!(),
+        Err(GivenFault::Clash(_)) => unreachable!(),
+        Err(GivenFault::Twice(_)) => unreachable!(),
+        Err(GivenFault::NoMemory) => Err(NoMemory),
     }
 }
 
@@ -149,26 +150,7 @@ fn tell_unstored<X: Drop, E: Sink<X>>(
     }
 }
 
-/// Writes the line of why the keys weren't asked for. What was stored is in few enough datasets to be opened, so that these are
-/// never too many.
-fn tell_unfound<F: Send + Drop, X: Drop, S: Store<F>, E: Sink<X>>(
-    alloc: Global,
-    store: &mut S,
-    report: &mut E,
-    stop: Stop<F>,
-) -> Status
-    ensures told { ToldUnfound stop result (E.taken report.old) (E.taken report.new) (E.faults report.old) (E.faults report.new) }
-    ensures noted { OnDisk stop (Rose (S.faults store.old) (S.faults store.new)) }
-    ensures has { S.has store.new ≡ S.has store.old }
-    ensures out { S.out store.new ≡ S.out store.old }
-{
-    match stop {
-        Stop::TooMany => tell_no_memory(report),
-        stop => tell_stop(alloc, store, report, stop),
-    }
-}
-
-/// Asks for the keys of the messages that were stored.
+/// Asks for the keys of the messages that were stored. These are in few enough datasets to be opened.
 fn ask<F: Send + Drop, X: Drop, S: Store<F>, E: Sink<X>, G: Gate, R: Threads + Wait + Sync>(
     rt: &R,
     alloc: Global,
@@ -185,6 +167,7 @@ where
     requires workers { (1 ≤ workers) × (workers ≤ 8) }
     requires home { (name : List ℕ) → S.out store.old name ≡ false }
     requires given { given.now ≡ trial_given }
+    requires stored { (taken schema.now given.now (generated_messages count)).refusal ≡ None }
     ensures ran { (root : List ℕ) (start : Option Holdings) (faults : ℕ) (left : Option (List ℕ)) (l : ℕ) (a : Option (List ℕ)) (k : ℕ) → faults ≤ S.faults store.old
         → Begins workers schema.now count start (S.has store.old)
         → Ran (Trial root count workers) result (object start (S.has store.new) faults (S.faults store.new)) (object left left l l) (object a a k k) (object (E.taken report.old) (E.taken report.new) (E.faults report.old) (E.faults report.new)) }
@@ -196,7 +179,7 @@ where
     };
     match count_found(rt, alloc, store, &places, workers, gate) {
         Ok(counted) => tell_counted(alloc, report, count, counted),
-        Err(stop) => tell_unfound(alloc, store, report, stop),
+        Err(stop) => tell_stop(alloc, store, report, stop),
     }
 }
 

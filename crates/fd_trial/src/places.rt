@@ -1,42 +1,75 @@
 //! The places of messages that are made up.
-ghost use Rattle.std.specs.Prelude.{◌≡◌, ◌≤◌, ◌<◌, map, IfOk, length};
+ghost use Rattle.std.specs.Prelude.{◌≡◌, ◌≤◌, ◌<◌, None, List, Ok, Some, map, IfOk, length};
+ghost use Rattle.fd_sections.specs.Parts.{sections_of};
+ghost use Rattle.fd_key.specs.Keys.{key_of};
+ghost use Rattle.fd_key.specs.Pairs.{Pair};
 ghost use Rattle.fd_schema.specs.Reading.{seen_place};
+ghost use Rattle.fd_schema.specs.Rules.{Texts, place_from};
+ghost use Rattle.fd_outcome.specs.Archiving.{taken};
+ghost use Rattle.fd_outcome.specs.Outcome.{generated_messages};
 ghost use Rattle.fd_trial.specs.Placed.{ArePlaced, IsPlacedAt};
 
 use fd_bytes::NoMemory;
 use fd_gen::generated;
-use fd_key::{Given, key_of};
-use fd_schema::{Place, Schema};
-use fd_sections::message;
+use fd_key::{Given, Key, KeyFault, key_of};
+use fd_schema::{Place, PlaceFault, Schema};
+use fd_sections::{Message, message};
 use std::alloc::Global;
 
-/// The place of the generated message of this number, with these given pairs in its key. A message that was stored has a key
-/// and a place, so that nothing but want of memory ends the search for them.
-fn place_of(alloc: Global, schema: &Schema, given: &Given, i: u64) -> Result<Place, NoMemory>
-    requires { i < 100000 }
-    ensures { IfOk result (λ p. IsPlacedAt schema.now given.now i (seen_place p)) }
+/// The key of a message that has one.
+fn key_in(alloc: Global, message: &Message<'_>, given: &Given) -> Result<Key, NoMemory>
+    requires { (key : List Pair) × (key_of (sections_of message.now) given.now ≡ Ok key) }
+    ensures { IfOk result (λ k. key_of (sections_of message.now) given.now ≡ Ok k) }
 {
-    let octets = generated(alloc, i)?;
-    let Ok(message) = message(&octets) else {
-        return Err(NoMemory);
-    };
-    let Ok(key) = key_of(alloc, &message, given) else {
-        return Err(NoMemory);
-    };
-    match schema.place(alloc, &key) {
-        Ok(place) => Ok(place),
-        Err(_) => Err(NoMemory),
+    match key_of(alloc, message, given) {
+        Ok(key) => Ok(key),
+        Err(KeyFault::Product(_)) => unreachable!(),
+        Err(KeyFault::ProductLength { said: _ }) => unreachable!(),
+        Err(KeyFault::BadDate) => unreachable!(),
+        Err(KeyFault::KeyTooLong { len: _ }) => unreachable!(),
+        Err(KeyFault::NoMemory) => Err(NoMemory),
     }
 }
 
-/// The places of the first so many generated messages, in their order.
+/// The place of a key that has one.
+fn place_in(alloc: Global, schema: &Schema, key: &Key) -> Result<Place, NoMemory>
+    requires { (t : Texts) × (place_from 0 schema.now key.now ≡ Some t) }
+    ensures { IfOk result (λ p. place_from 0 schema.now key.now ≡ Some (seen_place p)) }
+{
+    match schema.place(alloc, key) {
+        Ok(place) => Ok(place),
+        Err(PlaceFault::NoRule) => unreachable!(),
+        Err(PlaceFault::NoMemory) => Err(NoMemory),
+    }
+}
+
+/// The place of the generated message of this number, with these given pairs in its key. It has one.
+fn place_of(alloc: Global, schema: &Schema, given: &Given, i: u64) -> Result<Place, NoMemory>
+    requires few { i < 100000 }
+    requires placed { (p : Texts) × IsPlacedAt schema.now given.now i p }
+    ensures { IfOk result (λ p. IsPlacedAt schema.now given.now i (seen_place p)) }
+{
+    let octets = generated(alloc, i)?;
+    let message = match message(&octets) {
+        Ok(message) => message,
+        Err(_) => unreachable!(),
+    };
+    let key = key_in(alloc, &message, given)?;
+    match place_in(alloc, schema, &key) {
+        Ok(place) => Ok(place),
+        Err(NoMemory) => Err(NoMemory),
+    }
+}
+
+/// The places of the first so many generated messages, in their order. None of them is refused.
 pub(crate) fn places_of(
     alloc: Global,
     schema: &Schema,
     given: &Given,
     count: u32,
 ) -> Result<Vec<Place>, NoMemory>
-    requires { count ≤ 100000 }
+    requires few { count ≤ 100000 }
+    requires stored { (taken schema.now given.now (generated_messages count)).refusal ≡ None }
     ensures placed { IfOk result (λ v. ArePlaced schema.now given.now 0 (map seen_place v.items)) }
     ensures many { IfOk result (λ v. length v.items ≡ count) }
 {

@@ -39,7 +39,7 @@ pub(crate) enum Unruled {
 }
 
 /// Plants the schema of a trial in a store that has none, and gives its text.
-fn plant<F: Send + Drop, S: Store<F>>(alloc: Global, store: &mut S) -> Result<Vec<u8>, Unruled>
+fn plant<F: Send, S: Store<F>>(alloc: Global, store: &mut S) -> Result<Vec<u8>, Unruled>
     requires none { IfSome (S.has store.old) (λ h. h.schema ≡ None) }
     ensures text { IfOk result (λ t. WhereTold (S.has store.old) (S.has store.new) (λ h m. IsPlanted h m × (t.items ≡ unwrap_or h.schema trial_schema))) }
     ensures left { OnErr result (WhereTold (S.has store.old) (S.has store.new) IsLeft) }
@@ -55,13 +55,16 @@ fn plant<F: Send + Drop, S: Store<F>>(alloc: Global, store: &mut S) -> Result<Ve
     };
     match store.plant(alloc, &text) {
         Ok(()) => Ok(text),
-        Err(Down::Fault(_)) => Err(Unruled::Disk),
+        Err(Down::Fault(fault)) => {
+            store.note(fault);
+            Err(Unruled::Disk)
+        }
         Err(Down::NoMemory) => Err(Unruled::NoMemory),
     }
 }
 
 /// The text of the store's schema. Where there is none, that of a trial is planted.
-fn text_in<F: Send + Drop, S: Store<F>>(
+fn text_in<F: Send, S: Store<F>>(
     alloc: Global,
     store: &mut S,
     root: &str,
@@ -76,13 +79,19 @@ fn text_in<F: Send + Drop, S: Store<F>>(
 {
     match store.enter(alloc, root) {
         Ok(()) => {}
-        Err(Down::Fault(_)) => return Err(Unruled::Disk),
+        Err(Down::Fault(fault)) => {
+            store.note(fault);
+            return Err(Unruled::Disk);
+        }
         Err(Down::NoMemory) => return Err(Unruled::NoMemory),
     }
     match store.schema(alloc) {
         Ok(Some(text)) => Ok(text),
         Ok(None) => plant(alloc, store),
-        Err(Down::Fault(_)) => Err(Unruled::Disk),
+        Err(Down::Fault(fault)) => {
+            store.note(fault);
+            Err(Unruled::Disk)
+        }
         Err(Down::NoMemory) => Err(Unruled::NoMemory),
     }
 }
@@ -109,7 +118,7 @@ fn rules_in(alloc: Global, text: &[u8]) -> Result<Schema, Unruled>
 }
 
 /// The rules of the store's schema. Where there is none, that of a trial is planted.
-pub(crate) fn ruled<F: Send + Drop, S: Store<F>>(
+pub(crate) fn ruled<F: Send, S: Store<F>>(
     alloc: Global,
     store: &mut S,
     root: &str,

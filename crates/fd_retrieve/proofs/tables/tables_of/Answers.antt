@@ -2,7 +2,8 @@ use Rattle.std.proofs.Common.{◌∙◌, ◌+◌, ◌++◌, IfSome, subst, sym, 
 use Rattle.fd_schema.specs.Reading.{seen_place}
 use Rattle.fd_schema.specs.Seen.{texts}
 use Rattle.fd_schema.specs.declared.place.Place.{Place}
-use Rattle.fd_retrieve.specs.Tables.{AreTables, datasets_in}
+use Rattle.fd_retrieve.specs.Tables.{AreSome, AreTables, datasets_in}
+use Rattle.fd_retrieve.proofs.Distinct.{many_some, some_more}
 use Rattle.fd_retrieve.proofs.Looking.{looked_both}
 use Rattle.fd_retrieve.proofs.Staying.{told_both}
 use Rattle.fd_retrieve.proofs.PrepareLemmas.{many_told, subst_length, tables_told, take_more, take_rest}
@@ -15,6 +16,14 @@ returns-in-Err-clause-too_many g c =
     let more = take_more (λ (p : Place). (seen_place p).dataset) c.args.places.now c.loop-i.i c.index-places-i.result (omega (arith, c.loop-i-test.true)) c.index-places-i.is in
     many_told c.in-Err.stop (g.S.Store.has c.args.store.now) (g.S.Store.has c.loop-i.store) (take c.loop-i.i ds) (drop (c.loop-i.i + 1) ds) (texts c.loop-i.names.items) ds d c.loop-i.invariant.stays c.loop-i.invariant.tables
     (take_rest ds (c.loop-i.i + 1) ∙ ap (λ l. l ++ drop (c.loop-i.i + 1) ds) more) (subst_length c.in-Err.stop (g.S.Store.has c.loop-i.store) c.loop-i.names.items d c.in-Err.ensures.too_many)
+
+pub returns-in-Err-clause-many : goal.returns-in-Err-clause-many
+returns-in-Err-clause-many g c =
+    let ds = datasets_in c.args.places.now in
+    let d = (seen_place c.index-places-i.result).dataset in
+    let more = take_more (λ (p : Place). (seen_place p).dataset) c.args.places.now c.loop-i.i c.index-places-i.result (omega (arith, c.loop-i-test.true)) c.index-places-i.is in
+    many_some c.in-Err.stop (take c.loop-i.i ds) (drop (c.loop-i.i + 1) ds) ds c.loop-i.names.items d c.loop-i.invariant.some
+    (take_rest ds (c.loop-i.i + 1) ∙ ap (λ l. l ++ drop (c.loop-i.i + 1) ds) more) c.in-Err.ensures.full
 
 pub returns-in-Err-clause-stays : goal.returns-in-Err-clause-stays
 returns-in-Err-clause-stays g c = told_both (g.S.Store.has c.args.store.now) (g.S.Store.has c.loop-i.store) (g.S.Store.has c.add_table.new.store) c.loop-i.invariant.stays c.in-Err.ensures.stays
@@ -36,5 +45,7 @@ loop-i-preserved g c =
       few = c.add_table.ensures.few;
       tables = subst (λ l. IfSome (g.S.Store.has c.args.store.now) (λ h. AreTables h l (texts c.add_table.new.names.items))) (sym more)
           (tables_told (g.S.Store.has c.args.store.now) (g.S.Store.has c.loop-i.store) (take c.loop-i.i ds) (texts c.loop-i.names.items) d (texts c.add_table.new.names.items) c.loop-i.invariant.stays c.loop-i.invariant.tables c.in-Ok.ensures.added);
+      some = subst (λ l. AreSome l (texts c.add_table.new.names.items)) (sym more)
+          (some_more (take c.loop-i.i ds) (texts c.loop-i.names.items) d (texts c.add_table.new.names.items) c.loop-i.invariant.some c.in-Ok.ensures.noted);
       later = omega (arith, later, before);
     }

@@ -3,10 +3,10 @@ use Rattle.std.specs.Prelude.{◌⊎◌, option_map}
 use Rattle.fd_bytes.specs.Causes.{Rose}
 use Rattle.fd_disk.specs.Folders.{planted as stores}
 use Rattle.fd_schema.specs.Grammar.{schema_of}
-use Rattle.fd_disk.specs.Causes.{OnFault, OnNoMemory}
+use Rattle.fd_disk.specs.Causes.{OnNoMemory}
 use Rattle.fd_schema.specs.Reading.{GivesSchema}
 use Rattle.fd_outcome.specs.Reading.{OnUnread}
-use Rattle.fd_streams.proofs.CreateExits.{RanTo, input_stop, memory_stop, bad, done, failed}
+use Rattle.fd_streams.proofs.CreateExits.{RanTo, input_stop, memory_stop, bad, done, failed, rose_later}
 use Rattle.fd_streams.proofs.Created.{maybe_only, planted_only, same_only, Only}
 use Rattle.fd_streams.proofs.planting.plant.Goals as goal
 
@@ -36,8 +36,8 @@ pub returns-in-Err-Fault-plant-clause-ran : goal.returns-in-Err-Fault-plant-clau
 returns-in-Err-Fault-plant-clause-ran g c = λ a k.
     let rules = subst (λ t. schema_of t ≡ Ok c.in-Ok-read.field-0) c.deref.ensures.value c.in-Ok-read.ensures in
     let now = subst (λ t. (g.S.Store.has c.plant.new.self ≡ g.S.Store.has c.args.store.now) ⊎ (g.S.Store.has c.plant.new.self ≡ option_map (stores t) (g.S.Store.has c.args.store.now))) c.deref-2.ensures.value c.in-Err-Fault-plant.ensures.err in
-    let rose = subst (λ e. OnFault e (Rose (g.S.Store.faults c.args.store.now) (g.S.Store.faults c.plant.new.self))) c.in-Err-Fault-plant.field-0-is c.in-Err-Fault-plant.ensures.cause.failed in
-    failed _ _ _ _ _ _ _ _ a k _ _ _ _ _ c.in-Ok.text.items c.in-Ok.ensures.given c.in-Ok.ensures.whole c.requires.none c.in-Ok.ensures.calm c.in-Ok-read.field-0 rules _ now c.tell_disk_failed.ensures rose
+    let noted = subst (λ x. (x ≡ g.S.Store.has c.args.store.now) ⊎ (x ≡ option_map (stores c.in-Ok.text.items) (g.S.Store.has c.args.store.now))) (sym c.note.ensures.has) now in
+    failed _ _ _ _ _ _ _ _ a k _ _ _ _ _ c.in-Ok.text.items c.in-Ok.ensures.given c.in-Ok.ensures.whole c.requires.none c.in-Ok.ensures.calm c.in-Ok-read.field-0 rules _ noted c.tell_disk_failed.ensures (rose_later _ _ _ c.in-Err-Fault-plant.ensures.cause.later c.note.ensures.cause)
 
 pub returns-clause-ran : goal.returns-clause-ran
 returns-clause-ran g c = λ a k.
@@ -67,7 +67,8 @@ pub returns-in-Err-Fault-plant-clause-kept : goal.returns-in-Err-Fault-plant-cla
 returns-in-Err-Fault-plant-clause-kept g c =
     let rules = subst (λ t. schema_of t ≡ Ok c.in-Ok-read.field-0) c.deref.ensures.value c.in-Ok-read.ensures in
     let now = subst (λ t. (g.S.Store.has c.plant.new.self ≡ g.S.Store.has c.args.store.now) ⊎ (g.S.Store.has c.plant.new.self ≡ option_map (stores t) (g.S.Store.has c.args.store.now))) c.deref-2.ensures.value c.in-Err-Fault-plant.ensures.err in
-    maybe_only (g.I.Source.left c.args.input.now) (g.I.Source.left c.read_front.new.input) c.in-Ok.text.items c.in-Ok.ensures.given c.in-Ok.ensures.whole c.in-Ok-read.field-0 rules (g.S.Store.has c.args.store.now) (g.S.Store.has c.plant.new.self) c.requires.none now
+    let noted = subst (λ x. (x ≡ g.S.Store.has c.args.store.now) ⊎ (x ≡ option_map (stores c.in-Ok.text.items) (g.S.Store.has c.args.store.now))) (sym c.note.ensures.has) now in
+    maybe_only (g.I.Source.left c.args.input.now) (g.I.Source.left c.read_front.new.input) c.in-Ok.text.items c.in-Ok.ensures.given c.in-Ok.ensures.whole c.in-Ok-read.field-0 rules (g.S.Store.has c.args.store.now) (g.S.Store.has c.note.new.self) c.requires.none noted
 
 pub returns-clause-kept : goal.returns-clause-kept
 returns-clause-kept g c =

@@ -1,17 +1,19 @@
-use Rattle.std.proofs.Common.{◌≡◌, ◌∙◌, ◌≤◌, ℕ, List, Option, Some, length, map, arith, subst, sym}
+use Rattle.std.proofs.Common.{◌≡◌, ◌∙◌, ◌≤◌, ◌<◌, ℕ, List, Option, Some, length, map, arith, refl, subst, sym}
 use Rattle.std.specs.Prelude.{IfSome}
 use Rattle.fd_disk.specs.Folders.{WhereTold}
 use Rattle.std.proofs.lemmas.List.{length-map}
 use Rattle.fd_schema.specs.Reading.{seen_place}
+use Rattle.fd_outcome.specs.Asking.{count_distinct}
 use Rattle.fd_outcome.specs.Store.{Stays, table_at}
 use Rattle.fd_outcome.specs.Trying.{tally_of}
 use Rattle.fd_retrieve.specs.Counting.{IsBrokenAmong, IsTally, finds}
 use Rattle.fd_retrieve.specs.Looking.{IsLookedThrough}
 use Rattle.fd_retrieve.specs.Tables.{datasets_in}
 use Rattle.fd_retrieve.proofs.Looking.{looked_told}
-use Rattle.fd_telling.proofs.StopLemmas.{later_disk}
+use Rattle.fd_telling.specs.Stops.{OnTooMany}
+use Rattle.fd_telling.proofs.StopLemmas.{later_disk, on_many}
 use Rattle.fd_trial.specs.Placed.{ArePlaced}
-use Rattle.fd_trial.proofs.Stepping.{asked, begun, grown, says}
+use Rattle.fd_trial.proofs.Stepping.{asked, begun, few_asked, grown, says}
 use Rattle.fd_trial.proofs.Stopping.{asked_stop}
 use Rattle.fd_trial.proofs.TrialExits.{counted_ran, starved_ran}
 use Rattle.fd_trial.proofs.command.ask.Goals as goal
@@ -39,19 +41,22 @@ returns-in-Ok-count_found-clause-ran g c = λ root start faults left l a k le be
 pub returns-clause-ran : goal.returns-clause-ran
 returns-clause-ran g c = λ root start faults left l a k le begins.
     let mid = g.S.Store.has c.args.store.now in
-    let now = g.S.Store.has c.tell_unfound.new.store in
+    let now = g.S.Store.has c.tell_stop.new.store in
     let places = c.in-Ok.places.items in
     let placed = subst (λ given. ArePlaced c.args.schema.now given 0 (map seen_place places)) c.requires.given c.in-Ok.ensures.placed in
     let long : length (map seen_place places) ≡ c.args.count = length-map places seen_place ∙ c.in-Ok.ensures.many in
-    let stays = subst (λ n. WhereTold mid n Stays) (sym c.tell_unfound.ensures.has) c.count_found.ensures.stays in
+    let stays = subst (λ n. WhereTold mid n Stays) (sym c.tell_stop.ensures.has) c.count_found.ensures.stays in
     let later : faults ≤ g.S.Store.faults c.count_found.new.store = omega (arith, le, c.count_found.ensures.later) in
-    asked_stop root c.args.count c.args.workers start mid now faults (g.S.Store.faults c.tell_unfound.new.store) left l a k _ c.tell_unfound.result c.args.schema.now
-    c.requires.count places placed long begins stays c.in-Err.stop c.tell_unfound.ensures.told c.in-Err.ensures.of
+    let few = few_asked c.args.count c.args.workers c.args.schema.now (map seen_place places) c.requires.count placed long begins.none places refl in
+    let many = subst (λ ps. OnTooMany c.in-Err.stop (2048 < count_distinct (datasets_in ps))) c.deref.ensures.value c.in-Err.ensures.many in
+    let never = on_many c.in-Err.stop _ ⊥ (λ lt. omega (arith, lt, few)) many in
+    asked_stop root c.args.count c.args.workers start mid now faults (g.S.Store.faults c.tell_stop.new.store) left l a k _ c.tell_stop.result c.args.schema.now
+    c.requires.count places placed long begins stays c.in-Err.stop c.tell_stop.ensures.told never c.in-Err.ensures.of
     (subst (λ ps. IfSome mid (λ h. IsBrokenAmong c.in-Err.stop h (datasets_in ps))) c.deref.ensures.value c.in-Err.ensures.broken)
-    (later_disk c.in-Err.stop faults (g.S.Store.faults c.count_found.new.store) (g.S.Store.faults c.tell_unfound.new.store) later c.tell_unfound.ensures.noted)
+    (later_disk c.in-Err.stop faults (g.S.Store.faults c.count_found.new.store) (g.S.Store.faults c.tell_stop.new.store) later c.tell_stop.ensures.noted)
 
 pub returns-in_default-clause-looks : goal.returns-in_default-clause-looks
 returns-in_default-clause-looks g c = looked_told (g.S.Store.has c.args.store.now)
 
 pub returns-clause-looks : goal.returns-clause-looks
-returns-clause-looks g c = subst (λ n. WhereTold (g.S.Store.has c.args.store.now) n IsLookedThrough) (sym c.tell_unfound.ensures.has) c.count_found.ensures.looks
+returns-clause-looks g c = subst (λ n. WhereTold (g.S.Store.has c.args.store.now) n IsLookedThrough) (sym c.tell_stop.ensures.has) c.count_found.ensures.looks

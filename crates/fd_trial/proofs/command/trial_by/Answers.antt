@@ -10,6 +10,13 @@ use Rattle.fd_trial.proofs.Outlasting.{asked_outlasts, unstored_outlasts}
 use Rattle.fd_trial.proofs.Stopping.{kept_ran, kept_whole, on_disk}
 use Rattle.fd_trial.proofs.command.trial_by.Goals as goal
 
+pub ask-requires-clause-stored : goal.ask-requires-clause-stored
+ask-requires-clause-stored g c κs within =
+    let mid = g.S.Store.has c.args.store.now in
+    let now = g.S.Store.has c.store_all.new.store in
+    let w = subst (λ o. WholeKept c.args.workers c.args.schema.now c.args.given.now (Some o) (Some (made_left c.store_all.new.input)) mid now c.in-Ok.field-0) c.new-messages.ensures.left c.in-Ok.ensures.stored in
+    w.taken_is.refusal
+
 pub returns-in-Ok-clause-ran : goal.returns-in-Ok-clause-ran
 returns-in-Ok-clause-ran g c = λ root start faults left l a k le planted.
     let mid = g.S.Store.has c.args.store.now in

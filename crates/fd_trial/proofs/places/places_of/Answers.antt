@@ -1,9 +1,15 @@
-use Rattle.std.proofs.Common.{rules, ◌≡◌, ◌∙◌, ◌+◌, ap, sym, subst, length, map, arith, [], ◌∷◌}
+use Rattle.std.proofs.Common.{rules, ◌≡◌, ◌<◌, ◌∙◌, ◌+◌, ap, sym, subst, length, map, arith, [], ◌∷◌}
 use Rattle.std.proofs.lemmas.List.{length-map, map-append}
 use Rattle.fd_schema.specs.Reading.{seen_place}
 use Rattle.fd_trial.specs.Placed.{ArePlaced}
+use Rattle.fd_trial.proofs.Keeping.{all_placed}
 use Rattle.fd_trial.proofs.Placing.{placed_more}
 use Rattle.fd_trial.proofs.places.places_of.Goals as goal
+
+pub place_of-requires-clause-placed : goal.place_of-requires-clause-placed
+place_of-requires-clause-placed c =
+    let below : c.loop-i.i < c.args.count = omega (arith, c.loop-i-test.true) in
+    all_placed c.args.schema.now c.args.given.now c.args.count c.requires.few c.requires.stored c.loop-i.i below
 
 pub loop-i-preserved : goal.loop-i-preserved
 loop-i-preserved c =
