@@ -76,7 +76,7 @@ module _ (name : List ℕ) (P : Option (List (List Pair)) → Type 0) (j i : Hol
 
     -- what each store has that a crash may leave, each has behind that
     still_firm : P (table_at j name) → (k : Holdings) → IsAfterCrash i k → P (table_at k name)
-    still_firm reads = elim at.table as (λ _. (k : Holdings) → IsAfterCrash i k → P (table_at k name)) [ inl e ↦ same_table e | inr e ↦ go (folder_at j name).table refl e ]
+    still_firm reads = elim at.table as (λ _. (k : Holdings) → IsAfterCrash i k → P (table_at k name)) [ inl e ↦ same_table e | inr e ↦ go (folder_at j name).table refl e.0 ]
       where
         go : (o : Option File) → (folder_at j name).table ≡ o → (folder_at i name).table ≡ option_map synced o → (k : Holdings) → IsAfterCrash i k → P (table_at k name)
         go None d e = same_table (e ∙ sym d)
@@ -101,7 +101,7 @@ module _ (workers : ℕ) (m j i : Holdings) (looks : IsLookedThrough j i) where
 
     after : (name : List ℕ) (t : List (List Pair)) → Adds workers (pairs name) t (table_at j name) → IsUntouched (folder_at m name) (folder_at j name) ⊎ ((k : Holdings) → IsAfterCrash j k → Adds workers (pairs name) t (table_at k name)) → After name t
     after name t reads (inr f) = inr (still_firm name (Adds workers (pairs name) t) j i (looks.folders name) f reads)
-    after name t reads (inl u) = elim (looks.folders name).table as (λ _. After name t) [ inl e ↦ same name t u e | inr e ↦ untouched name t reads u (folder_at j name).table refl e ]
+    after name t reads (inl u) = elim (looks.folders name).table as (λ _. After name t) [ inl e ↦ same name t u e | inr e ↦ untouched name t reads u (folder_at j name).table refl e.0 ]
 
     pub firmly_looked : Grows workers pairs m j → GrowsFirmly workers pairs m j → GrowsFirmly workers pairs m i
     firmly_looked grows g = record { each = λ name t is. after name t (grows.each name t is) (g.each name t is) }

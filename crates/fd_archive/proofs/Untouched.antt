@@ -43,7 +43,7 @@ module _ (workers : ℕ) (pairs : List Pair) (name : List ℕ) (t : List (List P
     kept_firm None (Some g) d e k = inr (founded_firm g d e k.0 k.1)
     kept_firm (Some f) None d e k = absurd k
     kept_firm (Some f) (Some g) d e (inl same) = inl (record { table = e ∙ ap (λ (y : File). Some y) same ∙ sym d; files = files })
-    kept_firm (Some f) (Some g) d e (inr firm) = inr (synced_firm f g d e firm)
+    kept_firm (Some f) (Some g) d e (inr (firm, image)) = inr (synced_firm f g d e firm)
 
   -- a folder that was only looked into is untouched, or holds after each crash what it held
   pub firm_kept : (v w : Contents) → held name v ≡ Some t → KeepsFolder name v w → IsUntouched v w ⊎ FirmAfter w

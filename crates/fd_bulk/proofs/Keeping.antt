@@ -5,7 +5,7 @@ use Rattle.std.specs.Str.{bytes_eq}
 use Rattle.std.proofs.lemmas.Slice.Eq.{bytes_eq-Decides}
 use Rattle.fd_disk.specs.declared.file.File.{File}
 use Rattle.fd_disk.specs.Folders.{Contents, Holdings, folder_at, no_contents}
-use Rattle.fd_disk.specs.Images.{firm_file, synced}
+use Rattle.fd_disk.specs.Images.{IsImage, firm_file, synced}
 use Rattle.fd_disk.proofs.NameLemmas.{is_or_not}
 use Rattle.fd_entries.specs.Table.{listed}
 use Rattle.fd_library.specs.Stores.{KeepsFolder, KeepsTable, LooksInto}
@@ -18,13 +18,13 @@ table_then : (name : List ℕ) (a b c : Option File) → KeepsTable name a b →
 table_then name None None c p q = q
 table_then name None (Some g) None p q = absurd q
 table_then name None (Some g) (Some k) p (inl e) = subst (λ (x : File). (x ≡ firm_file x.reads) × (listed name x.reads ≡ Ok [])) (sym e) p
-table_then name None (Some g) (Some k) p (inr e) = subst (λ (x : File). (x ≡ firm_file x.reads) × (listed name x.reads ≡ Ok [])) (sym e) (refl, p.1)
+table_then name None (Some g) (Some k) p (inr (e, image)) = subst (λ (x : File). (x ≡ firm_file x.reads) × (listed name x.reads ≡ Ok [])) (sym e) (refl, p.1)
 table_then name (Some f) None c p q = absurd p
 table_then name (Some f) (Some g) None p q = absurd q
 table_then name (Some f) (Some g) (Some k) (inl d) (inl e) = inl (e ∙ d)
-table_then name (Some f) (Some g) (Some k) (inl d) (inr e) = inr (e ∙ ap synced d)
-table_then name (Some f) (Some g) (Some k) (inr d) (inl e) = inr (e ∙ d)
-table_then name (Some f) (Some g) (Some k) (inr d) (inr e) = inr (e ∙ ap synced d)
+table_then name (Some f) (Some g) (Some k) (inl d) (inr (e, image)) = inr (e ∙ ap synced d, subst (λ (x : File). IsImage x x.reads) d image)
+table_then name (Some f) (Some g) (Some k) (inr (d, image)) (inl e) = inr (e ∙ d, image)
+table_then name (Some f) (Some g) (Some k) (inr (d, image)) (inr (e, after)) = inr (e ∙ ap synced d, image)
 
 pub keeps_same : (name : List ℕ) (v : Contents) → KeepsFolder name v v
 keeps_same name v = record { files = refl; table = table_same name v.table }

@@ -8,7 +8,7 @@ use Rattle.fd_entries.specs.declared.table.Entry.{Entry}
 use Rattle.fd_entries.specs.Table.{listed}
 use Rattle.fd_key.specs.Pairs.{Pair}
 use Rattle.fd_recovery.specs.Damages.{damages}
-use Rattle.fd_recovery.specs.Recovered.{IsUndamaged}
+use Rattle.fd_recovery.specs.Recovered.{IsUndamaged, ReadsImage}
 use Rattle.fd_schema.specs.Rules.{Rule}
 use Rattle.fd_library.specs.Open.{OpenDataset, among, names_of}
 use Rattle.fd_library.specs.Stores.{GivesBack, KeepsFolder, KeepsTable}
@@ -25,11 +25,11 @@ use Rattle.fd_bulk.proofs.Texts.{true_or_false}
 
 -- ---- one dataset
 
-spared_table : (name : List ℕ) (v : Contents) (a b : Option File) → v.table ≡ a → KeepsTable name a b → ¬ (IsUndamaged name v) → (b ≡ a) ⊎ (b ≡ option_map synced a)
+spared_table : (name : List ℕ) (v : Contents) (a b : Option File) → v.table ≡ a → KeepsTable name a b → ¬ (IsUndamaged name v) → (b ≡ a) ⊎ ((b ≡ option_map synced a) × ReadsImage a)
 spared_table name v None b is keeps damaged = absurd (damaged (subst (λ (o : Option File). IfSome o (λ f. (es : List Entry) × (listed name f.reads ≡ Ok es) × (damages v.files es ≡ []))) (sym is) tt))
 spared_table name v (Some f) None is keeps damaged = absurd keeps
 spared_table name v (Some f) (Some g) is (inl e) damaged = inl (ap Some e)
-spared_table name v (Some f) (Some g) is (inr e) damaged = inr (ap Some e)
+spared_table name v (Some f) (Some g) is (inr (e, image)) damaged = inr (ap Some e, image)
 
 spared : (name : List ℕ) (v w : Contents) → KeepsFolder name v w → ¬ (IsUndamaged name v) → IsLookedAt v w
 spared name v w keeps damaged = record { files = keeps.files; table = spared_table name v v.table w.table refl keeps.table damaged }

@@ -9,7 +9,7 @@ use Rattle.fd_disk.specs.Images.{synced}
 use Rattle.fd_entries.specs.declared.batch.Pair.{Pair}
 use Rattle.fd_entries.specs.declared.table.Entry.{Entry}
 use Rattle.fd_entries.specs.Table.{listed}
-use Rattle.fd_recovery.specs.Recovered.{IsUndamaged, files_of}
+use Rattle.fd_recovery.specs.Recovered.{IsUndamaged, ReadsImage, files_of}
 use Rattle.fd_inventory.specs.Recorded.{IsRecorded}
 use Rattle.fd_outcome.specs.Store.{IsLookedAt, IsLookedThrough, StaysFolder, Stays, has_table}
 use Rattle.fd_retrieve.proofs.Staying.{undamaged_before}
@@ -21,9 +21,9 @@ reads_synced : {X : Type 0} (f : List ℕ → X) (o : Option File) → option_ma
 reads_synced f None = refl
 reads_synced f (Some t) = refl
 
-reads_same : {X : Type 0} (f : List ℕ → X) (o p : Option File) → (p ≡ o) ⊎ (p ≡ option_map synced o) → option_map (λ (t : File). f t.reads) p ≡ option_map (λ (t : File). f t.reads) o
+reads_same : {X : Type 0} (f : List ℕ → X) (o p : Option File) → (p ≡ o) ⊎ ((p ≡ option_map synced o) × ReadsImage o) → option_map (λ (t : File). f t.reads) p ≡ option_map (λ (t : File). f t.reads) o
 reads_same f o p (inl e) = ap (option_map (λ (t : File). f t.reads)) e
-reads_same f o p (inr e) = ap (option_map (λ (t : File). f t.reads)) e ∙ reads_synced f o
+reads_same f o p (inr (e, image)) = ap (option_map (λ (t : File). f t.reads)) e ∙ reads_synced f o
 
 folder_stays : (name : List ℕ) (v w : Contents) → IsLookedAt v w → StaysFolder name v w
 folder_stays name v w l = record { table = reads_same (listed name) v.table w.table l.table; files = λ n. ap (λ (f : FileName → Option (List ℕ)). f n) l.files }
@@ -54,9 +54,9 @@ batches_synced : (name : List ℕ) (t : List (List Pair)) (files : FileName → 
 batches_synced name t files None b = b
 batches_synced name t files (Some f) b = b
 
-batches_before : (name : List ℕ) (t : List (List Pair)) (files : FileName → Option (List ℕ)) (o p : Option File) → (p ≡ o) ⊎ (p ≡ option_map synced o) → AreBatches name t files p → AreBatches name t files o
+batches_before : (name : List ℕ) (t : List (List Pair)) (files : FileName → Option (List ℕ)) (o p : Option File) → (p ≡ o) ⊎ ((p ≡ option_map synced o) × ReadsImage o) → AreBatches name t files p → AreBatches name t files o
 batches_before name t files o p (inl e) b = subst (AreBatches name t files) e b
-batches_before name t files o p (inr e) b = batches_synced name t files o (subst (AreBatches name t files) e b)
+batches_before name t files o p (inr (e, image)) b = batches_synced name t files o (subst (AreBatches name t files) e b)
 
 pub recorded_before : (name : List ℕ) (t : List (List Pair)) (v w : Contents) → IsLookedAt v w → AreRecordedIn name w t → AreRecordedIn name v t
 recorded_before name t v w l b = batches_before name t v.files v.table w.table l.table (subst (λ (fs : FileName → Option (List ℕ)). AreBatches name t fs w.table) l.files b)

@@ -157,7 +157,7 @@ keeps_held name files None None keeps = refl
 keeps_held name files None (Some g) keeps = ap (batches_listed files) keeps.1
 keeps_held name files (Some f) None keeps = absurd keeps
 keeps_held name files (Some f) (Some g) (inl same) = ap (λ (x : File). batches_listed files (listed name x.reads)) same
-keeps_held name files (Some f) (Some g) (inr same) = ap (λ (x : File). batches_listed files (listed name x.reads)) same
+keeps_held name files (Some f) (Some g) (inr (same, image)) = ap (λ (x : File). batches_listed files (listed name x.reads)) same
 
 looks_held : (name : List ℕ) (s t : Holdings) → LooksInto name s t → (m : List ℕ) → held_of t m ≡ held_of s m
 looks_held name s t looks m = elim (is_or_not (bytes_eq m name)) [

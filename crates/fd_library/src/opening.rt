@@ -64,7 +64,7 @@ impl<F: Send, D: Folder<F>> Start<F, D> {
 
 /// Opens the dataset of this folder, whose table isn't out; where there is none it is made first, if that is asked for.
 /// Where nothing is opened the folder has its table back.
-#[tactic(auto, using(crate::proofs::Undamaged::undamaged, crate::proofs::Listing::lists))]
+#[tactic(auto, using(crate::proofs::Undamaged::undamaged, crate::proofs::Listing::lists, crate::proofs::Keeping::keeps))]
 pub(crate) fn taken_up<F: Send, D: Folder<F>>(
     alloc: Global,
     folder: &mut D,

@@ -132,6 +132,6 @@ ReadsFitly command store input = IfSome store.before (λ h. IsUnfit command h.sc
 -- ---- what is damaged stays
 
 -- Each dataset of which the table's bytes are none, or a file is absent or too short, or an index has another digest, has the files
--- that it had, and its table as it was, or synced.
+-- that it had, and its table as it was, or synced, and what was synced read as one of its images.
 abbrev pub SparesDamaged : Holdings → Holdings → Type 0
 SparesDamaged h i = (name : List ℕ) → ¬ (IsUndamaged name (folder_at h name)) → IsLookedAt (folder_at h name) (folder_at i name)

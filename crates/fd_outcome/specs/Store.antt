@@ -20,7 +20,7 @@ use Rattle.fd_schema.specs.Grammar.{schema_of}
 use Rattle.fd_segment.specs.Causes.{IsBadIndex, IsFindDamage, IsKeyDamage}
 use Rattle.fd_segment.specs.declared.fault.Damage.{Damage}
 use Rattle.fd_recovery.specs.Damages.{damages, index_file}
-use Rattle.fd_recovery.specs.Recovered.{files_of, held}
+use Rattle.fd_recovery.specs.Recovered.{ReadsImage, files_of, held}
 use Rattle.fd_outcome.specs.Causes.{Broken, BadTable, BadFile}
 
 -- ---- what a dataset has
@@ -81,10 +81,10 @@ pub record Stays (h i : Holdings) : Type 0 where
   pub schema : i.schema ≡ h.schema
   pub folders : StayFolders h i
 
--- the folder has the files that it had, and its table as it was, or synced
+-- The folder has the files that it had, and its table as it was, or synced; and what was synced read as one of its images.
 pub record IsLookedAt (v w : folders.Contents) : Type 0 where
   pub files : w.files ≡ v.files
-  pub table : (w.table ≡ v.table) ⊎ (w.table ≡ option_map synced v.table)
+  pub table : (w.table ≡ v.table) ⊎ ((w.table ≡ option_map synced v.table) × ReadsImage v.table)
 
 -- the same of each folder; and the schema is as it was
 pub record IsLookedThrough (h i : Holdings) : Type 0 where

@@ -9,7 +9,7 @@ use Rattle.std.specs.declared.sync.Arc.{Arc}
 use Rattle.fd_disk.specs.declared.folders.FileName.{FileName}
 use Rattle.fd_disk.specs.declared.file.File.{File}
 use Rattle.fd_disk.specs.Folders.{Contents, with_table, without_table}
-use Rattle.fd_disk.specs.Images.{synced}
+use Rattle.fd_disk.specs.Images.{IsImage, synced}
 use Rattle.fd_entries.specs.declared.table.Entry.{Entry}
 use Rattle.fd_segment.specs.declared.fault.Damage.{Damage}
 use Rattle.fd_entries.specs.Table.{listed}
@@ -19,7 +19,7 @@ use Rattle.fd_recovery.specs.declared.fault.FileFault.TheVariants.{Disk, Damaged
 use Rattle.fd_bytes.specs.Causes.{Rose}
 use Rattle.fd_recovery.specs.Causes.{OnFileDamaged, OnFileDisk}
 use Rattle.fd_recovery.specs.Damages.{IsFirst, damages, damages_at, damages_of, digest_damages, field_file, index_file, lengths_at}
-use Rattle.fd_recovery.specs.Recovered.{AreTakenUp, IsNamed, ReadsIndex, SomeDigest, TableFailed, all_of, batches_listed, files_of, held, held_by}
+use Rattle.fd_recovery.specs.Recovered.{AreTakenUp, IsNamed, ReadsImage, ReadsIndex, SomeDigest, TableFailed, all_of, batches_listed, files_of, held, held_by}
 use Rattle.fd_segment.specs.Shared.{AreOf, entries, entry_of, standings}
 
 pub none_taken : (dataset : List ℕ) (has : Option Contents) → AreTakenUp dataset has [] []
@@ -213,3 +213,12 @@ module _ {A : Type 0} where
 
   pub own_taken : (dataset name : List ℕ) (has : Option Contents) (es : List Entry) (xs : List (Arc Standing A)) → dataset ≡ name → AreTakenUp dataset has es (standings xs) → AreOf name xs
   own_taken dataset name has es xs is taken = subst (λ (n : List ℕ). AreOf n xs) is (named_own dataset xs taken.named)
+
+-- a table that was handed out reads as one of its images
+pub image_given : (has : Option Contents) (table : Option File) → IfSome has (λ v. (table ≡ v.table) × IsSome v.table) → ((f : File) → table ≡ Some f → IsImage f f.reads) → IfSome has (λ v. ReadsImage v.table)
+image_given None table given image = tt
+image_given (Some v) table given image = go v.table given.0
+  where
+    go : (o : Option File) → table ≡ o → ReadsImage o
+    go None is = tt
+    go (Some f) is = image f is

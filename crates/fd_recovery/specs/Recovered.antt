@@ -4,7 +4,7 @@ use Rattle.fd_bytes.specs.Causes.{Rose}
 use Rattle.fd_disk.specs.declared.file.File.{File}
 use Rattle.fd_disk.specs.declared.folders.FileName.{FileName}
 use Rattle.fd_disk.specs.Folders.{Contents}
-use Rattle.fd_disk.specs.Images.{synced}
+use Rattle.fd_disk.specs.Images.{IsImage, synced}
 use Rattle.fd_entries.specs.declared.batch.Pair.{Pair}
 use Rattle.fd_entries.specs.declared.table.Entry.{Entry}
 use Rattle.fd_entries.specs.declared.table.NotATable.{NotATable}
@@ -31,6 +31,10 @@ pub record AreTakenUp (dataset : List ℕ) (has : Option Contents) (es : List En
 -- the folder with its table firm as it reads
 abbrev pub with_firm_table : Contents → Contents
 with_firm_table v = record { table = option_map synced v.table; files = v.files }
+
+-- The table as it reads is one of its images, as that of every disk is.
+abbrev pub ReadsImage : Option File → Type 0
+ReadsImage table = IfSome table (λ f. IsImage f f.reads)
 
 -- Nothing is wrong with the table of a dataset, nor with the files of the entries that it lists. A dataset without a table has none.
 abbrev pub IsUndamaged : List ℕ → Contents → Type 0

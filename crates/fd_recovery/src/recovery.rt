@@ -11,7 +11,7 @@ ghost use Rattle.fd_segment.specs.Shared.{AreOf, entries, standings};
 ghost use Rattle.fd_toc.specs.Lists.{Lists};
 ghost use Rattle.fd_recovery.specs.Causes.{IsOfTable, NotTooMany, OnDamaged, OnDisk, OnNotATable};
 ghost use Rattle.fd_recovery.specs.Damages.{IsFirst, damages};
-ghost use Rattle.fd_recovery.specs.Recovered.{AreTakenUp, ReadsIndex, TableFailed, WithTable, all_of, held, with_firm_table};
+ghost use Rattle.fd_recovery.specs.Recovered.{AreTakenUp, ReadsImage, ReadsIndex, TableFailed, WithTable, all_of, held, with_firm_table};
 
 use crate::OpenFault;
 use crate::fault::FileFault;
@@ -39,6 +39,8 @@ pub struct Recovered<F: Send, D: Folder<F>> {
 /// fault that a call on an index file gave, which only an entry with a digest needs. `NotATable` and `Damaged` come exactly
 /// where the bytes are no table, or a listed file is absent or shorter than listed, or an index hasn't its digest, and name
 /// the first such place or file. After a refusal the folder has its table back.
+///
+/// Where the table was made firm, what it read is one of its images: a crash before might have left that.
 pub fn recover<F: Send, D: Folder<F>>(
     alloc: Global,
     folder: &mut D,
@@ -71,6 +73,8 @@ where
     ensures time_err { OnErr result (IsQuiet (D.moment folder.old None) (D.moment folder.new None) (D.left_since folder.old None) (D.left_since folder.new None) (D.has folder.old)) }
     ensures has { OnOk result (D.has folder.new ≡ option_map without_table (D.has folder.old)) }
     ensures has_err { OnErr result ((D.has folder.new ≡ D.has folder.old) ⊎ (D.has folder.new ≡ option_map with_firm_table (D.has folder.old))) }
+    ensures image { IfOk result (λ o. IfSome (D.has folder.old) (λ v. ReadsImage v.table)) }
+    ensures image_err { OnErr result ((D.has folder.new ≡ D.has folder.old) ⊎ IfSome (D.has folder.old) (λ v. ReadsImage v.table)) }
     ensures last_writer { D.last_writer folder.new ≡ D.last_writer folder.old }
     ensures name { D.name folder.new ≡ D.name folder.old }
     ensures later { D.faults folder.old ≤ D.faults folder.new }
@@ -119,6 +123,8 @@ fn load_table<F: Send, D: Folder<F>>(
     ensures time_err { OnErr result (IsQuiet (D.moment folder.old None) (D.moment folder.new None) (D.left_since folder.old None) (D.left_since folder.new None) (D.has folder.old)) }
     ensures has { OnOk result (D.has folder.new ≡ option_map without_table (D.has folder.old)) }
     ensures has_err { OnErr result ((D.has folder.new ≡ D.has folder.old) ⊎ (D.has folder.new ≡ option_map with_firm_table (D.has folder.old))) }
+    ensures image { IfOk result (λ o. IfSome (D.has folder.old) (λ v. ReadsImage v.table)) }
+    ensures image_err { OnErr result ((D.has folder.new ≡ D.has folder.old) ⊎ IfSome (D.has folder.old) (λ v. ReadsImage v.table)) }
     ensures last_writer { D.last_writer folder.new ≡ D.last_writer folder.old }
     ensures name { D.name folder.new ≡ D.name folder.old }
     ensures later { D.faults folder.old ≤ D.faults folder.new }

@@ -7,7 +7,7 @@ use Rattle.fd_disk.specs.declared.file.File.{File}
 use Rattle.fd_disk.specs.Folders.{Contents, Holdings, SameBut, WhereTold, folder_at, no_contents, with_table, without_table}
 use Rattle.fd_disk.specs.Images.{synced}
 use Rattle.fd_disk.proofs.NameLemmas.{is_or_not}
-use Rattle.fd_recovery.specs.Recovered.{with_firm_table}
+use Rattle.fd_recovery.specs.Recovered.{ReadsImage, with_firm_table}
 use Rattle.fd_retrieve.specs.Looking.{IsLookedAt, IsLookedThrough}
 
 -- ---- one folder
@@ -19,11 +19,15 @@ synced_twice : (o : Option File) → option_map synced (option_map synced o) ≡
 synced_twice None = refl
 synced_twice (Some f) = refl
 
-table_later : (a b c : Option File) → (b ≡ a) ⊎ (b ≡ option_map synced a) → (c ≡ b) ⊎ (c ≡ option_map synced b) → (c ≡ a) ⊎ (c ≡ option_map synced a)
+-- the table is as it was, or synced, and what was synced read as one of its images
+abbrev pub IsTableLooked : Option File → Option File → Type 0
+IsTableLooked a b = (b ≡ a) ⊎ ((b ≡ option_map synced a) × ReadsImage a)
+
+table_later : (a b c : Option File) → IsTableLooked a b → IsTableLooked b c → IsTableLooked a c
 table_later a b c (inl e) (inl f) = inl (f ∙ e)
-table_later a b c (inl e) (inr f) = inr (f ∙ ap (option_map synced) e)
-table_later a b c (inr e) (inl f) = inr (f ∙ e)
-table_later a b c (inr e) (inr f) = inr (f ∙ ap (option_map synced) e ∙ synced_twice a)
+table_later a b c (inl e) (inr (f, image)) = inr (f ∙ ap (option_map synced) e, subst ReadsImage e image)
+table_later a b c (inr (e, image)) (inl f) = inr (f ∙ e, image)
+table_later a b c (inr (e, image)) (inr (f, after)) = inr (f ∙ ap (option_map synced) e ∙ synced_twice a, image)
 
 pub looked_later : (u v w : Contents) → IsLookedAt u v → IsLookedAt v w → IsLookedAt u w
 looked_later u v w a b = record { files = b.files ∙ a.files; table = table_later u.table v.table w.table a.table b.table }
@@ -40,31 +44,38 @@ pub bare_looked : (given back : Option Contents) → IfSome given (λ v. v.table
 bare_looked None back none e = tt
 bare_looked (Some v) back none e = subst (λ o. IfSome o (λ w. IsLookedAt v w)) (sym e) (record { files = refl; table = inl (sym none) })
 
-pub firm_looked : (given back : Option Contents) → back ≡ option_map with_firm_table given → LookedBack given back
-firm_looked None back e = tt
-firm_looked (Some v) back e = subst (λ o. IfSome o (λ w. IsLookedAt v w)) (sym e) (record { files = refl; table = inr refl })
+pub firm_looked : (given back : Option Contents) → back ≡ option_map with_firm_table given → IfSome given (λ v. ReadsImage v.table) → LookedBack given back
+firm_looked None back e image = tt
+firm_looked (Some v) back e image = subst (λ o. IfSome o (λ w. IsLookedAt v w)) (sym e) (record { files = refl; table = inr (refl, image) })
+
+-- nothing was opened
+pub refused_looked : (given back : Option Contents) → (back ≡ given) ⊎ (back ≡ option_map with_firm_table given) → (back ≡ given) ⊎ IfSome given (λ v. ReadsImage v.table) → LookedBack given back
+refused_looked given back (inl e) image = same_looked given back e
+refused_looked given back (inr e) (inl same) = same_looked given back same
+refused_looked given back (inr e) (inr image) = firm_looked given back e image
 
 -- the table that is put back is the one that was taken out, or that one synced
-pub table_looked : (given mid back : Option Contents) (table : Option File) → IfSome given (λ v. (table ≡ v.table) ⊎ (table ≡ option_map synced v.table)) → mid ≡ option_map without_table given → back ≡ with_table table mid → LookedBack given back
+pub table_looked : (given mid back : Option Contents) (table : Option File) → IfSome given (λ v. IsTableLooked v.table table) → mid ≡ option_map without_table given → back ≡ with_table table mid → LookedBack given back
 table_looked None mid back table is out put = tt
 table_looked (Some v) mid back None is out put = subst (λ o. IfSome o (λ w. IsLookedAt v w)) (sym put) tt
 table_looked (Some v) mid back (Some f) is out put =
     let here : back ≡ Some (record { table = Some f; files = v.files }) = put ∙ ap (with_table (Some f)) out in
     subst (λ o. IfSome o (λ w. IsLookedAt v w)) (sym here) (record { files = refl; table = is })
 
-some_same : (given : Option Contents) (table : Option File) → IfSome given (λ v. (table ≡ v.table) × IsSome v.table) → IfSome given (λ v. (table ≡ v.table) ⊎ (table ≡ option_map synced v.table))
+some_same : (given : Option Contents) (table : Option File) → IfSome given (λ v. (table ≡ v.table) × IsSome v.table) → IfSome given (λ v. IsTableLooked v.table table)
 some_same None table is = tt
 some_same (Some v) table is = inl is.0
 
 pub as_it_was : (given mid back : Option Contents) (table : Option File) → IfSome given (λ v. (table ≡ v.table) × IsSome v.table) → mid ≡ option_map without_table given → back ≡ with_table table mid → LookedBack given back
 as_it_was given mid back table is out put = table_looked given mid back table (some_same given table is) out put
 
-some_firm : (given : Option Contents) (table : Option File) → IfSome given (λ v. table ≡ option_map synced v.table) → IfSome given (λ v. (table ≡ v.table) ⊎ (table ≡ option_map synced v.table))
-some_firm None table is = tt
-some_firm (Some v) table is = inr is
+some_firm : (given : Option Contents) (table : Option File) → IfSome given (λ v. table ≡ option_map synced v.table) → IfSome given (λ v. ReadsImage v.table) → IfSome given (λ v. IsTableLooked v.table table)
+some_firm None table is image = tt
+some_firm (Some v) table is image = inr (is, image)
 
-pub as_synced : (given mid back : Option Contents) (table : Option File) → IfSome given (λ v. table ≡ option_map synced v.table) → mid ≡ option_map without_table given → back ≡ with_table table mid → LookedBack given back
-as_synced given mid back table is out put = table_looked given mid back table (some_firm given table is) out put
+pub as_synced : (given mid back : Option Contents) (table : Option File) → IfSome given (λ v. table ≡ option_map synced v.table) → IfSome given (λ v. ReadsImage v.table) → mid ≡ option_map without_table given → back ≡ with_table table mid
+    → LookedBack given back
+as_synced given mid back table is image out put = table_looked given mid back table (some_firm given table is image) out put
 
 -- ---- all folders
 

@@ -12,17 +12,17 @@ use Rattle.fd_schema.specs.Rules.{Rule}
 use Rattle.fd_script.specs.Scripts.{Scripted}
 use Rattle.fd_lanes.specs.declared.end.End.{End}
 use Rattle.fd_recovery.specs.Damages.{damages}
-use Rattle.fd_recovery.specs.Recovered.{IsUndamaged}
+use Rattle.fd_recovery.specs.Recovered.{IsUndamaged, ReadsImage}
 use Rattle.fd_library.specs.Stores.{KeepsFolder, KeepsTable}
 use Rattle.fd_outcome.specs.Noticing.{SparesDamaged}
 use Rattle.fd_outcome.specs.Store.{IsLookedAt}
 use Rattle.fd_play.specs.Plays.{LeavesOpened, LeavesUnplayed, Played}
 
 -- a table that is damaged was there before
-looked_table : (name : List ℕ) (v : Contents) (t u : Option File) → KeepsTable name t u → ¬ (IfSome t (λ f. (es : List Entry) × (listed name f.reads ≡ Ok es) × (damages v.files es ≡ []))) → (u ≡ t) ⊎ (u ≡ option_map synced t)
+looked_table : (name : List ℕ) (v : Contents) (t u : Option File) → KeepsTable name t u → ¬ (IfSome t (λ f. (es : List Entry) × (listed name f.reads ≡ Ok es) × (damages v.files es ≡ []))) → (u ≡ t) ⊎ ((u ≡ option_map synced t) × ReadsImage t)
 looked_table name v None u keeps damaged = absurd (damaged tt)
 looked_table name v (Some f) None keeps damaged = absurd keeps
-looked_table name v (Some f) (Some g) keeps damaged = elim keeps [ inl same ↦ inl (ap Some same) | inr firm ↦ inr (ap Some firm) ]
+looked_table name v (Some f) (Some g) keeps damaged = elim keeps [ inl same ↦ inl (ap Some same) | inr firm ↦ inr (ap Some firm.0, firm.1) ]
 
 looked_at : (name : List ℕ) (v w : Contents) → KeepsFolder name v w ⊎ LeavesOpened name v w → ¬ (IsUndamaged name v) → IsLookedAt v w
 looked_at name v w (inl keeps) damaged = record { files = keeps.files; table = looked_table name v v.table w.table keeps.table damaged }

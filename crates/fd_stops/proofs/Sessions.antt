@@ -66,7 +66,7 @@ looked name v w x keeps after = go v.table w.table refl refl keeps.table
     go None (Some g) was is table = settled None g.reads was (is ∙ ap Some table.0) (ap (batches_listed v.files) table.1)
     go (Some f) None was is table = absurd table
     go (Some f) (Some g) was is (inl e) = same (is ∙ ap Some e ∙ sym was)
-    go (Some f) (Some g) was is (inr e) = settled (Some f) f.reads was (is ∙ ap Some e) refl
+    go (Some f) (Some g) was is (inr (e, image)) = settled (Some f) f.reads was (is ∙ ap Some e) refl
 
 -- entries with the files that they had stand for what they stood for
 batches_of_files : (old new : FileName → Option (List ℕ)) (es : List Entry) → map (files_of new) es ≡ map (files_of old) es → batches_listed new (Ok es) ≡ batches_listed old (Ok es)

@@ -3,7 +3,7 @@ use Rattle.std.specs.Prelude.{◌≡◌, ◌≢◌, ◌⊎◌, ℕ, List, Option
 use Rattle.std.specs.Result.{IsOk}
 use Rattle.fd_disk.specs.declared.folders.FileName.{FileName}
 use Rattle.fd_disk.specs.Folders.{Contents, Holdings, IsStoreImage, Left, folder_at}
-use Rattle.fd_disk.specs.Images.{IsImage, firm_file, synced}
+use Rattle.fd_disk.specs.Images.{firm_file}
 use Rattle.fd_entries.specs.declared.batch.Pair.{Pair}
 use Rattle.fd_key.specs.Pairs as keys
 use Rattle.fd_schema.specs.Grammar.{schema_of}
@@ -55,24 +55,6 @@ FoundTried workers count (Err cause) h j = IsAfterCrash h j
 pub record FoundCreated (octets : List ℕ) (h j : Holdings) : Type 0 where
   pub schema : (j.schema ≡ h.schema) ⊎ ((h.schema ≡ None) × (j.schema ≡ Some octets) × IsOk (schema_of octets))
   pub folders : (name : List ℕ) → IsFolderAfter (folder_at h name) (folder_at j name)
-
--- A crash of a folder that was only looked into leaves its files, and an image of its table, or firmly what that read.
-pub record IsFolderRead (v w : Contents) : Type 0 where
-  pub table : IsTableAfter v.table w.table ⊎ (w.table ≡ option_map synced v.table)
-  pub files : (n : FileName) → w.files n ≡ v.files n
-
--- What is found where nothing was stored: the schema, and each folder so.
-pub record FoundRead (h j : Holdings) : Type 0 where
-  pub schema : j.schema ≡ h.schema
-  pub folders : (name : List ℕ) → IsFolderRead (folder_at h name) (folder_at j name)
-
--- Each table as it reads is one of its images, as on every disk.
-abbrev pub ReadImages : Holdings → Type 0
-ReadImages h = (name : List ℕ) → IfSome (folder_at h name).table (λ f. IsImage f f.reads)
-
--- Where that is so, this is a store that a crash before may have left.
-abbrev pub FoundAsBefore : Holdings → Holdings → Type 0
-FoundAsBefore h j = ReadImages h → IsAfterCrash h j
 
 -- What is found where one dataset was purged or wiped: the schema, and of each other dataset what a crash before may have left.
 -- Of this one it is that, or what the purge or the wipe leaves at a moment of it.

@@ -2,7 +2,8 @@
 ghost use Rattle.std.specs.Prelude.{◌≡◌, ◌≤◌, false, List, ℕ};
 ghost use Rattle.fd_disk.specs.Folders.{WhereTold};
 ghost use Rattle.fd_words.specs.Words.{AreLayers};
-ghost use Rattle.fd_stops.specs.Found.{EachLeft, FoundAsBefore, FoundRead};
+ghost use Rattle.fd_archive.specs.Crashing.{IsAfterCrash};
+ghost use Rattle.fd_stops.specs.Found.{EachLeft};
 
 use fd_contents::{axes, cubes, list, stats};
 use fd_disk::Store;
@@ -17,8 +18,8 @@ use std::sync::Wait;
 use std::thread::Threads;
 
 /// Looks for fields in a store that passes so many calls on and fails all later ones. Whatever their number is, and whatever
-/// is told, each store that a crash may leave then of the one below has its schema and each dataset's files, and of each table an
-/// image, or firmly what it read: a store that a crash before may have left.
+/// is told, each store that a crash may leave then of the one below is one that a crash before may have left: its schema, each
+/// dataset's files, and an image of each table.
 pub fn retrieve_until<
     F: Send + Drop,
     X: Drop,
@@ -42,8 +43,7 @@ pub fn retrieve_until<
 where
     requires workers { (1 ≤ workers) × (workers ≤ 8) }
     requires home { (name : List ℕ) → S.out store.old.inner name ≡ false }
-    ensures left { WhereTold (S.has store.old.inner) (S.has store.new.inner) (EachLeft FoundRead) }
-    ensures before { WhereTold (S.has store.old.inner) (S.has store.new.inner) (EachLeft FoundAsBefore) }
+    ensures before { WhereTold (S.has store.old.inner) (S.has store.new.inner) (EachLeft IsAfterCrash) }
     ensures home { (name : List ℕ) → S.out store.new.inner name ≡ false }
 {
     retrieve::<StopFault<F>, X, Stopped<S>, I, K, E, G, R>(
@@ -77,8 +77,7 @@ where
     requires workers { (1 ≤ workers) × (workers ≤ 8) }
     requires layers { AreLayers layers.now }
     requires home { (name : List ℕ) → S.out store.old.inner name ≡ false }
-    ensures left { WhereTold (S.has store.old.inner) (S.has store.new.inner) (EachLeft FoundRead) }
-    ensures before { WhereTold (S.has store.old.inner) (S.has store.new.inner) (EachLeft FoundAsBefore) }
+    ensures before { WhereTold (S.has store.old.inner) (S.has store.new.inner) (EachLeft IsAfterCrash) }
     ensures home { (name : List ℕ) → S.out store.new.inner name ≡ false }
 {
     retrieve_over::<StopFault<F>, X, Stopped<S>, I, K, E, G, R>(
@@ -97,8 +96,7 @@ pub fn list_until<F: Send + Drop, X: Drop, S: Store<F>, I: Source<X>, K: Sink<X>
 ) -> Status
 where
     requires home { (name : List ℕ) → S.out store.old.inner name ≡ false }
-    ensures left { WhereTold (S.has store.old.inner) (S.has store.new.inner) (EachLeft FoundRead) }
-    ensures before { WhereTold (S.has store.old.inner) (S.has store.new.inner) (EachLeft FoundAsBefore) }
+    ensures before { WhereTold (S.has store.old.inner) (S.has store.new.inner) (EachLeft IsAfterCrash) }
     ensures home { (name : List ℕ) → S.out store.new.inner name ≡ false }
 {
     list::<StopFault<F>, X, Stopped<S>, I, K, E>(alloc, root, store, input, output, report)
@@ -115,8 +113,7 @@ pub fn axes_until<F: Send + Drop, X: Drop, S: Store<F>, I: Source<X>, K: Sink<X>
 ) -> Status
 where
     requires home { (name : List ℕ) → S.out store.old.inner name ≡ false }
-    ensures left { WhereTold (S.has store.old.inner) (S.has store.new.inner) (EachLeft FoundRead) }
-    ensures before { WhereTold (S.has store.old.inner) (S.has store.new.inner) (EachLeft FoundAsBefore) }
+    ensures before { WhereTold (S.has store.old.inner) (S.has store.new.inner) (EachLeft IsAfterCrash) }
     ensures home { (name : List ℕ) → S.out store.new.inner name ≡ false }
 {
     axes::<StopFault<F>, X, Stopped<S>, I, K, E>(alloc, root, store, input, output, report)
@@ -133,8 +130,7 @@ pub fn cubes_until<F: Send + Drop, X: Drop, S: Store<F>, I: Source<X>, K: Sink<X
 ) -> Status
 where
     requires home { (name : List ℕ) → S.out store.old.inner name ≡ false }
-    ensures left { WhereTold (S.has store.old.inner) (S.has store.new.inner) (EachLeft FoundRead) }
-    ensures before { WhereTold (S.has store.old.inner) (S.has store.new.inner) (EachLeft FoundAsBefore) }
+    ensures before { WhereTold (S.has store.old.inner) (S.has store.new.inner) (EachLeft IsAfterCrash) }
     ensures home { (name : List ℕ) → S.out store.new.inner name ≡ false }
 {
     cubes::<StopFault<F>, X, Stopped<S>, I, K, E>(alloc, root, store, input, output, report)
@@ -150,8 +146,7 @@ pub fn stats_until<F: Send + Drop, X: Drop, S: Store<F>, K: Sink<X>, E: Sink<X>>
 ) -> Status
 where
     requires home { (name : List ℕ) → S.out store.old.inner name ≡ false }
-    ensures left { WhereTold (S.has store.old.inner) (S.has store.new.inner) (EachLeft FoundRead) }
-    ensures before { WhereTold (S.has store.old.inner) (S.has store.new.inner) (EachLeft FoundAsBefore) }
+    ensures before { WhereTold (S.has store.old.inner) (S.has store.new.inner) (EachLeft IsAfterCrash) }
     ensures home { (name : List ℕ) → S.out store.new.inner name ≡ false }
 {
     stats::<StopFault<F>, X, Stopped<S>, K, E>(alloc, root, store, output, report)
