@@ -19,7 +19,7 @@ use Rattle.fd_library.specs.Open.{Seated}
 use Rattle.fd_library.specs.Stores.{GivenBack, held_by_pass}
 use Rattle.fd_outcome.specs.Store.{Adds, HasOnly}
 use Rattle.fd_bulk.specs.Adding.{AddsBy, IsHeldBy, IsOnlyOf}
-use Rattle.fd_archive.specs.Crashing.{IsTableAfter}
+use Rattle.fd_archive.proofs.Crashed.{IsTableAfter}
 use Rattle.fd_archive.proofs.Adding.{adds_of}
 use Rattle.fd_archive.proofs.Tables.{all_both, all_long, whole_prefix}
 

@@ -19,8 +19,9 @@ use Rattle.fd_library.specs.Stores.{GivenBack, GivesBack, HasSeenAll, IsGivenBac
 use Rattle.fd_outcome.specs.Archiving.{Stored, datasets_in, pairs_for}
 use Rattle.fd_outcome.specs.Store.{AddsAll}
 use Rattle.fd_bulk.specs.Archived.{GrowsAll}
-use Rattle.fd_archive.specs.Crashing.{IsAfterCrash, IsFirm, IsTableAfter}
+use Rattle.fd_archive.specs.Crashing.{IsAfterCrash, IsFirm}
 use Rattle.fd_archive.proofs.Adding.{adds_all_of}
+use Rattle.fd_archive.proofs.Crashed.{IsTableAfter, files_after, tables_after}
 use Rattle.fd_archive.proofs.Tables.{whole_prefix}
 use Rattle.fd_archive.proofs.Told.{through}
 
@@ -57,7 +58,7 @@ module _ {D : Type 0} (has : D → Option Contents) where
   firm_among u j t left name (h ∷ hs) given settled there = elim (is_or_not (bytes_eq name h.name)) as (λ _. held_of j name ≡ held_with has (h ∷ hs) t name) [
     | inl same ↦
         let one : name ≡ h.name = (bytes_eq-Decides name h.name).0 same in
-        let here = firm_held h.name (has h.folder) h.pass (folder_at u h.name) (folder_at j h.name) (All-head (λ (g : OpenDataset D). IsGivenBack has g (folder_at u g.name)) h hs given) (All-head IsSettled h hs settled) (left.files h.name) (left.tables h.name) in
+        let here = firm_held h.name (has h.folder) h.pass (folder_at u h.name) (folder_at j h.name) (All-head (λ (g : OpenDataset D). IsGivenBack has g (folder_at u g.name)) h hs given) (All-head IsSettled h hs settled) (files_after u j left h.name) (tables_after u j left h.name) in
         ap (held_of j) one ∙ (here ∙ sym (ap (λ (b : Bool). if b then held_in has h else held_with has hs t name) same))
     | inr differs ↦
         firm_among u j t left name hs (All-tail (λ (g : OpenDataset D). IsGivenBack has g (folder_at u g.name)) h hs given) (All-tail IsSettled h hs settled) (sym (ap (λ (b : Bool). b || among name (names_of hs)) differs) ∙ there)

@@ -26,6 +26,7 @@ use Rattle.fd_bulk.specs.declared.bulk.BulkFault.TheVariants as faults
 use Rattle.fd_archive.specs.Crashing.{GrowsFirmly, IsAfterCrash, IsFirm, IsUntouched}
 use Rattle.fd_archive.specs.Kept.{InputKept, IsStop, NoneDamaged, RefusedKept, StoppedKept}
 use Rattle.fd_archive.proofs.Adding.{adds_all_of, adds_of}
+use Rattle.fd_archive.proofs.Crashed.{files_after, tables_after}
 use Rattle.fd_archive.proofs.Doubting.{CanDoubt, back_grown, crash_grown}
 use Rattle.fd_archive.proofs.Firm.{firm, firm_among, some_pair}
 use Rattle.fd_archive.proofs.Growing.{firm_same}
@@ -118,7 +119,7 @@ module _ {D : Type 0} (has : D → Option Contents) where
           let opening = All-head (OpensAs s) h hs openings b (ap (held_of s) (sym one) ∙ is) in
           subst (λ (m : List ℕ). Adds workers (pairs_for all m) b (held_of j m)) (sym one)
           (crash_grown workers h.name (pairs_for all h.name) b (has h.folder) h.pass (folder_at u h.name) (folder_at j h.name) (All-head (λ (g : OpenDataset D). IsGivenBack has g (folder_at u g.name)) h hs given)
-          (can_doubt h (All-head (IsBack has workers all) h hs back) opening) (subst (λ (m : List ℕ). AddsBy workers (pairs_for all m) b (held_in has h)) one here) (left.files h.name) (left.tables h.name))
+          (can_doubt h (All-head (IsBack has workers all) h hs back) opening) (subst (λ (m : List ℕ). AddsBy workers (pairs_for all m) b (held_in has h)) one here) (files_after u j left h.name) (tables_after u j left h.name))
       | inr differs ↦
           among_firm j left name is hs (All-tail (IsBack has workers all) h hs back) (All-tail (OpensAs s) h hs openings) (All-tail (λ (g : OpenDataset D). IsGivenBack has g (folder_at u g.name)) h hs given)
           (sym (ap (λ (x : Bool). x || among name (names_of hs)) differs) ∙ there) (subst (AddsBy workers (pairs_for all name) b) (ap (λ (x : Bool). if x then held_in has h else held_with has hs t name) differs) adds)
@@ -132,7 +133,7 @@ module _ {D : Type 0} (has : D → Option Contents) where
     closed_firm name is keeps same =
         elim (firm_kept workers (pairs_for all name) name b (folder_at s name) (folder_at u name) is (subst (λ (o : Option Contents). KeepsFolder name (folder_at s name) (unwrap_or o no_contents)) (sym same) keeps)) as (λ _. IsFirmAt name) [
           | inl x ↦ inl x
-          | inr f ↦ inr (λ j left. f (folder_at j name) (left.files name) (left.tables name))
+          | inr f ↦ inr (λ j left. f (folder_at j name) (files_after u j left name) (tables_after u j left name))
         ]
 
   module _ (workers : ℕ) (all : List Stored) (each : List (OpenDataset D)) (start now later : Option Holdings) (given : WhereTold now later (GivesBack has each)) where

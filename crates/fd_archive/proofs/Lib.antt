@@ -1,4 +1,5 @@
 pub mod Told
+pub mod Crashed
 pub mod Growing
 pub mod Tables
 pub mod Adding

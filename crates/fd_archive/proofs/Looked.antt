@@ -12,7 +12,8 @@ use Rattle.fd_entries.specs.Table.{listed}
 use Rattle.fd_recovery.specs.Recovered.{batches_listed, held, held_by}
 use Rattle.fd_outcome.specs.Archiving.{Stored, pairs_for}
 use Rattle.fd_outcome.specs.Store.{Adds, AddsAll, Grows, GrowsBy, IsLookedAt, IsLookedThrough, Sorted, table_at}
-use Rattle.fd_archive.specs.Crashing.{GrowsFirmly, IsAfterCrash, IsFirm, IsTableAfter, IsUntouched}
+use Rattle.fd_archive.specs.Crashing.{GrowsFirmly, IsAfterCrash, IsFirm, IsUntouched}
+use Rattle.fd_archive.proofs.Crashed.{IsTableAfter, after_crash, files_after, tables_after}
 
 -- ---- a crash that leaves this of one folder, and the firm bytes of the others
 
@@ -47,7 +48,7 @@ module _ (i : Holdings) (name : List ℕ) (w : Contents) (left : IsLeft (folder_
   left_each n false e = left_others (i.folders n)
 
   is_crashed : IsAfterCrash i crashed
-  is_crashed = record { schema = refl; files = λ n. (left_each n (bytes_eq n name) refl).0; tables = λ n. (left_each n (bytes_eq n name) refl).1 }
+  is_crashed = after_crash i crashed refl (λ n. (left_each n (bytes_eq n name) refl).0) (λ n. (left_each n (bytes_eq n name) refl).1)
 
   crashed_at : folder_at crashed name ≡ w
   crashed_at = ap (λ (b : Bool). unwrap_or (pick b name) no_contents) ((bytes_eq-Decides name name).1 refl)
@@ -59,9 +60,9 @@ module _ (name : List ℕ) (P : Option (List (List Pair)) → Type 0) (j i : Hol
   synced_table : (f : File) → (folder_at j name).table ≡ Some f → (folder_at i name).table ≡ Some (synced f) → P (table_at j name) → (k : Holdings) → IsAfterCrash i k → P (table_at k name)
   synced_table f before firm reads k left =
       let w = folder_at k name in
-      let after : (c : List ℕ) × IsImage (synced f) c × (w.table ≡ Some (firm_file c)) = subst (λ (o : Option File). IsTableAfter o w.table) firm (left.tables name) in
+      let after : (c : List ℕ) × IsImage (synced f) c × (w.table ≡ Some (firm_file c)) = subst (λ (o : Option File). IsTableAfter o w.table) firm (tables_after i k left name) in
       let bytes : after.0 ≡ f.reads = after.1.settled refl in
-      let files : w.files ≡ (folder_at j name).files = (λ x n. left.files name n x) ∙ at.files in
+      let files : w.files ≡ (folder_at j name).files = (λ x n. files_after i k left name n x) ∙ at.files in
       let same : held name w ≡ held name (folder_at j name) =
       ap (held_by name w.files) after.2 ∙ ap (λ (c : List ℕ). batches_listed w.files (listed name c)) bytes ∙ ap (λ (fs : FileName → Option (List ℕ)). held_by name fs (Some f)) files ∙ sym (ap (held_by name (folder_at j name).files) before) in
       subst P (sym same) reads
@@ -71,7 +72,7 @@ module _ (name : List ℕ) (P : Option (List (List Pair)) → Type 0) (j i : Hol
     same_table : (folder_at i name).table ≡ (folder_at j name).table → (k : Holdings) → IsAfterCrash i k → P (table_at k name)
     same_table e k left =
         let w = folder_at k name in
-        let of : IsLeft (folder_at j name) w = ((λ n. left.files name n ∙ ap (λ (fs : FileName → Option (List ℕ)). fs n) at.files), subst (λ (o : Option File). IsTableAfter o w.table) e (left.tables name)) in
+        let of : IsLeft (folder_at j name) w = ((λ n. files_after i k left name n ∙ ap (λ (fs : FileName → Option (List ℕ)). fs n) at.files), subst (λ (o : Option File). IsTableAfter o w.table) e (tables_after i k left name)) in
         subst (λ (v : Contents). P (held name v)) (crashed_at j name w of) (firm (crashed j name w of) (is_crashed j name w of))
 
     -- what each store has that a crash may leave, each has behind that

@@ -11,8 +11,9 @@ use Rattle.fd_recovery.specs.Recovered.{batches_listed, held, held_by}
 use Rattle.fd_library.specs.Stores.{KeepsFolder, KeepsTable}
 use Rattle.fd_outcome.specs.Store.{Adds}
 use Rattle.fd_bulk.proofs.Ended.{none_added}
-use Rattle.fd_archive.specs.Crashing.{IsTableAfter, IsUntouched}
+use Rattle.fd_archive.specs.Crashing.{IsUntouched}
 use Rattle.fd_archive.proofs.Adding.{adds_of}
+use Rattle.fd_archive.proofs.Crashed.{IsTableAfter}
 
 module _ (workers : ℕ) (pairs : List Pair) (name : List ℕ) (t : List (List Pair)) where
   -- what a crash leaves of a folder

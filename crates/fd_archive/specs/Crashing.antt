@@ -1,13 +1,11 @@
 -- What a crash leaves of a store in which messages were archived.
 use Rattle.std.specs.Prelude.{◌≡◌, ◌⊎◌, ◌++◌, ℕ, List, Option, Some, None, Contains, IfSome, Result, Ok, Err}
-use Rattle.fd_disk.specs.declared.file.File.{File}
-use Rattle.fd_disk.specs.declared.folders.FileName.{FileName}
 use Rattle.fd_io.specs.Streams.{Takes}
 use Rattle.fd_disk.specs.Folders.{Contents, Holdings, WhereTold, folder_at}
-use Rattle.fd_disk.specs.Images.{IsImage, firm_file}
 use Rattle.fd_entries.specs.declared.batch.Pair.{Pair}
 use Rattle.fd_key.specs.Pairs as keys
 use Rattle.fd_schema.specs.Rules.{Rule}
+pub use Rattle.fd_recovery.specs.Crashing.{AreFirm, IsAfterCrash, IsFirmTable, IsFolderAfter}
 use Rattle.fd_outcome.specs.Causes.{Cause, table_full}
 use Rattle.fd_outcome.specs.Asking.{rules_of}
 use Rattle.fd_outcome.specs.Objects.{Object}
@@ -19,17 +17,6 @@ use Rattle.fd_outcome.specs.Archiving.{Stored, datasets_in, pairs_for, taken, ta
 use Rattle.fd_outcome.specs.Store.{Adds, AddsAll, Grows, Sorted, table_at}
 use Rattle.fd_outcome.specs.declared.status.Status.{Status}
 use Rattle.fd_outcome.specs.declared.status.Status.TheVariants.{Done, Missed, Words, Refused, InputFault, OutputFault, DiskFault, NoMemory, Damaged, Limit}
-
--- a crash leaves the bytes of one of the table's images, which are firm
-abbrev pub IsTableAfter : Option File → Option File → Type 0
-IsTableAfter None g = g ≡ None
-IsTableAfter (Some f) g = (c : List ℕ) × IsImage f c × (g ≡ Some (firm_file c))
-
--- A crash of the one store may leave the other: the same schema, each folder's files, and an image of each table.
-pub record IsAfterCrash (i j : Holdings) : Type 0 where
-  pub schema : j.schema ≡ i.schema
-  pub files : (name : List ℕ) (n : FileName) → (folder_at j name).files n ≡ (folder_at i name).files n
-  pub tables : (name : List ℕ) → IsTableAfter (folder_at i name).table (folder_at j name).table
 
 -- These messages are whole in each store that a crash may leave: each dataset of them that was sound has all its pairs.
 pub record IsFirm (workers : ℕ) (all : List Stored) (h i : Holdings) : Type 0 where

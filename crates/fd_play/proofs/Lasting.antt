@@ -1,13 +1,13 @@
 -- What the store holds once the lanes have run and all was given back.
 use Rattle.std.proofs.Common.{◌≡◌, ◌≢◌, ◌<◌, ◌≤◌, ◌+◌, ◌||◌, ◌⊎◌, inl, inr, ℕ, Bool, true, false, List, [], ◌∷◌, ◌++◌, All, map, take, length, Option, Some, None, is_some, Result, Ok, Err, append_assoc, sym, refl, ap, ap₂, ◌∙◌, subst, arith, length-append}
-use Rattle.std.specs.Prelude.{IfSome, IsSome, slice_get}
+use Rattle.std.specs.Prelude.{IfSome, IsSome, option_map, slice_get}
 use Rattle.std.specs.Str.{bytes_eq}
 use Rattle.std.proofs.lemmas.List.{length-map}
 use Rattle.std.proofs.lemmas.List.Elements.{All-head}
 use mathlib.Core.List.{IsPrefix, map-append}
 use Rattle.fd_disk.specs.declared.file.File.{File}
 use Rattle.fd_disk.specs.declared.folders.FileName.{FileName}
-use Rattle.fd_disk.specs.Folders.{Contents, Holdings, SameBut, folder_at}
+use Rattle.fd_disk.specs.Folders.{Contents, Holdings, IsTableLeft, SameBut, folder_at}
 use Rattle.fd_disk.specs.Images.{IsImage}
 use Rattle.fd_entries.specs.declared.batch.Listing.{Listing}
 use Rattle.fd_entries.specs.declared.batch.Pair.{Pair}
@@ -20,7 +20,8 @@ use Rattle.fd_turn.specs.Views.{View, first_view}
 use Rattle.fd_turn.specs.Passes.{BoardId}
 use Rattle.fd_dataset.specs.Listed.{entries_of}
 use Rattle.fd_archiver.specs.Writing.{IsKept, Writing}
-use Rattle.fd_recovery.specs.Recovered.{IsUndamaged, all_of, batches_listed, files_of}
+use Rattle.fd_recovery.specs.Crashing.{IsFolderAfter}
+use Rattle.fd_recovery.specs.Recovered.{IsUndamaged, WithTable, all_of, batches_listed, files_of}
 use Rattle.fd_retriever.specs.Answers.{Tells}
 use Rattle.fd_library.specs.Answers.{HoldsAs, IsOpened}
 use Rattle.fd_library.specs.Open.{OpenDataset, Seated, among}
@@ -40,6 +41,17 @@ use Rattle.fd_play.proofs.Telling.{BothTell, EachStands, all_are, all_told, both
 ok_same : {A E : Type 0} (r : Result A E) (x y : A) → r ≡ Ok x → r ≡ Ok y → x ≡ y
 ok_same (Ok z) x y is it = let one : z ≡ x = cc is in let two : z ≡ y = cc it in sym one ∙ two
 ok_same (Err e) x y is it = absurd (cc is)
+
+-- what holds of each image of the table, with the folder's files, holds of what a crash leaves of the folder
+left_table : (v w : Contents) (f : File) (P : (FileName → Option (List ℕ)) → List ℕ → Type 0) → v.table ≡ Some f → IsFolderAfter v w → ((c : List ℕ) → IsImage f c → P v.files c) → WithTable w.table (λ g. P w.files g.reads)
+left_table v w f P is after each = go w.table (subst (λ (o : Option File). IsTableLeft o (option_map (λ (g : File). g.reads) w.table)) is after.image.table)
+  where
+    files : v.files ≡ w.files
+    files = sym (λ i n. after.image.files n i)
+
+    go : (o : Option File) → IsTableLeft (Some f) (option_map (λ (g : File). g.reads) o) → WithTable o (λ g. P w.files g.reads)
+    go None image = absurd image
+    go (Some g) image = subst (λ (fs : FileName → Option (List ℕ)). P fs g.reads) files (each g.reads image)
 
 -- a table lists the same entries at any time
 pub lists_same : (name : List ℕ) (xs ys : List Entry) (t : Option File) → ListsIn name xs t → ListsIn name ys t → xs ≡ ys
@@ -212,7 +224,9 @@ module _ {F D H : Type 0} (has : D → Option Contents) (kept : H → Option (Fi
             table = back.table;
             table_is = back.table_is;
             reads = back.reads;
-            images = λ c image. go r.0 alike c (back.images c image);
+            images = λ w after. left_table (folder_at t sc.dataset) w back.table
+                (λ fs c. HoldBatches fs (listed sc.dataset c) (t0 ++ r.0) ⊎ HasOneMore sc.dataset fs c (t0 ++ r.0) (λ l. IsDoubt l before (all_acts rules messages po.places sc.lanes) ends)) back.table_is after
+                (λ c image. go r.0 alike c (back.images c image));
           }
         where
           go : (flushed : List (List Pair)) → AlikeTables whole (t0 ++ flushed) → (c : List ℕ) → ListsOrDoubted sc.dataset back.entries po.pass.doubts c

@@ -16,6 +16,7 @@ use Rattle.fd_turn.specs.Passes.{BoardId}
 use Rattle.fd_archiver.specs.Writing.{Writing}
 use Rattle.fd_recovery.specs.declared.fault.OpenFault.{OpenFault}
 use Rattle.fd_recovery.specs.declared.fault.OpenFault.TheVariants as faults
+use Rattle.fd_recovery.specs.Crashing.{IsFolderAfter}
 use Rattle.fd_recovery.specs.Damages.{IsFirst, damages}
 use Rattle.fd_segment.specs.Held.{batch_of}
 use Rattle.fd_recovery.specs.Recovered.{IsUndamaged, WithTable, batches_listed, files_of}
@@ -86,8 +87,8 @@ pub record HasOneMore (name : List ℕ) (files : FileName → Option (List ℕ))
   pub kept : batch_of (files_of files more.entry) ≡ Some batch
 
 module _ {F : Type 0} where
-  -- The lanes of a script ran over a dataset that held these batches: how their steps ended is legal, and each image of the
-  -- table that the store has now lists the batches that were there and those that were listed, or one in doubt behind them.
+  -- The lanes of a script ran over a dataset that held these batches: how their steps ended is legal, and the store has a table now, of which
+  -- each folder that a crash may leave lists the batches that were there and those that were listed, or one in doubt behind them.
   pub record PlayedOver (rules : List Rule) (messages : List (List ℕ)) (s : Scripted) (before : ℕ) (ends : List (List (End F))) (t : List (List Pair)) (i : Holdings) : Type 0 where
     pub before_is : before ≡ length t
     pub flushed : List (List Pair)
@@ -96,8 +97,8 @@ module _ {F : Type 0} where
     pub table : File
     pub table_is : (folder_at i s.dataset).table ≡ Some table
     pub reads : IsImage table table.reads
-    pub images : (c : List ℕ) → IsImage table c → HoldBatches (folder_at i s.dataset).files (listed s.dataset c) (t ++ flushed)
-        ⊎ HasOneMore s.dataset (folder_at i s.dataset).files c (t ++ flushed) (λ l. IsDoubt l before (all_acts rules messages legal.places s.lanes) ends)
+    pub images : (w : Contents) → IsFolderAfter (folder_at i s.dataset) w → WithTable w.table (λ f. HoldBatches w.files (listed s.dataset f.reads) (t ++ flushed)
+        ⊎ HasOneMore s.dataset w.files f.reads (t ++ flushed) (λ l. IsDoubt l before (all_acts rules messages legal.places s.lanes) ends))
 
   -- The lanes of a script ran over a store that held h and holds i. The schema and the other datasets are as they were. The
   -- script's dataset wasn't damaged, and has the entries that it listed, whatever their files hold.

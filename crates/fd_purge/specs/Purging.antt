@@ -9,6 +9,7 @@ use Rattle.fd_entries.specs.declared.batch.Pair.{Pair}
 use Rattle.fd_entries.specs.declared.table.Entry.{Entry}
 use Rattle.fd_entries.specs.Table.{greatest_writer, listed}
 use Rattle.fd_index.specs.Records.{Record, keys}
+pub use Rattle.fd_recovery.specs.Crashing.{read_of}
 use Rattle.fd_recovery.specs.Damages.{IsFirst, damages, index_file}
 use Rattle.fd_recovery.specs.Recovered.{WithTable, held, held_by}
 use Rattle.fd_segment.specs.declared.fault.Damage.{Damage}
@@ -101,10 +102,6 @@ pub record IsWiped (dataset : List ℕ) (v : Contents) (left : Left) : Type 0 wh
 
 abbrev pub IsLeftByWipe : List ℕ → Contents → Left → Type 0
 IsLeftByWipe dataset v left = IsWhole v left ⊎ IsWiped dataset v left
-
--- what a read of a dataset gives
-abbrev pub read_of : Contents → Left
-read_of v = record { table = option_map (λ f. f.reads) v.table; files = v.files }
 
 -- A call was made of a dataset whose table it first made firm. Until then it wrote nothing, so that a crash left what one
 -- before it leaves, and from then on a crash leaves only what has P.

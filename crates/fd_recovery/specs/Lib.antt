@@ -1,3 +1,4 @@
 pub mod Damages
 pub mod Causes
 pub mod Recovered
+pub mod Crashing

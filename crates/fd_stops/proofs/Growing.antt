@@ -15,8 +15,8 @@ use Rattle.fd_outcome.specs.Ends.{LeavesBy, LeavesStored, LeavesTried}
 use Rattle.fd_outcome.specs.Outcome.{generated_messages}
 use Rattle.fd_outcome.specs.Store.{Adds, Sorted, table_at}
 use Rattle.fd_outcome.specs.Trying.{trial_given, trial_rules, trial_schema}
-use Rattle.fd_archive.specs.Crashing.{GrowsFirmly, IsAfterCrash, Outlasts, OutlastsBy, OutlastsTrial}
-use Rattle.fd_stops.specs.Found.{AreFirm, EachLeft, FoundStored, FoundTried, HasGrown, HasSchemaOr, IsFolderAfter}
+use Rattle.fd_archive.specs.Crashing.{AreFirm, GrowsFirmly, IsAfterCrash, Outlasts, OutlastsBy, OutlastsTrial}
+use Rattle.fd_stops.specs.Found.{EachLeft, FoundStored, FoundTried, HasGrown, HasSchemaOr, IsFolderAfter}
 use Rattle.fd_stops.proofs.Folders.{firm_same, folder_after, untouched_after}
 
 -- nothing was added
@@ -60,7 +60,7 @@ schema_stays Limit full calm workers rules given octets left h i out leaves = el
 stored : (s : Status) (full calm : Type 0) (workers : ℕ) (rules : Result (List Rule) Cause) (given : List keys.Pair) (octets : List ℕ) (left : Option (List ℕ)) (h i : Holdings)
     → OutlastsBy s full workers rules given octets left h i → LeavesBy s calm full workers rules given octets left h i → (j : Holdings) → IsAfterCrash i j → FoundStored workers rules given octets h j
 stored s full calm workers (Ok rules) given octets left h i out leaves j after =
-    (after.schema ∙ schema_stays s full calm workers rules given octets left h i out.0 leaves, grown workers (pairs_for (taken rules given octets).stored) h i out.1 j after)
+    (after.image.schema_is ∙ schema_stays s full calm workers rules given octets left h i out.0 leaves, grown workers (pairs_for (taken rules given octets).stored) h i out.1 j after)
 stored s full calm workers (Err cause) given octets left h i out leaves j after = subst (λ (k : Holdings). IsAfterCrash k j) out after
 
 pub archived : (s : Status) (full calm : Type 0) (workers : ℕ) (given : List keys.Pair) (before left : Option (List ℕ)) (a b : Option Holdings)
@@ -86,7 +86,7 @@ left_schema text h i j same (inr (none, is)) = inr (none, same ∙ is)
 trial_found : (s : Status) (calm full : Type 0) (workers count : ℕ) (rules : Result (List Rule) Cause) (h i : Holdings) → OutlastsTrial s workers count rules h i → LeavesTried s calm full workers rules count h i
     → (j : Holdings) → IsAfterCrash i j → FoundTried workers count rules h j
 trial_found s calm full workers count (Ok rules) h i out leaves j after =
-    (left_schema trial_schema h i j after.schema (tried_schema s calm full workers count rules h i leaves), grown workers (pairs_for (taken rules trial_given (generated_messages count)).stored) h i out.1 j after)
+    (left_schema trial_schema h i j after.image.schema_is (tried_schema s calm full workers count rules h i leaves), grown workers (pairs_for (taken rules trial_given (generated_messages count)).stored) h i out.1 j after)
 trial_found s calm full workers count (Err cause) h i out leaves j after = subst (λ (k : Holdings). IsAfterCrash k j) out after
 
 pub tried : (s : Status) (calm full : Type 0) (workers count : ℕ) (a b : Option Holdings) → WhereTold a b (λ h i. OutlastsTrial s workers count (trial_rules h.schema) h i)

@@ -1,36 +1,43 @@
 -- What is found where nothing was stored: what a crash before may have left.
-use Rattle.std.proofs.Common.{◌≡◌, ◌∙◌, ℕ, List, Option, Some, None, inl, inr, refl, ap, subst}
+use Rattle.std.proofs.Common.{◌≡◌, ◌∙◌, ℕ, List, Option, Some, None, inl, inr, refl, sym, ap, subst}
 use Rattle.std.specs.Prelude.{◌⊎◌, option_map}
 use Rattle.fd_disk.specs.declared.file.File.{File}
 use Rattle.fd_disk.specs.declared.folders.FileName.{FileName}
-use Rattle.fd_disk.specs.Folders.{Contents, Holdings, WhereTold, folder_at}
-use Rattle.fd_disk.specs.Images.{firm_file, synced}
+use Rattle.fd_disk.specs.Folders.{Contents, Holdings, IsTableLeft, WhereTold, folder_at}
+use Rattle.fd_disk.specs.Images.{IsImage, synced}
 use Rattle.fd_recovery.specs.Recovered.{ReadsImage}
 use Rattle.fd_outcome.specs.Store.{IsLookedAt, IsLookedThrough}
-use Rattle.fd_archive.specs.Crashing.{IsAfterCrash, IsTableAfter}
-use Rattle.fd_stops.specs.Found.{EachLeft, IsFolderAfter}
+use Rattle.fd_stops.specs.Found.{EachLeft, IsAfterCrash, IsFolderAfter}
 use Rattle.fd_stops.proofs.Folders.{folder_after}
 
 -- a crash leaves of a table that was synced what it read
-synced_left : (f : File) (x : Option File) → IsTableAfter (Some (synced f)) x → x ≡ Some (synced f)
-synced_left f x (c, image, is) = is ∙ ap (λ (bytes : List ℕ). Some (firm_file bytes)) (image.settled refl)
+synced_before : (v : Option File) (c : Option (List ℕ)) → ReadsImage v → IsTableLeft (option_map synced v) c → IsTableLeft v c
+synced_before None c image left = left
+synced_before (Some f) None image left = absurd left
+synced_before (Some f) (Some c) image left =
+    let is : c ≡ f.reads = left.settled refl in
+    subst (IsImage f) (sym is) image
 
-table_before : (v w x : Option File) → (w ≡ v) ⊎ ((w ≡ option_map synced v) × ReadsImage v) → IsTableAfter w x → IsTableAfter v x
-table_before v w x (inl same) after = subst (λ (o : Option File). IsTableAfter o x) same after
-table_before None w x (inr (firm, image)) after = subst (λ (o : Option File). IsTableAfter o x) firm after
-table_before (Some f) w x (inr (firm, image)) after = (f.reads, image, synced_left f x (subst (λ (o : Option File). IsTableAfter o x) firm after))
+table_before : (v w : Option File) (c : Option (List ℕ)) → (w ≡ v) ⊎ ((w ≡ option_map synced v) × ReadsImage v) → IsTableLeft w c → IsTableLeft v c
+table_before v w c (inl same) left = subst (λ (o : Option File). IsTableLeft o c) same left
+table_before v w c (inr (firm, image)) left = synced_before v c image (subst (λ (o : Option File). IsTableLeft o c) firm left)
 
 folder_before : (v w x : Contents) → IsLookedAt v w → IsFolderAfter w x → IsFolderAfter v x
 folder_before v w x at after = record {
-  table = table_before v.table w.table x.table at.table after.table;
-  files = λ n. after.files n ∙ ap (λ (f : FileName → Option (List ℕ)). f n) at.files;
+  image = record {
+    table = table_before v.table w.table (option_map (λ (f : File). f.reads) x.table) at.table after.image.table;
+    files = λ n. after.image.files n ∙ ap (λ (f : FileName → Option (List ℕ)). f n) at.files;
+  };
+  firm = after.firm;
 }
 
 found_before : (h i : Holdings) → IsLookedThrough h i → (j : Holdings) → IsAfterCrash i j → IsAfterCrash h j
 found_before h i looks j after = record {
-  schema = after.schema ∙ looks.schema;
-  files = λ name. (folder_before (folder_at h name) (folder_at i name) (folder_at j name) (looks.folders name) (folder_after i j after name)).files;
-  tables = λ name. (folder_before (folder_at h name) (folder_at i name) (folder_at j name) (looks.folders name) (folder_after i j after name)).table;
+  image = record {
+    schema_is = after.image.schema_is ∙ looks.schema;
+    folders_are = λ name. (folder_before (folder_at h name) (folder_at i name) (folder_at j name) (looks.folders name) (folder_after i j after name)).image;
+  };
+  firm = after.firm;
 }
 
 -- where the store tells

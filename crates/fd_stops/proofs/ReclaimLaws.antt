@@ -16,7 +16,7 @@ use Rattle.fd_outcome.specs.declared.status.Status.TheVariants.{Done, Missed, Wo
 use Rattle.fd_outcome.specs.Reclaiming.{InDataset, IsLeft, LeavesPurged, LeavesReclaimed, LeavesWiped, PurgeDone, WipeDone}
 use Rattle.fd_archive.specs.Crashing.{IsAfterCrash}
 use Rattle.fd_stops.specs.Found.{EachLeft, FoundReclaimed, HasOldOr, IsFolderAfter}
-use Rattle.fd_stops.proofs.Folders.{firm_same, folder_after, image_of}
+use Rattle.fd_stops.proofs.Folders.{firm_same, folder_after}
 
 -- ---- what is done is left by each crash
 
@@ -69,12 +69,12 @@ module _ (dataset : List ℕ) (P : Contents → Left → Type 0) (done : Content
   there : (v w x : Contents) → IsLeftFirmly (P v) v w → IsFolderAfter w x → IsFolderAfter v x ⊎ P v (read_of x)
   there v w x firm after = elim firm [
     | inl same ↦ inl (subst (λ (c : Contents). IsFolderAfter c x) same after)
-    | inr images ↦ inr (images (read_of x) (image_of w x after))
+    | inr images ↦ inr (images (read_of x) after.image)
   ]
 
   pub reclaimed : (s : Status) (h i : Holdings) → InDataset dataset (LeavesReclaimed done (λ v w. IsLeft (P v) v w) s) h i → (j : Holdings) → IsAfterCrash i j → FoundReclaimed dataset P h j
   reclaimed s h i x j after = record {
-    schema = after.schema ∙ x.others.schema;
+    schema = after.image.schema_is ∙ x.others.schema;
     others = λ other apart. subst (λ (c : Contents). IsFolderAfter c (folder_at j other)) (ap (λ (o : Option Contents). unwrap_or o no_contents) (x.others.others other apart)) (folder_after i j after other);
     there = there (folder_at h dataset) (folder_at i dataset) (folder_at j dataset) (firmly s (folder_at h dataset) (folder_at i dataset) x.there) (folder_after i j after dataset);
   }

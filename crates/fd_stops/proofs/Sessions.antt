@@ -17,7 +17,7 @@ use Rattle.fd_entries.specs.Table.{listed}
 use Rattle.fd_schema.specs.Rules.{Rule}
 use Rattle.fd_segment.specs.Held.{batch_of}
 use Rattle.fd_recovery.specs.Damages.{damages}
-use Rattle.fd_recovery.specs.Recovered.{IsUndamaged, all_of, batches_listed, files_of, held, held_by}
+use Rattle.fd_recovery.specs.Recovered.{IsUndamaged, WithTable, all_of, batches_listed, files_of, held, held_by}
 use Rattle.fd_library.specs.Stores.{KeepsFolder, KeepsTable, ListsIn}
 use Rattle.fd_script.specs.Scripts.{Scripted}
 use Rattle.fd_lanes.specs.declared.end.End.{End}
@@ -27,23 +27,24 @@ use Rattle.fd_play.specs.Plays.{HasOneMore, HoldBatches, KeepsOnly, LeavesOpened
 use Rattle.fd_outcome.specs.declared.status.Status.{Status}
 use Rattle.fd_outcome.specs.Objects.{Object}
 use Rattle.fd_outcome.specs.Store.{table_at}
-use Rattle.fd_archive.specs.Crashing.{IsAfterCrash, IsTableAfter}
+use Rattle.fd_archive.specs.Crashing.{AreFirm, IsAfterCrash}
+use Rattle.fd_archive.proofs.Crashed.{IsTableAfter}
 use Rattle.fd_session.specs.Sessions.{Ends, Idles, IsAccepted, Runs}
-use Rattle.fd_stops.specs.Found.{AreFirm, EachLeft, IsFolderAfter}
+use Rattle.fd_stops.specs.Found.{EachLeft, IsFolderAfter}
 use Rattle.fd_stops.specs.Playing.{FoundIdle, FoundOfSession, FoundPlayed, HasFlushed, HasOneBehind}
-use Rattle.fd_stops.proofs.Folders.{firm_same, folder_after, untouched_after}
+use Rattle.fd_stops.proofs.Folders.{firm_same, folder_after, of_table, untouched_after}
 
 -- ---- what a folder holds after a crash
 
 files_are : (w x : Contents) → IsFolderAfter w x → x.files ≡ w.files
-files_are w x after = λ i n. after.files n i
+files_are w x after = λ i n. after.image.files n i
 
 -- by the image that was left
 held_image : (name : List ℕ) (w x : Contents) (c : List ℕ) → IsFolderAfter w x → x.table ≡ Some (firm_file c) → held name x ≡ batches_listed w.files (listed name c)
 held_image name w x c after is = ap₂ (λ (fs : FileName → Option (List ℕ)) (t : Option File). held_by name fs t) (files_are w x after) is
 
 image_left : (f : File) (w x : Contents) → w.table ≡ Some f → IsFolderAfter w x → (c : List ℕ) × IsImage f c × (x.table ≡ Some (firm_file c))
-image_left f w x is after = subst (λ (t : Option File). IsTableAfter t x.table) is after.table
+image_left f w x is after = subst (λ (t : Option File). IsTableAfter t x.table) is (of_table w x after)
 
 -- ---- no lane ran
 
@@ -146,24 +147,26 @@ module _ {F : Type 0} (rules : List Rule) (messages : List (List ℕ)) (script :
   abbrev Doubted : Listing → Type 0
   Doubted l = IsDoubt l before (all_acts rules messages over.legal.places script.lanes) ends
 
-  flushed_now : (x : Contents) (c : List ℕ) → held script.dataset x ≡ batches_listed (folder_at i script.dataset).files (listed script.dataset c)
-      → HoldBatches (folder_at i script.dataset).files (listed script.dataset c) (t ++ over.flushed) ⊎ HasOneMore script.dataset (folder_at i script.dataset).files c (t ++ over.flushed) Doubted
+  flushed_now : (x : Contents) (c : List ℕ) → held script.dataset x ≡ batches_listed x.files (listed script.dataset c)
+      → HoldBatches x.files (listed script.dataset c) (t ++ over.flushed) ⊎ HasOneMore script.dataset x.files c (t ++ over.flushed) Doubted
       → HasFlushed rules messages script before ends t (held script.dataset x)
   flushed_now x c is (inl whole) = record { flushed = over.flushed; legal = over.legal; now = whole.0; after_is = is ∙ whole.1; are = inl whole.2 }
   flushed_now x c is (inr more) = record {
     flushed = over.flushed;
     legal = over.legal;
     now = more.holds.0 ++ more.batch ∷ [];
-    after_is = is ∙ ap (batches_listed (folder_at i script.dataset).files) more.lists ∙ batches_more (folder_at i script.dataset).files more.entries more.more.entry more.holds.0 more.batch more.holds.1 more.kept;
+    after_is = is ∙ ap (batches_listed x.files) more.lists ∙ batches_more x.files more.entries more.more.entry more.holds.0 more.batch more.holds.1 more.kept;
     are = inr (record { front = more.holds.0; batch = more.batch; more = more.more; is = refl; alike = more.holds.2; batch_is = more.batch_is; doubted = more.doubted });
   }
 
   flushed_left : (j : Holdings) → IsAfterCrash i j → HasFlushed rules messages script before ends t (table_at j script.dataset)
-  flushed_left j after =
-      let w = folder_at i script.dataset in
-      let x = folder_at j script.dataset in
-      let image = image_left over.table w x over.table_is (folder_after i j after script.dataset) in
-      flushed_now x image.0 (held_image script.dataset w x image.0 (folder_after i j after script.dataset) image.2) (over.images image.0 image.1)
+  flushed_left j after = go (folder_at j script.dataset).table refl (over.images (folder_at j script.dataset) (folder_after i j after script.dataset))
+    where
+      go : (o : Option File) → (folder_at j script.dataset).table ≡ o
+          → WithTable o (λ f. HoldBatches (folder_at j script.dataset).files (listed script.dataset f.reads) (t ++ over.flushed) ⊎ HasOneMore script.dataset (folder_at j script.dataset).files f.reads (t ++ over.flushed) Doubted)
+          → HasFlushed rules messages script before ends t (table_at j script.dataset)
+      go None is none = absurd none
+      go (Some f) is holds = flushed_now (folder_at j script.dataset) f.reads (ap (held_by script.dataset (folder_at j script.dataset).files) is) holds
 
 module _ (F : Type 0) (s : Status) (store : Object Holdings) (input output report : Object (List ℕ)) where
   ran : (octets : List ℕ) (h i j : Holdings) → IsAfterCrash i j → Runs F s store input output report octets h i → FoundPlayed F s output report octets h j
@@ -185,8 +188,8 @@ module _ (F : Type 0) (s : Status) (store : Object Holdings) (input output repor
       others other apart = stayed i h other (folder_at j other) (runs.played.others.others other apart) (folder_after i j after other)
 
   session_found : (octets : List ℕ) (h i j : Holdings) → IsAfterCrash i j → Idles F s store input output report octets h i ⊎ Runs F s store input output report octets h i → FoundOfSession F s output report octets h j
-  session_found octets h i j after (inl idles) = record { schema = after.schema ∙ idles.stays.schema; datasets = inl (idle octets h i j after idles.left) }
-  session_found octets h i j after (inr runs) = record { schema = after.schema ∙ runs.played.others.schema; datasets = inr (ran octets h i j after runs) }
+  session_found octets h i j after (inl idles) = record { schema = after.image.schema_is ∙ idles.stays.schema; datasets = inl (idle octets h i j after idles.left) }
+  session_found octets h i j after (inr runs) = record { schema = after.image.schema_is ∙ runs.played.others.schema; datasets = inr (ran octets h i j after runs) }
 
   pub found_of_session : (before : Option (List ℕ)) (a b : Option Holdings) → IfSome before (λ octets. WhereTold a b (λ h i. Idles F s store input output report octets h i ⊎ Runs F s store input output report octets h i))
       → IfSome before (λ octets. WhereTold a b (EachLeft (FoundOfSession F s output report octets)))

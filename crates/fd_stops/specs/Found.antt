@@ -1,7 +1,6 @@
 -- What is found of a store whose command was stopped at some call of the disk, and which then crashed.
-use Rattle.std.specs.Prelude.{◌≡◌, ◌≢◌, ◌⊎◌, ℕ, List, Option, Some, None, IfSome, Result, Ok, Err, option_map}
+use Rattle.std.specs.Prelude.{◌≡◌, ◌≢◌, ◌⊎◌, ℕ, List, Option, Some, None, Result, Ok, Err, option_map}
 use Rattle.std.specs.Result.{IsOk}
-use Rattle.fd_disk.specs.declared.folders.FileName.{FileName}
 use Rattle.fd_disk.specs.Folders.{Contents, Holdings, IsStoreImage, Left, folder_at}
 use Rattle.fd_disk.specs.Images.{firm_file}
 use Rattle.fd_entries.specs.declared.batch.Pair.{Pair}
@@ -9,21 +8,12 @@ use Rattle.fd_key.specs.Pairs as keys
 use Rattle.fd_schema.specs.Grammar.{schema_of}
 use Rattle.fd_schema.specs.Rules.{Rule}
 use Rattle.fd_purge.specs.Purging.{read_of}
+pub use Rattle.fd_recovery.specs.Crashing.{AreFirm, IsAfterCrash, IsFolderAfter}
 use Rattle.fd_outcome.specs.Causes.{Cause}
 use Rattle.fd_outcome.specs.Archiving.{pairs_for, taken}
 use Rattle.fd_outcome.specs.Outcome.{generated_messages}
 use Rattle.fd_outcome.specs.Trying.{trial_given, trial_schema}
 use Rattle.fd_outcome.specs.Store.{Adds, Sorted, table_at}
-use Rattle.fd_archive.specs.Crashing.{IsAfterCrash, IsTableAfter}
-
--- A crash of the one folder may leave the other: its files, and an image of its table.
-pub record IsFolderAfter (v w : Contents) : Type 0 where
-  pub table : IsTableAfter v.table w.table
-  pub files : (n : FileName) → w.files n ≡ v.files n
-
--- all tables are firm
-abbrev pub AreFirm : Holdings → Type 0
-AreFirm h = (name : List ℕ) → IfSome (folder_at h name).table (λ f. f ≡ firm_file f.reads)
 
 -- each store that a crash may leave of the later one is so
 abbrev pub EachLeft : (Holdings → Holdings → Type 0) → Holdings → Holdings → Type 0

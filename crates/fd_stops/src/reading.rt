@@ -2,8 +2,7 @@
 ghost use Rattle.std.specs.Prelude.{◌≡◌, ◌≤◌, false, List, ℕ};
 ghost use Rattle.fd_disk.specs.Folders.{WhereTold};
 ghost use Rattle.fd_words.specs.Words.{AreLayers};
-ghost use Rattle.fd_archive.specs.Crashing.{IsAfterCrash};
-ghost use Rattle.fd_stops.specs.Found.{EachLeft};
+ghost use Rattle.fd_stops.specs.Found.{EachLeft, IsAfterCrash};
 
 use fd_contents::{axes, cubes, list, stats};
 use fd_disk::Store;
