@@ -81,7 +81,8 @@ where
     // At 0 and 1 the input was read to its end, where the command reads it.
     ensures to_end { ((result ≡ Status.Done) ⊎ (result ≡ Status.Missed)) → IfSome (command_of (texts words.now)) (λ command. ReadsOut command (I.left input.old) (I.left input.new)) }
 
-    // At 0, 1, 3 and 9 no read of the input and no write of the output failed.
+    // At 0, 1, 3 and 9 no read of the input and no write of the output failed; but for 9 by a full table, which is told in the
+    // place of a failed read.
     ensures calm { IfSome (command_of (texts words.now)) (λ command. Calm command result (object (I.left input.old) (I.left input.new) (I.faults input.old) (I.faults input.new))
         (object (K.taken output.old) (K.taken output.new) (K.faults output.old) (K.faults output.new)) (object (E.taken report.old) (E.taken report.new) (E.faults report.old) (E.faults report.new))) }
 
