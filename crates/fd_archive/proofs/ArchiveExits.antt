@@ -341,7 +341,7 @@ module _ (root : List ℕ) (given : List keys.Pair) (workers : ℕ) (start now :
     halted_ran (faults.Damaged dataset damage) w calm read rose told = broken_ran w.all w.grows w.front (string_bytes dataset) (causes.BadFile damage) w.stop.0 w.stop.1 told
     halted_ran (faults.TableFull count) w calm read rose told = full_ran w.all w.grows w.front w.stop.1.0 w.stop.1.1 w.stop.1.2 told
     halted_ran (faults.TooMany count) w calm read rose told = too_many_ran count w calm told
-    halted_ran faults.InputLimit w calm read rose told = refusal_ran faults.InputLimit refusals.Input (λ c is. is) w calm told
+    halted_ran faults.InputLimit w calm read rose told = refusal_ran faults.InputLimit refusals.Input (λ c is. is) w calm (inl told)
     halted_ran faults.NoMemory w calm read rose told = starved_ran w.all w.grows w.front told
 
 -- ---- where the store has no rules; nothing of it has changed

@@ -70,6 +70,7 @@ module _ (workers : ℕ) (name : List ℕ) (pairs : List Pair) (b : List (List P
               ∙ ap (λ (x : List (List Pair)). Some x) (append_assoc b adds.added (c ∷ []));
           only = All-push (HasOnly pairs) adds.added c adds.only (only.only c kept.1);
           few = omega (arith, long, count, listings, sum, more, few, seen, opening);
+          none = λ e. absurd (only.some e);
         }
 
     known_grown : Adds workers pairs b (held name w)

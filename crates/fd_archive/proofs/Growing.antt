@@ -17,6 +17,10 @@ pairs_both : (all more : List Stored) (name : List ℕ) → pairs_for (all ++ mo
 pairs_both [] more name = refl
 pairs_both (s ∷ ss) more name = if_both s.pair (pairs_for ss name) (pairs_for more name) (pairs_for (ss ++ more) name) (pairs_both ss more name) (bytes_eq s.dataset name)
 
+no_front : (xs ys : List Pair) → xs ++ ys ≡ [] → xs ≡ []
+no_front [] ys e = refl
+no_front (x ∷ xs) ys e = absurd (cc e)
+
 adds_more : (workers : ℕ) (pairs more : List Pair) (t : List (List Pair)) (after : Option (List (List Pair))) → Adds workers pairs t after → Adds workers (pairs ++ more) t after
 adds_more workers pairs more t after a =
     let few = a.few in
@@ -26,6 +30,7 @@ adds_more workers pairs more t after a =
       after_is = a.after_is;
       only = λ k d lt. λ key bytes is. Contains-append_left pairs more (record { key = key; bytes = bytes }) (a.only k d lt key bytes is);
       few = omega (arith, few, longer);
+      none = λ e. a.none (no_front pairs more e);
     }
 
 pub grows_front : (workers : ℕ) (all more : List Stored) (h i : Holdings) → Grows workers (pairs_for all) h i → Grows workers (pairs_for (all ++ more)) h i

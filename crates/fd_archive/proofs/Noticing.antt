@@ -59,7 +59,7 @@ fault_part (faults.NotATable dataset at want found) result c d m n told = either
 fault_part (faults.Damaged dataset damage) result c d m n told = either_part _ _ result c d m n told refl
 fault_part (faults.TableFull count) result c d m n told = told_part _ _ result c d m n told refl
 fault_part (faults.TooMany count) result c d m n told = told_part _ _ result c d m n told refl
-fault_part faults.InputLimit result c d m n told = either_part _ _ result c d m n told refl
+fault_part faults.InputLimit result c d m n told = told_part _ _ result c d m n told refl
 fault_part faults.NoMemory result c d m n told = told_part _ _ result c d m n told refl
 
 -- ---- the exits

@@ -181,7 +181,7 @@ module _ (given : List keys.Pair) (workers : ℕ) (start now : Option Holdings) 
           let g = stopped_grows (faults.TableFull count) w in
           keeps_told Limit table_full told (λ took octets h i x y z. inr (took, g octets h i x y z)) g (stopped_firmly (faults.TableFull count) w)
       halted_keeps (faults.TooMany count) w told = keeps_told (telling causes.TooManyDatasets).status (telling causes.TooManyDatasets).line told (λ _ octets h i x y z. inl (firm_of (faults.TooMany count) w octets h i x y z)) (grown_of (faults.TooMany count) w) (firmly_of (faults.TooMany count) w)
-      halted_keeps faults.InputLimit w told = refusal_keeps faults.InputLimit refusals.Input w told
+      halted_keeps faults.InputLimit w told = refusal_keeps faults.InputLimit refusals.Input w (inl told)
       halted_keeps faults.NoMemory w told = starved told (stopped_grows faults.NoMemory w) (stopped_firmly faults.NoMemory w)
 
 -- ---- where the store has no rules, or none could be read

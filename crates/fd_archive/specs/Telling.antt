@@ -37,5 +37,5 @@ ToldFault (faults.NotATable dataset at want found) result c d m n = ToldOrNoMemo
 ToldFault (faults.Damaged dataset damage) result c d m n = ToldOrNoMemory statuses.Damaged (damaged_line (string_bytes dataset) (causes.BadFile damage)) result c d m n
 ToldFault (faults.TableFull count) result c d m n = Told statuses.Limit table_full result c d m n
 ToldFault (faults.TooMany count) result c d m n = Told (telling causes.TooManyDatasets).status (telling causes.TooManyDatasets).line result c d m n
-ToldFault faults.InputLimit result c d m n = ToldRefusal refusals.Input result c d m n
+ToldFault faults.InputLimit result c d m n = Told (refusal_status refusals.Input) (refusal_line refusals.Input) result c d m n
 ToldFault faults.NoMemory result c d m n = Told statuses.NoMemory no_memory result c d m n

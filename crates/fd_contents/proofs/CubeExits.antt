@@ -19,7 +19,7 @@ use Rattle.fd_outcome.specs.Causes as causes
 use Rattle.fd_outcome.specs.Causes.{Cause, damaged_line, telling}
 use Rattle.fd_outcome.specs.Ends.{AreSound, Calm, Ends, ReadsOut, Troubles, disk_failed, input_failed, no_memory, troubles}
 use Rattle.fd_outcome.specs.Cubing.{keys_refusal}
-use Rattle.fd_outcome.specs.Matching.{Keys, matching}
+use Rattle.fd_outcome.specs.Matching.{Keys}
 use Rattle.fd_outcome.specs.Noticing.{AreUndamaged, ReadsFitly}
 use Rattle.fd_outcome.specs.Objects.{Failed, Failures, IsCalm, Object, failures, object}
 use Rattle.fd_outcome.specs.Outcome.{Early, Outcome, lines_early, printed, refused}
@@ -35,9 +35,10 @@ use Rattle.fd_telling.specs.Stops.{OfDataset, OnDisk, OnInput, OnRefusal, ToldSo
 use Rattle.fd_retrieve.proofs.ReadyLemmas.{contains_among}
 use Rattle.fd_contents.specs.Asked.{IsEarly, Refuses, asked_in}
 use Rattle.fd_contents.specs.Cubing.{AreCubes, Comes, CubesRan, CubesTo, HasPrinted, HasRefused, IsComplete, IsRefused, WhereCubed}
+use Rattle.fd_contents.specs.Gathering.{FindsAll}
 use Rattle.fd_contents.specs.Told.{AreStarved, AreUnwritten, AreWritten, KeysPrinted, KeysRefused, KeysStarved, ToldKeys, ToldLines}
 use Rattle.fd_contents.proofs.Exits.{both_at, store_at}
-use Rattle.fd_contents.proofs.Gathered.{KeepsAll, all_kept, chosen}
+use Rattle.fd_contents.proofs.Gathered.{all_kept, chosen}
 use Rattle.fd_contents.proofs.Noticed.{undamaged_at}
 
 module _ (root : List ℕ) (before now : Option Holdings) (sm sn : ℕ) (input output report : Object (List ℕ)) (result : Status) (looks : WhereTold before now IsLookedThrough)
@@ -295,21 +296,21 @@ module _ (root : List ℕ) (before now : Option Holdings) (sm sn : ℕ) (input o
       (λ w. absurd (elim w as (λ _. ⊥) [ inl x ↦ apart is_whole OutputFault Done refl refl (sym so ∙ x) | inr x ↦ apart is_whole OutputFault Missed refl refl (sym so ∙ x) ]))
 
   module _ (keywords : List Keyword) (kept : Keys) (asked : IfSome before (λ h. IfSome input.before (λ octets. asked_in h octets ≡ Ok keywords))) (calm_in : IsCalm input) (read : ReadsOut command input.before input.now)
-      (sound : IfSome before (λ h. (names : List (List ℕ)) → AreNames h names → NoneIsDamaged h names)) (keeps : IfSome before (λ h. (names : List (List ℕ)) → AreNames h names → KeepsAll kept (matching keywords h names))) where
+      (sound : IfSome before (λ h. (names : List (List ℕ)) → AreNames h names → NoneIsDamaged h names)) (finds : IfSome before (λ h. (names : List (List ℕ)) → AreNames h names → FindsAll keywords h names kept)) where
     asked_at : (octets : List ℕ) (h : Holdings) → input.before ≡ Some octets → before ≡ Some h → asked_in h octets ≡ Ok keywords
     asked_at octets h d e = both_at before input.before (λ octets h. asked_in h octets ≡ Ok keywords) asked octets h d e
 
-    keeps_at : (h : Holdings) (names : List (List ℕ)) → before ≡ Some h → AreNames h names → KeepsAll kept (matching keywords h names)
-    keeps_at h names e an = store_at before (λ h. (names : List (List ℕ)) → AreNames h names → KeepsAll kept (matching keywords h names)) keeps h e names an
+    finds_at : (h : Holdings) (names : List (List ℕ)) → before ≡ Some h → AreNames h names → FindsAll keywords h names kept
+    finds_at h names e an = store_at before (λ h. (names : List (List ℕ)) → AreNames h names → FindsAll keywords h names kept) finds h e names an
 
     refuses_keys : (cause : Cause) → keys_refusal kept ≡ Some cause → Each (λ octets h i names. CubesTo h names octets (refused cause))
     refuses_keys cause is octets h i names d e f an =
-        let c = chosen kept (matching keywords h names) (Some cause) (keeps_at h names e an) is in
+        let c = chosen keywords h names kept (Some cause) (finds_at h names e an) is in
         HasRefused keywords (asked_at octets h d e) c.keys c.are cause c.refusal refl
 
     prints : keys_refusal kept ≡ None → (lines : List (List ℕ)) → AreCubes kept lines → Each (λ octets h i names. CubesTo h names octets (printed (text_lines lines)))
     prints none lines cubes octets h i names d e f an =
-        HasPrinted keywords (asked_at octets h d e) kept (all_kept kept (matching keywords h names) (keeps_at h names e an) none) none lines cubes refl
+        HasPrinted keywords (asked_at octets h d e) kept (all_kept keywords h names kept (finds_at h names e an) none) none lines cubes refl
 
     well : AreWell
     well octets h i names d e f an = λ name opens. undamaged_at h names (store_at before (λ h. (names : List (List ℕ)) → AreNames h names → NoneIsDamaged h names) sound h e names an) name opens.1

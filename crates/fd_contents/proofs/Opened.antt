@@ -106,7 +106,7 @@ module _ (h : Holdings) (o : Open) (open_ : IsOpenIn h o) where
 
   -- ---- what its indexes have records of
 
-  open_recorded : (t : List (List Pair)) → AreRecorded o.shown t → AreRecordedIn o.name (folder_at h o.name) t
+  pub open_recorded : (t : List (List Pair)) → AreRecorded o.shown t → AreRecordedIn o.name (folder_at h o.name) t
   open_recorded t all =
       subst (λ (q : Option File). MatchOption q (t ≡ []) (λ f. (es : List Entry) × (listed o.name f.reads ≡ Ok es) × AllZip IsRecorded (map (files_of (folder_at h o.name).files) es) t)) (sym open_.listed.table_is)
       (open_.listed.entries, open_.listed.lists, subst (λ fs. AllZip IsRecorded fs t) open_.listed.files all)

@@ -1,9 +1,10 @@
 -- What `cubes` does: which lines it prints of the keys that match, and what each status tells of them.
 use Rattle.std.specs.Prelude.{◌≡◌, ◌⊎◌, ◌≤◌, ℕ, List, [], map, Option, Some, None, Ok, Err, IfSome}
-use Rattle.std.specs.List.{All}
+use Rattle.std.specs.List.{All, AllZip}
 use Rattle.std.specs.Result.{IsErr}
 use Rattle.std.specs.List.Sorted.{IsPermutation}
 use Rattle.fd_disk.specs.Folders.{Holdings, WhereTold}
+use Rattle.fd_entries.specs.declared.batch.Pair.{Pair}
 use Rattle.fd_request.specs.Expansion.{Keyword}
 use Rattle.fd_request.specs.Limits.{request_of}
 use Rattle.fd_words.specs.declared.command.Command.{Command}
@@ -24,6 +25,7 @@ use Rattle.fd_outcome.specs.Objects.{Failed, IsCalm, Object, failures}
 use Rattle.fd_outcome.specs.Outcome.{Outcome, lines_early, printed, refused}
 use Rattle.fd_outcome.specs.Store.{AreNames, IsLookedThrough}
 use Rattle.fd_contents.specs.Asked.{asked_in}
+use Rattle.fd_contents.specs.Gathering.{IsTableIn}
 
 -- ---- which lines are printed
 
@@ -38,9 +40,12 @@ pub record AreCubes (ks : Keys) (lines : List (List ℕ)) : Type 0 where
   pub texts : IsPermutation (map cube_text cubes) lines
   pub sorted : AreSorted lines
 
--- These are the keys that match, where no dataset is damaged.
-abbrev pub AreMatching : List Keyword → Holdings → List (List ℕ) → Keys → Type 0
-AreMatching keywords h names ks = IfSome (matching keywords h names) (λ all. ks ≡ all)
+-- These are the keys that match: of each dataset those of its table, where it is sound, and in any case those of such batches as its
+-- indexes have records of.
+pub record AreMatching (keywords : List Keyword) (h : Holdings) (names : List (List ℕ)) (ks : Keys) : Type 0 where
+  pub tables : List (List (List Pair))
+  pub each : AllZip (IsTableIn h) names tables
+  pub are : ks ≡ matching keywords names tables
 
 -- What `cubes` makes of its input and of what the store holds: it is refused in the manner of `list`, or by the keys that match,
 -- or it prints cubes of them.

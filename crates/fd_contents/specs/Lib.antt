@@ -4,4 +4,5 @@ pub mod Halts
 pub mod Cubing
 pub mod Told
 pub mod Recorded
+pub mod Gathering
 pub mod Printed

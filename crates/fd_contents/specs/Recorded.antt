@@ -9,10 +9,13 @@ use Rattle.fd_entries.specs.Table.{listed}
 use Rattle.fd_recovery.specs.Recovered.{files_of}
 use Rattle.fd_request.specs.Expansion.{Keyword}
 use Rattle.fd_inventory.specs.Recorded.{IsRecorded}
+use Rattle.fd_words.specs.declared.command.Command.{Command}
+use Rattle.fd_words.specs.declared.command.Command.TheVariants as commands
 use Rattle.fd_outcome.specs.declared.status.Status.{Status}
 use Rattle.fd_outcome.specs.declared.status.Status.TheVariants.{Done}
 use Rattle.fd_outcome.specs.Objects.{Object}
 use Rattle.fd_outcome.specs.Outcome.{stats_of}
+use Rattle.fd_outcome.specs.Rows.{axes_text, list_text}
 use Rattle.fd_outcome.specs.Store.{AreNames, entries_in}
 use Rattle.fd_contents.specs.Asked.{asked_in}
 
@@ -37,3 +40,23 @@ ListsRecords text s input store output = s ≡ Done → IfSome input (λ octets.
 -- What `stats` prints at 0, where the store tells: for each dataset that has a table its line.
 abbrev pub CountsRecords : Status → Option Holdings → Object (List ℕ) → Type 0
 CountsRecords s store output = s ≡ Done → IfSome store (λ h. (names : List (List ℕ)) → AreNames h names → PrintedByRecords (λ h name t. stats_of name (entries_in name (folder_at h name).table) (Some t)) h names output.before output.now)
+
+-- The same by the command: of another than these nothing is said here.
+abbrev pub PrintsRecords : Command → Status → Object Holdings → Object (List ℕ) → Object (List ℕ) → Type 0
+PrintsRecords (commands.Pick wanted) s store input output = Unit {0}
+PrintsRecords commands.Describe s store input output = Unit {0}
+PrintsRecords commands.Split s store input output = Unit {0}
+PrintsRecords (commands.Values decimals) s store input output = Unit {0}
+PrintsRecords (commands.Generate count) s store input output = Unit {0}
+PrintsRecords (commands.Create root) s store input output = Unit {0}
+PrintsRecords (commands.Archive root given workers) s store input output = Unit {0}
+PrintsRecords (commands.Retrieve root workers) s store input output = Unit {0}
+PrintsRecords (commands.RetrieveOver root layers workers) s store input output = Unit {0}
+PrintsRecords (commands.List root) s store input output = ListsRecords list_text s input.before store.before output
+PrintsRecords (commands.Axes root) s store input output = ListsRecords axes_text s input.before store.before output
+PrintsRecords (commands.Stats root) s store input output = CountsRecords s store.before output
+PrintsRecords (commands.Cubes root) s store input output = Unit {0}
+PrintsRecords (commands.Session root) s store input output = Unit {0}
+PrintsRecords (commands.Purge root dataset) s store input output = Unit {0}
+PrintsRecords (commands.Wipe root dataset) s store input output = Unit {0}
+PrintsRecords (commands.Trial root count workers) s store input output = Unit {0}

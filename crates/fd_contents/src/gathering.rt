@@ -1,17 +1,15 @@
 // The keys of all datasets that a partial request asks for.
-ghost use Rattle.std.specs.Prelude.{◌≡◌, ◌≤◌, [], ◌∷◌, List, ℕ, Some, false, IfOk, IfErr, IfSome, OnOk, length};
+ghost use Rattle.std.specs.Prelude.{◌≡◌, ◌≤◌, [], ◌∷◌, List, ℕ, false, IfOk, IfErr, IfSome, OnOk, length};
 ghost use Rattle.fd_disk.specs.Folders.{Holdings, WhereTold, folder_at};
-ghost use Rattle.fd_entries.specs.declared.batch.Pair.{Pair};
 ghost use Rattle.fd_schema.specs.Seen.{texts};
 ghost use Rattle.fd_segment.specs.Causes.{OnDamaged};
 ghost use Rattle.fd_recovery.specs.Recovered.{IsUndamaged};
-ghost use Rattle.fd_inventory.specs.Found.{Keeps};
 ghost use Rattle.fd_inventory.specs.Indexes.{IsAmongBad};
-ghost use Rattle.fd_outcome.specs.Matching.{Keys, matching, with_dataset};
-ghost use Rattle.fd_outcome.specs.Store.{AreNames, IsLookedThrough, table_at};
+ghost use Rattle.fd_outcome.specs.Store.{AreNames, IsLookedThrough};
 ghost use Rattle.fd_retrieve.specs.Open.{IsOpenIn};
 ghost use Rattle.fd_retrieve.specs.Ready.{IsBrokenOf, NoneIsDamaged};
 ghost use Rattle.fd_telling.specs.Stops.{OfDataset};
+ghost use Rattle.fd_contents.specs.Gathering.{FindsAll, FindsIn};
 
 use crate::datasets::{damaged, opened_at};
 use fd_disk::{Down, Folder, Sealed, Store};
@@ -49,7 +47,7 @@ fn keys_of<F: Send, Z: Sealed<F>>(
 ) -> Result<Found, LensFault<F>>
 where
     requires short { length dataset.now.name ≤ 255 }
-    ensures found { IfOk result (λ f. (h : Holdings) (all : Keys) (t : List (List Pair)) → IsOpenIn h dataset.now → table_at h dataset.now.name ≡ Some t → Keeps found all → Keeps f (with_dataset partial.now dataset.now.name t all)) }
+    ensures found { IfOk result (λ f. (h : Holdings) → IsOpenIn h dataset.now → FindsIn partial.now h dataset.now.name found f) }
     ensures damaged { IfErr result (λ e. OnDamaged e (IsAmongBad dataset.now.shown)) }
 {
     found_in(alloc, dataset.name(), dataset.snapshot(), partial, found)
@@ -65,7 +63,7 @@ fn keys_in<F: Send + Drop, S: Store<F>>(
 ) -> Result<Found, Stop<F>>
 where
     requires home { (n : List ℕ) → S.out store.old n ≡ false }
-    ensures found { IfOk result (λ f. IfSome (S.has store.old) (λ h. (all : Keys) (t : List (List Pair)) → table_at h name.now ≡ Some t → Keeps found all → Keeps f (with_dataset partial.now name.now t all))) }
+    ensures found { IfOk result (λ f. IfSome (S.has store.old) (λ h. FindsIn partial.now h name.now found f)) }
     ensures undamaged { OnOk result (IfSome (S.has store.old) (λ h. IsUndamaged name.now (folder_at h name.now))) }
     ensures broken { IfErr result (λ stop. IfSome (S.has store.old) (λ h. IsBrokenOf stop h (name.now ∷ []))) }
     ensures of { IfErr result OfDataset }
@@ -93,7 +91,7 @@ fn keys_in_each<F: Send + Drop, S: Store<F>>(
 ) -> Result<Found, Stop<F>>
 where
     requires home { (n : List ℕ) → S.out store.old n ≡ false }
-    ensures found { IfOk result (λ f. IfSome (S.has store.old) (λ h. (ks : Keys) → matching partial.now h (texts names.now) ≡ Some ks → Keeps f ks)) }
+    ensures found { IfOk result (λ f. IfSome (S.has store.old) (λ h. FindsAll partial.now h (texts names.now) f)) }
     ensures undamaged { OnOk result (IfSome (S.has store.old) (λ h. NoneIsDamaged h (texts names.now))) }
     ensures broken { IfErr result (λ stop. IfSome (S.has store.old) (λ h. IsBrokenOf stop h (texts names.now))) }
     ensures of { IfErr result OfDataset }
@@ -120,7 +118,7 @@ pub(crate) fn keys_asked<F: Send + Drop, S: Store<F>>(
 ) -> Result<Found, Stop<F>>
 where
     requires home { (n : List ℕ) → S.out store.old n ≡ false }
-    ensures found { IfOk result (λ f. IfSome (S.has store.old) (λ h. (names : List (List ℕ)) → AreNames h names → (ks : Keys) → matching partial.now h names ≡ Some ks → Keeps f ks)) }
+    ensures found { IfOk result (λ f. IfSome (S.has store.old) (λ h. (names : List (List ℕ)) → AreNames h names → FindsAll partial.now h names f)) }
     ensures undamaged { OnOk result (IfSome (S.has store.old) (λ h. (names : List (List ℕ)) → AreNames h names → NoneIsDamaged h names)) }
     ensures broken { IfErr result (λ stop. IfSome (S.has store.old) (λ h. (names : List (List ℕ)) → AreNames h names → IsBrokenOf stop h names)) }
     ensures of { IfErr result OfDataset }

@@ -11,5 +11,5 @@ mod Newness
 mod Pieces
 mod Placing
 mod Printed
-mod Recording
+pub mod Recording
 pub mod Upserting

@@ -90,20 +90,41 @@ all_lengths : (records : List (List Record)) → AllZip AreLengths records (map 
 all_lengths [] = tt
 all_lengths (rs ∷ rest) = (lengths_for rs, all_lengths rest)
 
-are_recorded : (ss : List Standing) (records : List (List Record)) → AllZip HasRecords ss records → AreRecorded ss (map batch_for records)
-are_recorded [] [] has = tt
-are_recorded [] (rs ∷ rest) has = absurd has
-are_recorded (s ∷ ss) [] has = absurd has
-are_recorded (s ∷ ss) (rs ∷ rest) has = ((rs, has.0, lengths_for rs), are_recorded ss rest has.1)
+-- each of these tables is one by the records of the indexes
+recorded_by : (ss : List Standing) (records : List (List Record)) (t : List (List Pair)) → AllZip HasRecords ss records → AllZip AreLengths records t → AreRecorded ss t
+recorded_by [] [] [] has z = tt
+recorded_by [] [] (b ∷ t) has z = absurd z
+recorded_by [] (rs ∷ rest) t has z = absurd has
+recorded_by (s ∷ ss) [] t has z = absurd has
+recorded_by (s ∷ ss) (rs ∷ rest) [] has z = absurd z
+recorded_by (s ∷ ss) (rs ∷ rest) (b ∷ t) has z = ((rs, has.0, z.0), recorded_by ss rest t has.1 z.1)
 
--- what holds of each of these tables holds of the one that the segments stand for
+-- what holds of each of these tables holds of the one that the segments stand for, which is one of them
 pub of_told : (ss : List Standing) (P : List (List Pair) → Type 0) → ByRecords ss P → (t : List (List Pair)) → Tells (map listing ss) t → P t
 of_told ss P by t tells = by.of t (tells_lengths ss t by.records tells by.has)
 
-pub text_by : (text : List (List Pair) → List ℕ) (ss : List Standing) (x : List ℕ) (P : List (List Pair) → Type 0) → ByRecords ss P → ((t : List (List Pair)) → P t → x ≡ text t) → IsTextBy text ss x
-text_by text ss x P by is = record {
-  sound = λ t tells. is t (of_told ss P by t tells);
+pub told_recorded : (ss : List Standing) (P : List (List Pair) → Type 0) → ByRecords ss P → (t : List (List Pair)) → Tells (map listing ss) t → AreRecorded ss t
+told_recorded ss P by t tells = recorded_by ss by.records t by.has (tells_lengths ss t by.records tells by.has)
+
+-- and there is one, whatever the segments stand for
+pub record MadeTable (ss : List Standing) (P : List (List Pair) → Type 0) : Type 0 where
+  pub table : List (List Pair)
+  pub recorded : AreRecorded ss table
+  pub holds : P table
+
+pub made_table : (ss : List Standing) (P : List (List Pair) → Type 0) → ByRecords ss P → MadeTable ss P
+made_table ss P by = record {
   table = map batch_for by.records;
-  recorded = are_recorded ss by.records by.has;
-  is = is (map batch_for by.records) (by.of (map batch_for by.records) (all_lengths by.records));
+  recorded = recorded_by ss by.records (map batch_for by.records) by.has (all_lengths by.records);
+  holds = by.of (map batch_for by.records) (all_lengths by.records);
 }
+
+pub text_by : (text : List (List Pair) → List ℕ) (ss : List Standing) (x : List ℕ) (P : List (List Pair) → Type 0) → ByRecords ss P → ((t : List (List Pair)) → P t → x ≡ text t) → IsTextBy text ss x
+text_by text ss x P by is =
+    let made = made_table ss P by in
+    record {
+      sound = λ t tells. is t (of_told ss P by t tells);
+      table = made.table;
+      recorded = made.recorded;
+      is = is made.table made.holds;
+    }

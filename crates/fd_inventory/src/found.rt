@@ -1,12 +1,11 @@
 // The keys that a partial request asks for, each once.
-ghost use Rattle.std.specs.Prelude.{◌≡◌, ◌≢◌, ◌≤◌, [], List, IfOk, IfErr, length, map, string_bytes};
+ghost use Rattle.std.specs.Prelude.{◌≡◌, ◌≢◌, ◌≤◌, [], List, IfOk, IfErr, length, string_bytes};
 ghost use Rattle.std.specs.List.{All, AllPairs};
-ghost use Rattle.fd_entries.specs.declared.batch.Pair.{Pair};
-ghost use Rattle.fd_dataset.specs.Listed.{listing};
 ghost use Rattle.fd_key.specs.Pairs.{key_text};
 ghost use Rattle.fd_segment.specs.Causes.{OnDamaged};
 ghost use Rattle.fd_inventory.specs.Found.{AreFound, HasKey, HaveKeys, IsNamed, Keeps, keep, keep_rows};
-ghost use Rattle.fd_inventory.specs.Indexes.{IsAmongBad, Tells};
+ghost use Rattle.fd_inventory.specs.Indexes.{IsAmongBad};
+ghost use Rattle.fd_inventory.specs.Recorded.{ByRecords};
 ghost use Rattle.fd_inventory.specs.Shown.{AreRows};
 ghost use Rattle.fd_outcome.specs.Matching.{Keys, with_dataset, with_key};
 ghost use Rattle.fd_outcome.specs.Rows.{Row};
@@ -128,8 +127,9 @@ fn with_rows(alloc: Global, dataset: &str, rows: &Rows, found: Found) -> Result<
 }
 
 /// The keys that were found, and behind them those of a dataset that the partial request asks for, in the order of the lines of
-/// `list`: each unless one before it has its text. Once there are more than a request may have, no more are kept. A stored key
-/// that is no pairs in their one spelling is asked for by no request.
+/// `list`: each unless one before it has its text. They are those of every table that has the keys and the lengths of the records of
+/// the snapshot's indexes. Once there are more than a request may have, no more are kept. A stored key that is no pairs in their one
+/// spelling is asked for by no request.
 ///
 /// `Fault` comes only with the fault of a file's call in this call, `Damaged` only with an index among the snapshot's that isn't
 /// in its format.
@@ -142,7 +142,7 @@ pub fn found_in<F: Send, Z: Sealed<F>>(
 ) -> Result<Found, LensFault<F>>
 where
     requires short { length dataset.now ≤ 255 }
-    ensures found { IfOk result (λ f. (t : List (List Pair)) (all : Keys) → Tells (map listing snapshot.now) t → Keeps found all → Keeps f (with_dataset partial.now dataset.now t all)) }
+    ensures found { IfOk result (λ f. ByRecords snapshot.now (λ t. (all : Keys) → Keeps found all → Keeps f (with_dataset partial.now dataset.now t all))) }
     ensures damaged { IfErr result (λ e. OnDamaged e (IsAmongBad snapshot.now)) }
 {
     let rows = rows_of(alloc, dataset, snapshot, partial)?;

@@ -26,8 +26,8 @@ stays h = record { schema = refl; folders = λ name. stays_folder name (folder_a
 pub looked : (h : Holdings) → IsLookedThrough h h
 looked h = record { schema = refl; folders = λ name. record { files = refl; table = inl refl } }
 
-adds_none : (workers : ℕ) (pairs : List Pair) (t : List (List Pair)) (after : Option (List (List Pair))) → after ≡ Some t → Adds workers pairs t after
-adds_none workers pairs t after is = record { added = []; after_is = is ∙ ap (λ x. Some x) (sym (append-nil t)); only = λ k d lt. absurd (omega arith); few = omega arith }
+pub adds_none : (workers : ℕ) (pairs : List Pair) (t : List (List Pair)) (after : Option (List (List Pair))) → after ≡ Some t → Adds workers pairs t after
+adds_none workers pairs t after is = record { added = []; after_is = is ∙ ap (λ x. Some x) (sym (append-nil t)); only = λ k d lt. absurd (omega arith); few = omega arith; none = λ e. refl }
 
 pub grows_none : (workers : ℕ) (pairs : Sorted) (h : Holdings) → Grows workers pairs h h
 grows_none workers pairs h = record { schema = refl; each = λ name t is. adds_none workers (pairs name) t (table_at h name) is }

@@ -1,5 +1,5 @@
 -- What a store holds, and what may become of it.
-use Rattle.std.specs.Prelude.{◌≡◌, ◌⊎◌, ◌≤◌, ◌+◌, ◌/◌, ℕ, Bool, List, ◌++◌, length, is_some, option_map, Option, Some, None, IfSome, IsSome, Result, Ok, Err, Contains}
+use Rattle.std.specs.Prelude.{◌≡◌, ◌⊎◌, ◌≤◌, ◌+◌, ◌/◌, ℕ, Bool, List, [], ◌++◌, length, is_some, option_map, Option, Some, None, IfSome, IsSome, Result, Ok, Err, Contains}
 use Rattle.std.specs.List.{All, list_any}
 use Rattle.std.specs.Str.{bytes_eq}
 use Rattle.std.specs.Ordering.{nat_cmp}
@@ -103,12 +103,13 @@ pub record Plants (text : List ℕ) (h i : Holdings) : Type 0 where
 abbrev pub HasOnly : List Pair → List Pair → Type 0
 HasOnly pairs b = (key bytes : List ℕ) → of_batch b key ≡ Some bytes → Contains pairs (record { key = key; bytes = bytes })
 
--- Batches were added to a table, few for so many workers, and of these pairs alone.
+-- Batches were added to a table, few for so many workers, and of these pairs alone; none where there are no pairs.
 pub record Adds (workers : ℕ) (pairs : List Pair) (before : List (List Pair)) (after : Option (List (List Pair))) : Type 0 where
   pub added : List (List Pair)
   pub after_is : after ≡ Some (before ++ added)
   pub only : All (HasOnly pairs) added
   pub few : length added ≤ workers + length pairs / 512
+  pub none : pairs ≡ [] → added ≡ []
 
 -- The same, and each key has now the bytes of its last pair, or else those that it had.
 pub record AddsAll (workers : ℕ) (pairs : List Pair) (before : List (List Pair)) (after : Option (List (List Pair))) : Type 0 where

@@ -2,6 +2,8 @@
 use Rattle.std.specs.Prelude.{◌≡◌, ◌⊎◌, ◌≤◌, ℕ, List, Option}
 use Rattle.fd_bytes.specs.Causes.{Rose}
 use Rattle.fd_io.specs.Streams.{Takes, TakesFront}
+use Rattle.fd_outcome.specs.declared.refusal.Refusal.{Refusal}
+use Rattle.fd_outcome.specs.declared.refusal.Refusal.TheVariants as refusals
 use Rattle.fd_outcome.specs.declared.status.Status.{Status}
 use Rattle.fd_outcome.specs.declared.status.Status.TheVariants.{OutputFault, NoMemory}
 use Rattle.fd_outcome.specs.Ends.{no_memory}
@@ -25,3 +27,8 @@ pub record Told (s : Status) (text : List ℕ) (result : Status) (c d : Option (
 -- the same, or the line that memory ran out in its place
 abbrev pub ToldOrNoMemory : Status → List ℕ → Status → Option (List ℕ) → Option (List ℕ) → ℕ → ℕ → Type 0
 ToldOrNoMemory s text result c d m n = Told s text result c d m n ⊎ Told NoMemory no_memory result c d m n
+
+-- what holds where the input is longer than an input may be
+abbrev pub OnLongInput : Refusal → Type 0 → Type 0
+OnLongInput refusals.Input P = P
+OnLongInput refusal P = Unit {0}

@@ -4,7 +4,7 @@ ghost use Rattle.std.specs.Fmt.{decimal};
 ghost use Rattle.fd_listing.specs.Lines.{line};
 ghost use Rattle.fd_outcome.specs.Refusals.{refusal_line, refusal_status, refused_message_line, cut_message_line, refused_map_line, refused_key_line, refused_field_line};
 ghost use Rattle.fd_outcome.specs.Ends.{disk_failed, input_failed, output_failed};
-ghost use Rattle.fd_outcome.specs.Told.{Told, ToldOrNoMemory};
+ghost use Rattle.fd_outcome.specs.Told.{OnLongInput, Told, ToldOrNoMemory};
 
 use crate::refusal::Refusal;
 use crate::status::Status;
@@ -149,9 +149,11 @@ pub fn tell_number<X: Drop, E: Sink<X>>(
     }
 }
 
-/// Writes the line of a refusal.
+/// Writes the line of a refusal. That of an input which is longer than an input may be is always the same: want of memory isn't told
+/// in its place.
 pub fn tell_refusal<X: Drop, E: Sink<X>>(alloc: Global, report: &mut E, refusal: Refusal) -> Status
-    ensures { ToldOrNoMemory (refusal_status refusal) (refusal_line refusal) result (E.taken report.old) (E.taken report.new) (E.faults report.old) (E.faults report.new) }
+    ensures told { ToldOrNoMemory (refusal_status refusal) (refusal_line refusal) result (E.taken report.old) (E.taken report.new) (E.faults report.old) (E.faults report.new) }
+    ensures input { OnLongInput refusal (Told Status.Limit (refusal_line Refusal.Input) result (E.taken report.old) (E.taken report.new) (E.faults report.old) (E.faults report.new)) }
 {
     match refusal {
         Refusal::Message(at) => tell_message_fault(alloc, report, at),

@@ -16,6 +16,7 @@ use Rattle.fd_outcome.proofs.Asked.{asked_all}
 use Rattle.fd_outcome.proofs.Exits.{apart, is_whole}
 use Rattle.fd_archive.specs.Crashing.{OutlastsCrash}
 use Rattle.fd_contents.specs.Cubing.{CubesRan}
+use Rattle.fd_contents.specs.Recorded.{CountsRecords, PrintsRecords}
 use Rattle.fd_contents.proofs.CubesDone.{cubes_ran}
 use Rattle.fd_session.specs.Sessions.{SessionRan}
 use Rattle.fd_session.proofs.Commands.{session_ran}
@@ -38,6 +39,30 @@ fits command (Some h) input all = all h.schema
 pub starved_notices : (o : Option Command) (s : Status) (store : Object Holdings) (input output report : Object (List ℕ)) → (s ≡ NoMemory) ⊎ (s ≡ OutputFault) → IfSome o (λ command. Notices command s store input output report)
 starved_notices None s store input output report idle = tt
 starved_notices (Some command) s store input output report idle = λ whole. absurd (never_whole s idle whole)
+
+-- where a run doesn't end with 0, nothing is said of what it prints by the records of indexes
+unprinted : (command : Command) (s : Status) (store : Object Holdings) (input output : Object (List ℕ)) → ¬ (s ≡ Done) → PrintsRecords command s store input output
+unprinted (commands.Pick wanted) s store input output never = tt
+unprinted commands.Describe s store input output never = tt
+unprinted commands.Split s store input output never = tt
+unprinted (commands.Values decimals) s store input output never = tt
+unprinted (commands.Generate count) s store input output never = tt
+unprinted (commands.Create root) s store input output never = tt
+unprinted (commands.Archive root given workers) s store input output never = tt
+unprinted (commands.Retrieve root workers) s store input output never = tt
+unprinted (commands.RetrieveOver root layers workers) s store input output never = tt
+unprinted (commands.List root) s store input output never = λ done. absurd (never done)
+unprinted (commands.Axes root) s store input output never = λ done. absurd (never done)
+unprinted (commands.Stats root) s store input output never = λ done. absurd (never done)
+unprinted (commands.Cubes root) s store input output never = tt
+unprinted (commands.Session root) s store input output never = tt
+unprinted (commands.Purge root dataset) s store input output never = tt
+unprinted (commands.Wipe root dataset) s store input output never = tt
+unprinted (commands.Trial root count workers) s store input output never = tt
+
+pub starved_recorded : (o : Option Command) (s : Status) (store : Object Holdings) (input output : Object (List ℕ)) → (s ≡ NoMemory) ⊎ (s ≡ OutputFault) → IfSome o (λ command. PrintsRecords command s store input output)
+starved_recorded None s store input output idle = tt
+starved_recorded (Some command) s store input output idle = unprinted command s store input output (λ done. never_whole s idle (inl done))
 
 pub starved_unread : (o : Option Command) (store : Object Holdings) (left : Option (List ℕ)) (k : ℕ) → IfSome o (λ command. ReadsFitly command store (object left left k k))
 starved_unread None store left k = tt
@@ -87,13 +112,13 @@ module _ (F : Type 0) where
 
     pub plain : (command : Command) → IsPlain command → Ran command s store input output report → CommandRan F command s store input output report
     plain (commands.Pick wanted) is ran =
-        record { ran = ran; session = tt; cubes = tt; notices = silent (commands.Pick wanted) (λ octets h names. tt); unread = never_unfit (commands.Pick wanted) (λ schema unfit. unfit); spares = λ stores. absurd stores; outlasts = tt }
-    plain commands.Describe is ran = record { ran = ran; session = tt; cubes = tt; notices = silent commands.Describe (λ octets h names. tt); unread = never_unfit commands.Describe (λ schema unfit. unfit); spares = λ stores. absurd stores; outlasts = tt }
-    plain commands.Split is ran = record { ran = ran; session = tt; cubes = tt; notices = silent commands.Split (λ octets h names. tt); unread = never_unfit commands.Split (λ schema unfit. unfit); spares = λ stores. absurd stores; outlasts = tt }
+        record { ran = ran; session = tt; cubes = tt; recorded = tt; notices = silent (commands.Pick wanted) (λ octets h names. tt); unread = never_unfit (commands.Pick wanted) (λ schema unfit. unfit); spares = λ stores. absurd stores; outlasts = tt }
+    plain commands.Describe is ran = record { ran = ran; session = tt; cubes = tt; recorded = tt; notices = silent commands.Describe (λ octets h names. tt); unread = never_unfit commands.Describe (λ schema unfit. unfit); spares = λ stores. absurd stores; outlasts = tt }
+    plain commands.Split is ran = record { ran = ran; session = tt; cubes = tt; recorded = tt; notices = silent commands.Split (λ octets h names. tt); unread = never_unfit commands.Split (λ schema unfit. unfit); spares = λ stores. absurd stores; outlasts = tt }
     plain (commands.Values decimals) is ran =
-        record { ran = ran; session = tt; cubes = tt; notices = silent (commands.Values decimals) (λ octets h names. tt); unread = never_unfit (commands.Values decimals) (λ schema unfit. unfit); spares = λ stores. absurd stores; outlasts = tt }
+        record { ran = ran; session = tt; cubes = tt; recorded = tt; notices = silent (commands.Values decimals) (λ octets h names. tt); unread = never_unfit (commands.Values decimals) (λ schema unfit. unfit); spares = λ stores. absurd stores; outlasts = tt }
     plain (commands.Generate count) is ran =
-        record { ran = ran; session = tt; cubes = tt; notices = silent (commands.Generate count) (λ octets h names. tt); unread = never_unfit (commands.Generate count) (λ schema unfit. unfit); spares = λ stores. absurd stores; outlasts = tt }
+        record { ran = ran; session = tt; cubes = tt; recorded = tt; notices = silent (commands.Generate count) (λ octets h names. tt); unread = never_unfit (commands.Generate count) (λ schema unfit. unfit); spares = λ stores. absurd stores; outlasts = tt }
     plain (commands.Create root) is ran = absurd is
     plain (commands.Archive root given workers) is ran = absurd is
     plain (commands.Retrieve root workers) is ran = absurd is
@@ -104,23 +129,23 @@ module _ (F : Type 0) where
     plain (commands.Cubes root) is ran = absurd is
     plain (commands.Session root) is ran = absurd is
     plain (commands.Purge root dataset) is ran =
-        record { ran = ran; session = tt; cubes = tt; notices = silent (commands.Purge root dataset) (λ octets h names. tt); unread = never_unfit (commands.Purge root dataset) (λ schema unfit. unfit); spares = λ stores. absurd stores; outlasts = tt }
+        record { ran = ran; session = tt; cubes = tt; recorded = tt; notices = silent (commands.Purge root dataset) (λ octets h names. tt); unread = never_unfit (commands.Purge root dataset) (λ schema unfit. unfit); spares = λ stores. absurd stores; outlasts = tt }
     plain (commands.Wipe root dataset) is ran =
-        record { ran = ran; session = tt; cubes = tt; notices = silent (commands.Wipe root dataset) (λ octets h names. tt); unread = never_unfit (commands.Wipe root dataset) (λ schema unfit. unfit); spares = λ stores. absurd stores; outlasts = tt }
+        record { ran = ran; session = tt; cubes = tt; recorded = tt; notices = silent (commands.Wipe root dataset) (λ octets h names. tt); unread = never_unfit (commands.Wipe root dataset) (λ schema unfit. unfit); spares = λ stores. absurd stores; outlasts = tt }
     plain (commands.Trial root count workers) is ran = absurd is
 
     pub created : (root : List ℕ) → Ran (commands.Create root) s store input output report → ReadsFitly (commands.Create root) store input → CommandRan F (commands.Create root) s store input output report
-    created root ran unread = record { ran = ran; session = tt; cubes = tt; notices = silent (commands.Create root) (λ octets h names. tt); unread = unread; spares = λ stores. absurd stores; outlasts = tt }
+    created root ran unread = record { ran = ran; session = tt; cubes = tt; recorded = tt; notices = silent (commands.Create root) (λ octets h names. tt); unread = unread; spares = λ stores. absurd stores; outlasts = tt }
 
-    pub counted : (root : List ℕ) → Ran (commands.Stats root) s store input output report → Notices (commands.Stats root) s store input output report → CommandRan F (commands.Stats root) s store input output report
-    counted root ran notices = record { ran = ran; session = tt; cubes = tt; notices = notices; unread = never_unfit (commands.Stats root) (λ schema unfit. unfit); spares = λ stores. absurd stores; outlasts = tt }
+    pub counted : (root : List ℕ) → Ran (commands.Stats root) s store input output report → Notices (commands.Stats root) s store input output report → CountsRecords s store.before output → CommandRan F (commands.Stats root) s store input output report
+    counted root ran notices recorded = record { ran = ran; session = tt; cubes = tt; recorded = recorded; notices = notices; unread = never_unfit (commands.Stats root) (λ schema unfit. unfit); spares = λ stores. absurd stores; outlasts = tt }
 
     pub cubed : (root : List ℕ) → CubesRan root s store input output report → CommandRan F (commands.Cubes root) s store input output report
-    cubed root ran = record { ran = cubes_ran root s store input output report ran; session = tt; cubes = ran; notices = λ whole. tt; unread = ran.unread; spares = λ stores. absurd stores; outlasts = tt }
+    cubed root ran = record { ran = cubes_ran root s store input output report ran; session = tt; cubes = ran; recorded = tt; notices = λ whole. tt; unread = ran.unread; spares = λ stores. absurd stores; outlasts = tt }
 
     pub played : (root : List ℕ) → SessionRan F s store input output report → ReadsFitly (commands.Session root) store input → CommandRan F (commands.Session root) s store input output report
-    played root ran unread = record { ran = session_ran F root s store input output report ran; session = ran; cubes = tt; notices = λ whole. tt; unread = unread; spares = λ stores. ran.spares; outlasts = tt }
+    played root ran unread = record { ran = session_ran F root s store input output report ran; session = ran; cubes = tt; recorded = tt; notices = λ whole. tt; unread = unread; spares = λ stores. ran.spares; outlasts = tt }
 
     pub tried : (root : List ℕ) (count workers : ℕ) → Ran (commands.Trial root count workers) s store input output report → OutlastsCrash (commands.Trial root count workers) s store input report
         → Notices (commands.Trial root count workers) s store input output report → WhereTold store.before store.now SparesDamaged → CommandRan F (commands.Trial root count workers) s store input output report
-    tried root count workers ran outlasts notices spares = record { ran = ran; session = tt; cubes = tt; notices = notices; unread = never_unfit (commands.Trial root count workers) (λ schema unfit. unfit); spares = λ stores. spares; outlasts = outlasts }
+    tried root count workers ran outlasts notices spares = record { ran = ran; session = tt; cubes = tt; recorded = tt; notices = notices; unread = never_unfit (commands.Trial root count workers) (λ schema unfit. unfit); spares = λ stores. spares; outlasts = outlasts }

@@ -14,6 +14,7 @@ use Rattle.fd_outcome.specs.Objects.{Failed, Object}
 use Rattle.fd_outcome.specs.Ran.{Ran}
 use Rattle.fd_archive.specs.Crashing.{OutlastsCrash}
 use Rattle.fd_contents.specs.Cubing.{CubesRan, OfCubes}
+use Rattle.fd_contents.specs.Recorded.{PrintsRecords}
 use Rattle.fd_session.specs.Sessions.{OfSession, SessionRan}
 
 -- What a command has done.
@@ -21,6 +22,7 @@ pub record CommandRan (F : Type 0) (command : Command) (s : Status) (store : Obj
   pub ran : Ran command s store input output report
   pub session : OfSession command (SessionRan F s store input output report)
   pub cubes : OfCubes command (λ root. CubesRan root s store input output report)
+  pub recorded : PrintsRecords command s store input output
   pub notices : Notices command s store input output report
   pub unread : ReadsFitly command store input
   pub spares : StoresFields command → WhereTold store.before store.now SparesDamaged
@@ -37,6 +39,7 @@ pub record Served (F : Type 0) (words : List (List ℕ)) (s : Status) (store : O
   pub session : IfSome (command_of words) (λ command. OfSession command (SessionRan F s store input output report))
   pub cubes : IfSome (command_of words) (λ command. OfCubes command (λ root. CubesRan root s store input output report))
   pub notices : IfSome (command_of words) (λ command. Notices command s store input output report)
+  pub recorded : IfSome (command_of words) (λ command. PrintsRecords command s store input output)
   pub unread : IfSome (command_of words) (λ command. ReadsFitly command store input)
   pub spares : IfSome (command_of words) (λ command. StoresFields command → WhereTold store.before store.now SparesDamaged)
   pub outlasts : IfSome (command_of words) (λ command. OutlastsCrash command s store input report)

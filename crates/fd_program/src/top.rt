@@ -11,6 +11,7 @@ ghost use Rattle.fd_outcome.specs.Objects.{object};
 ghost use Rattle.fd_outcome.specs.Noticing.{Notices, ReadsFitly, SparesDamaged};
 ghost use Rattle.fd_archive.specs.Crashing.{OutlastsCrash};
 ghost use Rattle.fd_contents.specs.Cubing.{CubesRan, OfCubes};
+ghost use Rattle.fd_contents.specs.Recorded.{PrintsRecords};
 ghost use Rattle.fd_session.specs.Sessions.{OfSession, SessionRan};
 ghost use Rattle.fd_program.specs.Served.{CommandRan};
 
@@ -80,7 +81,8 @@ where
     // At 0 and 1 the input was read to its end, where the command reads it.
     ensures to_end { ((result ≡ Status.Done) ⊎ (result ≡ Status.Missed)) → IfSome (command_of (texts words.now)) (λ command. ReadsOut command (I.left input.old) (I.left input.new)) }
 
-    // At 0, 1, 3 and 9 no read of the input and no write of the output failed.
+    // At 0, 1, 3 and 9 no read of the input and no write of the output failed; but for 9 by a full table, which is told in the
+    // place of a failed read.
     ensures calm { IfSome (command_of (texts words.now)) (λ command. Calm command result (object (I.left input.old) (I.left input.new) (I.faults input.old) (I.faults input.new))
         (object (K.taken output.old) (K.taken output.new) (K.faults output.old) (K.faults output.new)) (object (E.taken report.old) (E.taken report.new) (E.faults report.old) (E.faults report.new))) }
 
@@ -98,11 +100,16 @@ where
 
     // The cubes that are printed: each key that matches is a key of exactly one of the lines, and the lines have no others; they
     // stand in byte order, each is read as the request that its cube is, and no two of the cubes can be joined. Or why there are none.
+    // The keys are those of each sound dataset, and of a damaged one those that the records of its indexes say.
     ensures cubes { IfSome (command_of (texts words.now)) (λ command. OfCubes command (λ root. CubesRan root result (object (S.has store.old) (S.has store.new) (S.faults store.old) (S.faults store.new)) (object (I.left input.old) (I.left input.new) (I.faults input.old) (I.faults input.new)) (object (K.taken output.old) (K.taken output.new) (K.faults output.old) (K.faults output.new)) (object (E.taken report.old) (E.taken report.new) (E.faults report.old) (E.faults report.new)))) }
 
     // At 0 and 1, also where a dataset that it opens is damaged: of none of them the table is none, or a file absent or too short, or an
     // index of another digest, since these are told; and each key, or each dataset, of a sound dataset is answered by that.
     ensures notices { IfSome (command_of (texts words.now)) (λ command. Notices command result (object (S.has store.old) (S.has store.new) (S.faults store.old) (S.faults store.new)) (object (I.left input.old) (I.left input.new) (I.faults input.old) (I.faults input.new)) (object (K.taken output.old) (K.taken output.new) (K.faults output.old) (K.faults output.new)) (object (E.taken report.old) (E.taken report.new) (E.faults report.old) (E.faults report.new))) }
+
+    // What `list`, `axes` and `stats` print at 0, whatever is damaged in the fields: of each dataset the lines of batches that have
+    // the keys, and as many bytes at each, as the records of its indexes say.
+    ensures recorded { IfSome (command_of (texts words.now)) (λ command. PrintsRecords command result (object (S.has store.old) (S.has store.new) (S.faults store.old) (S.faults store.new)) (object (I.left input.old) (I.left input.new) (I.faults input.old) (I.faults input.new)) (object (K.taken output.old) (K.taken output.new) (K.faults output.old) (K.faults output.new))) }
 
     // Where the stored schema doesn't let the command begin, nothing of the input is read.
     ensures unread { IfSome (command_of (texts words.now)) (λ command. ReadsFitly command (object (S.has store.old) (S.has store.new) (S.faults store.old) (S.faults store.new)) (object (I.left input.old) (I.left input.new) (I.faults input.old) (I.faults input.new))) }

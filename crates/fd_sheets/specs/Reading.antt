@@ -36,6 +36,16 @@ is_end reaches.Full = false
 is_end reaches.Dealing = false
 is_end reaches.End = true
 
+abbrev pub is_full : Reach → Bool
+is_full reaches.Full = true
+is_full reaches.Dealing = false
+is_full reaches.End = false
+
+-- memory ran out
+abbrev pub is_starved : {X : Type 0} → Stop X → Bool
+is_starved stops.NoMemory = true
+is_starved stop = false
+
 -- a read of the input failed
 abbrev pub is_unread : {X : Type 0} → Stop X → Bool
 is_unread (stops.Input f) = true

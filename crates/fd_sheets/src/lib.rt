@@ -11,9 +11,7 @@ mod reader;
 mod rounds;
 mod sheets;
 
-pub use buffers::Buffers;
 pub use dealing::dealt;
 pub use names::Names;
 pub use reader::{Batch, Reach, Reader, Stop, read_on};
-pub use rounds::Rounds;
 pub use sheets::{Sheet, Unplaced};

@@ -6,7 +6,7 @@ ghost use Rattle.fd_sections.specs.Stream.{first};
 ghost use Rattle.fd_outcome.specs.Positions.{IsIdle, at_message};
 ghost use Rattle.fd_schema.specs.Grammar.{IsSchema};
 ghost use Rattle.fd_sheets.specs.Names.{IsKnown};
-ghost use Rattle.fd_sheets.specs.Reading.{HasRead, HasTaken, IsFed, IsStop, ReadOn, is_end, is_unread};
+ghost use Rattle.fd_sheets.specs.Reading.{HasRead, HasTaken, IsFed, IsStop, ReadOn, is_end, is_full, is_starved, is_unread};
 
 use crate::buffers::Buffers;
 use crate::names::Names;
@@ -47,7 +47,9 @@ impl Reach {
     }
 
     /// So many fields were read that they are handed on.
-    pub fn is_full(&self) -> bool {
+    pub fn is_full(&self) -> bool
+        ensures { result ≡ is_full self.now }
+    {
         match self {
             Reach::Full => true,
             Reach::Dealing => false,
@@ -153,6 +155,7 @@ impl Reader {
         requires waits { IsIdle self.old }
         ensures fed { IsFed self.old self.new (I.left input.old) (I.left input.new) result }
         ensures few { self.new.split.fed ≤ 68719476736 }
+        ensures limit { IfErr result (λ e. is_starved e ≡ true → self.old.split.fed < 68719476736) }
         ensures calm { OnOk result (I.faults input.new ≡ I.faults input.old) }
         ensures read { IfErr result (λ e. is_unread e ≡ true → Rose (I.faults input.old) (I.faults input.new)) }
         ensures quiet { IfErr result (λ e. is_unread e ≡ false → I.faults input.new ≡ I.faults input.old) }

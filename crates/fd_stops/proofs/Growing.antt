@@ -1,5 +1,5 @@
 -- What is found of an archive and of a trial.
-use Rattle.std.proofs.Common.{◌≡◌, ◌∙◌, inl, inr, ℕ, List, [], Option, Some, None, IfSome, Result, Ok, Err, sym, ap, subst, append-nil, arith}
+use Rattle.std.proofs.Common.{◌≡◌, ◌∙◌, inl, inr, ℕ, List, Option, Some, None, IfSome, Result, Ok, Err, ap, subst}
 use Rattle.std.specs.Prelude.{◌⊎◌}
 use Rattle.fd_disk.specs.Folders.{Holdings, WhereTold, folder_at}
 use Rattle.fd_entries.specs.declared.batch.Pair.{Pair}
@@ -15,18 +15,10 @@ use Rattle.fd_outcome.specs.Ends.{LeavesBy, LeavesStored, LeavesTried}
 use Rattle.fd_outcome.specs.Outcome.{generated_messages}
 use Rattle.fd_outcome.specs.Store.{Adds, Sorted, table_at}
 use Rattle.fd_outcome.specs.Trying.{trial_given, trial_rules, trial_schema}
+use Rattle.fd_outcome.proofs.Leaving.{adds_none}
 use Rattle.fd_archive.specs.Crashing.{AreFirm, GrowsFirmly, IsAfterCrash, Outlasts, OutlastsBy, OutlastsTrial}
 use Rattle.fd_stops.specs.Found.{EachLeft, FoundStored, FoundTried, HasGrown, HasSchemaOr, IsFolderAfter}
 use Rattle.fd_stops.proofs.Folders.{firm_same, folder_after, untouched_after}
-
--- nothing was added
-adds_none : (workers : ℕ) (pairs : List Pair) (t : List (List Pair)) (after : Option (List (List Pair))) → after ≡ Some t → Adds workers pairs t after
-adds_none workers pairs t after is = record {
-  added = [];
-  after_is = is ∙ ap Some (sym (append-nil t));
-  only = λ k d lt. absurd (omega (arith, lt));
-  few = omega arith;
-}
 
 grown : (workers : ℕ) (pairs : Sorted) (h i : Holdings) → GrowsFirmly workers pairs h i → (j : Holdings) → IsAfterCrash i j → HasGrown workers pairs h j
 grown workers pairs h i grows j after = record { each = each; firm = firm }

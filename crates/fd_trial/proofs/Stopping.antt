@@ -150,7 +150,7 @@ module _ (root : List ℕ) (count workers : ℕ) (start mid now : Option Holding
       full_ran root count workers start now sm sn left l a k report result rules w.stop.1.0
       (since _ planted (with_second (λ t. IsFull t w.stop.1.0) (Grows workers (pairs_for T.stored)) mid now w.stop.1.1 (front_told w.all w.front w.grows))) w.stop.1.2 told
   kept_ran (faults.TooMany n) after planted w told rose = refused_ran (faults.TooMany n) after planted w (λ cause is. as_cause cause causes.TooManyDatasets is.0 (inl told))
-  kept_ran faults.InputLimit after planted w told rose = refused_ran faults.InputLimit after planted w (λ cause is. as_cause cause _ is told)
+  kept_ran faults.InputLimit after planted w told rose = refused_ran faults.InputLimit after planted w (λ cause is. as_cause cause _ is (inl told))
   kept_ran faults.NoMemory after planted w told rose = starved_ran root count workers start now sm sn left l a k report result rules (since _ planted (front_told w.all w.front w.grows)) told
 
 -- all messages are stored

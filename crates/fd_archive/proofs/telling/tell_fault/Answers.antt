@@ -19,3 +19,6 @@ returns-in-TableFull g c = rw c.in-TableFull.is c.tell.ensures
 
 pub returns-in-TooMany : goal.returns-in-TooMany
 returns-in-TooMany g c = rw c.in-TooMany.is c.tell-in-TooMany.ensures
+
+pub returns-in-InputLimit : goal.returns-in-InputLimit
+returns-in-InputLimit g c = rw c.in-InputLimit.is c.tell_refusal-in-InputLimit.ensures.input

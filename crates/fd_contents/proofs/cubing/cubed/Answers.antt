@@ -1,13 +1,12 @@
 use Rattle.std.proofs.Common.{refl, sym, subst, List, ℕ}
 use Rattle.fd_disk.specs.Folders.{WhereTold}
-use Rattle.fd_outcome.specs.Matching.{matching}
 use Rattle.fd_outcome.specs.Objects.{object}
 use Rattle.fd_outcome.specs.Store.{AreNames, IsLookedThrough}
 use Rattle.fd_retrieve.specs.Ready.{IsBrokenOf, NoneIsDamaged}
 use Rattle.fd_telling.proofs.StopLemmas.{later_disk}
+use Rattle.fd_contents.specs.Gathering.{FindsAll}
 use Rattle.fd_contents.proofs.CubeExits.{halted_ran, keys_ran}
 use Rattle.fd_contents.proofs.Exits.{later_both, looks_since, told_since}
-use Rattle.fd_contents.proofs.Gathered.{KeepsAll}
 use Rattle.fd_contents.proofs.cubing.cubed.Goals as goal
 
 pub returns-in-Ok-clause-ran : goal.returns-in-Ok-clause-ran
@@ -18,7 +17,7 @@ returns-in-Ok-clause-ran g c = λ root before faults input begins.
     (looks_since before (g.S.Store.has c.args.store.now) (g.S.Store.has c.keys_asked.new.store) begins.same c.keys_asked.ensures.looks) begins.unread
     c.args.partial.now c.in-Ok.found begins.asked begins.calm begins.read
     (told_since before (g.S.Store.has c.args.store.now) (λ h. (names : List (List ℕ)) → AreNames h names → NoneIsDamaged h names) begins.same c.in-Ok.ensures.undamaged)
-    (told_since before (g.S.Store.has c.args.store.now) (λ h. (names : List (List ℕ)) → AreNames h names → KeepsAll c.in-Ok.found (matching c.args.partial.now h names)) begins.same c.in-Ok.ensures.found)
+    (told_since before (g.S.Store.has c.args.store.now) (λ h. (names : List (List ℕ)) → AreNames h names → FindsAll c.args.partial.now h names c.in-Ok.found) begins.same c.in-Ok.ensures.found)
     c.tell_keys.ensures
 
 pub returns-in-Err-clause-ran : goal.returns-in-Err-clause-ran

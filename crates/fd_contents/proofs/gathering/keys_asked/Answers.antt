@@ -1,8 +1,7 @@
-use Rattle.std.proofs.Common.{◌≡◌, IfSome, Some, subst}
-use Rattle.fd_inventory.specs.Found.{Keeps}
-use Rattle.fd_outcome.specs.Matching.{Keys, matching}
+use Rattle.std.proofs.Common.{IfSome, subst}
 use Rattle.fd_schema.specs.Seen.{texts}
 use Rattle.fd_retrieve.specs.Ready.{NoneIsDamaged}
+use Rattle.fd_contents.specs.Gathering.{FindsAll}
 use Rattle.fd_contents.proofs.Gathered.{Gathered}
 use Rattle.fd_contents.proofs.Names.{of_names}
 use Rattle.fd_contents.proofs.gathering.keys_asked.Goals as goal
@@ -15,7 +14,7 @@ returns-in-Ok-keys_in_each-clause-found g c =
     let f = c.in-Ok-keys_in_each.found in
     let own = subst (λ ns. Gathered p mid (texts ns) f) c.deref.ensures.value c.in-Ok-keys_in_each.ensures.found in
     let here = subst (λ o. Gathered p o (texts c.in-Ok.names.items) f) c.names.ensures.has own in
-    of_names has c.in-Ok.names.items (g.S.Store.out c.args.store.now) (λ h names. (ks : Keys) → matching p h names ≡ Some ks → Keeps f ks) c.requires.home c.in-Ok.ensures.sorted c.in-Ok.ensures.each here
+    of_names has c.in-Ok.names.items (g.S.Store.out c.args.store.now) (λ h names. FindsAll p h names f) c.requires.home c.in-Ok.ensures.sorted c.in-Ok.ensures.each here
 
 pub returns-in-Ok-keys_in_each-clause-undamaged : goal.returns-in-Ok-keys_in_each-clause-undamaged
 returns-in-Ok-keys_in_each-clause-undamaged g c =

@@ -6,8 +6,9 @@ use Rattle.fd_schema.specs.Seen.{texts}
 use Rattle.fd_retrieve.specs.Ready.{IsBrokenOf, NoneIsDamaged}
 use Rattle.fd_retrieve.proofs.PrepareLemmas.{among_one_of, broken_told, none_told_more, take_end, take_more}
 use Rattle.fd_retrieve.proofs.Looking.{looked_both}
+use Rattle.fd_contents.specs.Gathering.{FindsIn}
 use Rattle.fd_contents.proofs.Looked.{stays_looked}
-use Rattle.fd_contents.proofs.Gathered.{Adds, Gathered, one_gathered}
+use Rattle.fd_contents.proofs.Gathered.{Gathered, one_gathered}
 use Rattle.fd_contents.proofs.gathering.keys_in_each.Goals as goal
 
 pub returns-in-Err-clause-broken : goal.returns-in-Err-clause-broken
@@ -27,8 +28,8 @@ loop-i-preserved g c =
       home = c.keys_in.ensures.home;
       looks = looked_both (g.S.Store.has c.args.store.now) (g.S.Store.has c.loop-i.store) (g.S.Store.has c.keys_in.new.store) c.loop-i.invariant.looks c.keys_in.ensures.looks;
       found = subst (λ l. Gathered c.args.partial.now (g.S.Store.has c.args.store.now) l c.in-Ok.more) (sym more)
-          (one_gathered c.args.partial.now (g.S.Store.has c.args.store.now) (g.S.Store.has c.loop-i.store) (take c.loop-i.i (texts c.args.names.now)) (string_bytes c.index-names-i.result) c.loop-i.found c.in-Ok.more (stays_looked (g.S.Store.has c.args.store.now) (g.S.Store.has c.loop-i.store) c.loop-i.invariant.looks) c.loop-i.invariant.found
-          (subst (λ n. Adds c.args.partial.now (g.S.Store.has c.loop-i.store) n c.loop-i.found c.in-Ok.more) text c.in-Ok.ensures.found));
+          (one_gathered c.args.partial.now (g.S.Store.has c.args.store.now) (g.S.Store.has c.loop-i.store) (take c.loop-i.i (texts c.args.names.now)) (string_bytes c.index-names-i.result) c.loop-i.found c.in-Ok.more c.loop-i.invariant.looks c.loop-i.invariant.found
+          (subst (λ n. IfSome (g.S.Store.has c.loop-i.store) (λ h. FindsIn c.args.partial.now h n c.loop-i.found c.in-Ok.more)) text c.in-Ok.ensures.found));
       undamaged = subst (λ l. IfSome (g.S.Store.has c.args.store.now) (λ h. NoneIsDamaged h l)) (sym more)
           (none_told_more (g.S.Store.has c.args.store.now) (g.S.Store.has c.loop-i.store) (take c.loop-i.i (texts c.args.names.now)) (string_bytes c.index-names-i.result) (stays_looked (g.S.Store.has c.args.store.now) (g.S.Store.has c.loop-i.store) c.loop-i.invariant.looks) c.loop-i.invariant.undamaged
           (subst (λ n. IfSome (g.S.Store.has c.loop-i.store) (λ h. IsUndamaged n (folder_at h n))) text c.in-Ok.ensures.undamaged));

@@ -16,6 +16,7 @@ returns-clause-served g c =
         session = e.session;
         cubes = e.cubes;
         notices = e.notices;
+        recorded = e.recorded;
         unread = e.unread;
         spares = e.spares;
         outlasts = e.outlasts;

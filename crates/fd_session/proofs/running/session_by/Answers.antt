@@ -34,7 +34,7 @@ pub returns-in-Err-Stream-clause-ran : goal.returns-in-Err-Stream-clause-ran
 returns-in-Err-Stream-clause-ran g c = λ before faults same later.
     idle_ran _ _ _ _ _ _ refl refl (kept _ _ same)
     (stream_halts _ _ _ _ c.args.schema.now (subst (λ o. IfSome o (λ h. rules_of h.schema ≡ Ok c.args.schema.now)) same c.requires.rules) (rw c.in-Err-Stream.field-0-is at c.in-Err-Stream.ensures.calm_err)
-    c.in-Err-Stream.refusal (rw c.in-Err-Stream.field-0-is at c.in-Err-Stream.ensures.refused) c.tell_refusal.ensures)
+    c.in-Err-Stream.refusal (rw c.in-Err-Stream.field-0-is at c.in-Err-Stream.ensures.refused) c.tell_refusal.ensures.told)
 
 pub returns-in-Err-NoMemory-clause-ran : goal.returns-in-Err-NoMemory-clause-ran
 returns-in-Err-NoMemory-clause-ran g c = λ before faults same later. idle_ran _ _ _ _ _ _ refl refl (kept _ _ same) (Starves c.tell_no_memory-in-Err-NoMemory.ensures)

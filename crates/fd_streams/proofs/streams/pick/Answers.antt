@@ -24,7 +24,7 @@ returns-in-Err-Fault g c = λ has m.
 
 pub returns-in-Err-Refused : goal.returns-in-Err-Refused
 returns-in-Err-Refused g c = λ has m.
-    refused _ has m _ _ _ _ _ _ _ _ _ _ _ c.in-Err-Refused.refusal (rw c.in-Err-Refused.field-0-is at c.in-Err-Refused.ensures.answer) (c.in-Err-Refused.ensures.quiet (ap is_fault c.in-Err-Refused.field-0-is)) c.tell_refusal.ensures
+    refused _ has m _ _ _ _ _ _ _ _ _ _ _ c.in-Err-Refused.refusal (rw c.in-Err-Refused.field-0-is at c.in-Err-Refused.ensures.answer) (c.in-Err-Refused.ensures.quiet (ap is_fault c.in-Err-Refused.field-0-is)) c.tell_refusal.ensures.told
 
 pub returns : goal.returns
 returns g c = λ has m. starved _ has m _ _ _ _ _ _ _ _ _ _ _ c.tell_no_memory-in-Err-NoMemory.ensures

@@ -18,7 +18,7 @@ returns-in-Err-Unwritten g c = λ has m.
 pub returns-in-Err-Refused : goal.returns-in-Err-Refused
 returns-in-Err-Refused g c = λ has m.
     refused c.args.listing has m _ _ _ _ _ _ _ _ _ _ _ _ _ c.in-Err-Refused.refusal (rw c.in-Err-Refused.field-0-is at c.in-Err-Refused.ensures.answer)
-    (c.in-Err-Refused.ensures.read_quiet (ap is_unread c.in-Err-Refused.field-0-is)) (c.in-Err-Refused.ensures.write_quiet (ap is_unwritten c.in-Err-Refused.field-0-is)) c.tell_refusal.ensures
+    (c.in-Err-Refused.ensures.read_quiet (ap is_unread c.in-Err-Refused.field-0-is)) (c.in-Err-Refused.ensures.write_quiet (ap is_unwritten c.in-Err-Refused.field-0-is)) c.tell_refusal.ensures.told
 
 pub returns : goal.returns
 returns g c = λ has m.
