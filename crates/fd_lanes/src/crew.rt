@@ -180,7 +180,7 @@ where
 }
 
 // The steps of one lane.
-fn run_at<F: Send + Drop, T: Disk<F>, H: Shelf<F>, G: Gate, R: Wait>(
+fn run_at<F: Send, T: Disk<F>, H: Shelf<F>, G: Gate, R: Wait>(
     rt: &R,
     alloc: Global,
     gate: &G,
@@ -208,7 +208,7 @@ where
 }
 
 // Each job in a thread of its own.
-fn run_all<F: Send + Drop, T: Disk<F>, H: Shelf<F>, G: Gate, R: Threads + Wait + Sync>(
+fn run_all<F: Send, T: Disk<F>, H: Shelf<F>, G: Gate, R: Threads + Wait + Sync>(
     rt: &R,
     alloc: Global,
     gate: &G,

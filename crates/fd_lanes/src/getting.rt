@@ -84,7 +84,7 @@ where
 }
 
 /// The answers of all keys of a request, each of which has a place.
-pub(crate) fn fetch_all<F: Send + Drop, Z: Sealed<F>>(
+pub(crate) fn fetch_all<F: Send, Z: Sealed<F>>(
     alloc: Global,
     schema: &Schema,
     request: &Request,

@@ -87,7 +87,7 @@ where
 }
 
 /// The keys of a request, each of which has a place, are looked up.
-pub(crate) fn get_step<F: Send + Drop, T: Disk<F>, Z: Sealed<F>, R: Wait>(
+pub(crate) fn get_step<F: Send, T: Disk<F>, Z: Sealed<F>, R: Wait>(
     rt: &R,
     alloc: Global,
     schema: &Schema,
@@ -124,7 +124,7 @@ where
 }
 
 /// One step, the first of these places being that of its message.
-pub(crate) fn run_step<F: Send + Drop, T: Disk<F>, H: Shelf<F>, R: Wait>(
+pub(crate) fn run_step<F: Send, T: Disk<F>, H: Shelf<F>, R: Wait>(
     rt: &R,
     alloc: Global,
     step: &Step,
@@ -173,7 +173,7 @@ where
 }
 
 /// All steps of a lane. The gate is passed before each step, and once more at the end.
-pub(crate) fn run_lane<F: Send + Drop, T: Disk<F>, H: Shelf<F>, G: Gate, R: Wait>(
+pub(crate) fn run_lane<F: Send, T: Disk<F>, H: Shelf<F>, G: Gate, R: Wait>(
     rt: &R,
     alloc: Global,
     gate: &G,

@@ -22,13 +22,19 @@ use fd_disk::{Disk, Down, Folder, Shelf, Store};
 use fd_recovery::OpenFault;
 use fd_segment::Room;
 use std::alloc::Global;
+use std::collections::BTreeMap;
 use std::marker::Model;
+
+/// Numbers of datasets, by their texts.
+type Numbers = BTreeMap<String, u32>;
 
 /// The datasets of a store that are open. Each has a number, from 0, by which its writers and its pass are asked for.
 /// While a dataset is open its folder is out of the store; `give_back` puts all folders back.
 pub struct Library<F: Send, S: Store<F>> {
     datasets: Vec<FolderDataset<F, S::Folder>>,
     held: Vec<Held<F, S::Folder>>,
+    // where to look for a dataset first: no answer rests on it
+    numbers: Numbers,
 }
 
 impl<F: Send, S: Store<F>> Model for Library<F, S> {
@@ -50,6 +56,7 @@ impl<F: Send, S: Store<F>> Library<F, S> {
         Ok(Library {
             datasets: Vec::new(alloc),
             held: Vec::new(alloc),
+            numbers: BTreeMap::new(alloc),
         })
     }
 
@@ -87,7 +94,7 @@ impl<F: Send, S: Store<F>> Library<F, S> {
         ensures out { OutAre self.new.each (S.out store.new) }
         ensures later { S.faults store.old ≤ S.faults store.new }
     {
-        if let Some(number) = number_of(&self.held, name) {
+        if let Some(number) = number_of(&self.held, &self.numbers, name) {
             return Ok(Some(number));
         }
         if self.held.len() < 2048 {
@@ -146,7 +153,15 @@ impl<F: Send, S: Store<F>> Library<F, S> {
         ensures out { OutAre self.new.each (S.out store.new) }
         ensures later { S.faults store.old ≤ S.faults store.new }
     {
-        open_behind(alloc, store, name, make, &mut self.datasets, &mut self.held)
+        open_behind(
+            alloc,
+            store,
+            name,
+            make,
+            &mut self.datasets,
+            &mut self.held,
+            &mut self.numbers,
+        )
     }
 
     /// Gives all folders back to the store, with their tables. No pass is out, and each archiver was taken back.
@@ -159,7 +174,11 @@ impl<F: Send, S: Store<F>> Library<F, S> {
         ensures kept { All IsSettled self.each → WhereTold (S.has store.old) (S.has store.new) (λ s t. (n : List ℕ) → held_of t n ≡ held_with S.Folder.has self.each s n) }
         ensures later { S.faults store.old ≤ S.faults store.new }
     {
-        let Library { datasets, held } = self;
+        let Library {
+            datasets,
+            held,
+            numbers: _,
+        } = self;
         let mut datasets = datasets;
         let mut held = held;
         while let Some(last) = held.pop() {
@@ -221,6 +240,13 @@ fn room_for<D, H>(
     String::from_str(alloc, name).ok()
 }
 
+// Notes the number of a dataset that was opened. Where memory is refused for it, the dataset is looked for among all.
+fn note(alloc: Global, numbers: &mut Numbers, name: &str, number: u32) {
+    if let Ok(text) = String::from_str(alloc, name) {
+        let _ = numbers.insert(text, number);
+    }
+}
+
 // Opens a dataset that isn't open, behind these.
 fn open_behind<F: Send, S: Store<F>>(
     alloc: Global,
@@ -229,6 +255,7 @@ fn open_behind<F: Send, S: Store<F>>(
     make: bool,
     datasets: &mut Vec<FolderDataset<F, S::Folder>>,
     held: &mut Vec<Held<F, S::Folder>>,
+    numbers: &mut Numbers,
 ) -> Result<Option<u32>, OpenFault<F>>
 where
     requires short { make ≡ true → length name.now ≤ 255 }
@@ -256,6 +283,7 @@ where
             let number = held.len() as u32;
             datasets.push_reserved(dataset);
             held.push_reserved(it);
+            note(alloc, numbers, name, number);
             Ok(Some(number))
         }
         Ok(None) => Ok(None),
@@ -291,8 +319,26 @@ where
     }
 }
 
-// The number of the dataset with this text.
-fn number_of<F: Send, D: Folder<F>>(held: &[Held<F, D>], name: &str) -> Option<u32>
+// The number that was noted for this text, where the dataset with that number has it.
+fn noted<F: Send, D: Folder<F>>(held: &[Held<F, D>], numbers: &Numbers, name: &str) -> Option<u32>
+where
+    requires { length held.now ≤ 2048 }
+    ensures { IfSome result (λ n. (h : OpenDataset D) × (slice_get held.now n ≡ Some h) × (h.name ≡ name.now)) }
+{
+    let Some(number) = numbers.get(name) else {
+        return None;
+    };
+    let i = *number as usize;
+    if i < held.len() {
+        if held[i].is(name) {
+            return Some(i as u32);
+        }
+    }
+    None
+}
+
+// The number of the dataset with this text, which is looked for among all.
+fn searched<F: Send, D: Folder<F>>(held: &[Held<F, D>], name: &str) -> Option<u32>
 where
     requires { length held.now ≤ 2048 }
     ensures { MatchOption result (among name.now (names_of held.now) ≡ false) (λ n. (h : OpenDataset D) × (slice_get held.now n ≡ Some h) × (h.name ≡ name.now)) }
@@ -303,6 +349,22 @@ where
         }
     }
     None
+}
+
+// The number of the dataset with this text.
+fn number_of<F: Send, D: Folder<F>>(
+    held: &[Held<F, D>],
+    numbers: &Numbers,
+    name: &str,
+) -> Option<u32>
+where
+    requires { length held.now ≤ 2048 }
+    ensures { MatchOption result (among name.now (names_of held.now) ≡ false) (λ n. (h : OpenDataset D) × (slice_get held.now n ≡ Some h) × (h.name ≡ name.now)) }
+{
+    match noted(held, numbers, name) {
+        Some(number) => Some(number),
+        None => searched(held, name),
+    }
 }
 
 // Gives the folder of a dataset back to the store, with its table.

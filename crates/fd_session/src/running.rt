@@ -198,7 +198,7 @@ where
 }
 
 /// Writes the line of why a dataset wasn't opened. A fault of the store is counted.
-fn tell_unopened<F: Send + Drop, X: Drop, S: Store<F>, E: Sink<X>>(
+fn tell_unopened<F: Send, X: Drop, S: Store<F>, E: Sink<X>>(
     alloc: Global,
     dataset: &str,
     store: &mut S,
