@@ -6,7 +6,7 @@ ghost use Rattle.fd_key.specs.Pairs as keys;
 ghost use Rattle.fd_key.specs.Pairs.{key_text};
 ghost use Rattle.fd_listing.specs.Lines.{line};
 ghost use Rattle.fd_request.specs.Expansion.{expand};
-ghost use Rattle.fd_outcome.specs.Objects.{object};
+ghost use Rattle.fd_objects.specs.Given.{sink_of};
 ghost use Rattle.fd_ahead.specs.Places.{AreIn};
 ghost use Rattle.fd_ahead.specs.Reading.{IsStock};
 ghost use Rattle.fd_retrieve.specs.Open.{IsDamagedAt};
@@ -149,7 +149,8 @@ where
     requires stock { IsStock opened.now stock.old }
     requires range { (from ≤ to) × (to ≤ length located.now) × (found ≤ from) }
     ensures stock { IsStock opened.now stock.new }
-    ensures round { IsRound opened.now (expand request.now) located.now from to found (object (K.taken output.old) (K.taken output.new) (K.faults output.old) (K.faults output.new)) (object (E.taken report.old) (E.taken report.new) (E.faults report.old) (E.faults report.new)) result }
+    ensures round { IsRound opened.now (expand request.now) located.now from to found
+        (sink_of K.Sink output) (sink_of E.Sink report) result }
 {
     let mut found = found;
     for i in from..to {

@@ -4,6 +4,7 @@ ghost use Rattle.fd_bytes.specs.Causes.{Rose};
 ghost use Rattle.fd_request.specs.Expansion.{expand};
 ghost use Rattle.fd_outcome.specs.Asking.{Answer};
 ghost use Rattle.fd_outcome.specs.Objects.{object};
+ghost use Rattle.fd_objects.specs.Given.{sink_of};
 ghost use Rattle.fd_ahead.specs.Places.{AreIn, Open};
 ghost use Rattle.fd_ahead.specs.Reading.{IsJob, IsStock};
 ghost use Rattle.fd_retrieve.specs.Open.{IsDamagedAt};
@@ -43,7 +44,8 @@ where
     ensures long { length jobs.new ≡ length jobs.old }
     ensures jobs { All (IsJob opened.now) jobs.new }
     ensures stock { IsStock opened.now stock.new }
-    ensures round { IsRound opened.now (expand request.now) located.now from to found (object (K.taken output.old) (K.taken output.new) (K.faults output.old) (K.faults output.new)) (object (E.taken report.old) (E.taken report.new) (E.faults report.old) (E.faults report.new)) result }
+    ensures round { IsRound opened.now (expand request.now) located.now from to found
+        (sink_of K.Sink output) (sink_of E.Sink report) result }
 {
     let other = alloc;
     let mut write = || -> Result<u32, Halt<F, X>>
