@@ -106,7 +106,8 @@ fn printed<F: Send + Drop, X: Drop, S: Store<F>, K: Sink<X>, E: Sink<X>>(
 ) -> Status
 where
     requires home { (name : List ℕ) → S.out store.old name ≡ false }
-    ensures ran { (command : Command) (before : Option Holdings) (faults : ℕ) (input : Object (List ℕ)) → Begins command lines.now before (S.has store.old) faults (S.faults store.old) input
+    ensures ran { (command : Command) (before : Option Holdings) (faults : ℕ) (input : Object (List ℕ))
+        → Begins command lines.now before (S.has store.old) faults (S.faults store.old) input
         → Ran command result (store_since before faults S.Store store) input (sink_of K.Sink output) (sink_of E.Sink report) }
     ensures whole { (result ≡ Done) ⊎ (result ≡ Missed)
         → PrintsAll lines.now result (S.has store.old) (sink_of K.Sink output) (sink_of E.Sink report) }

@@ -49,7 +49,8 @@ fn cubed<F: Send + Drop, X: Drop, S: Store<F>, K: Sink<X>, E: Sink<X>>(
 ) -> Status
 where
     requires home { (name : List ℕ) → S.out store.old name ≡ false }
-    ensures ran { (root : List ℕ) (before : Option Holdings) (faults : ℕ) (input : Object (List ℕ)) → BeginsCubes partial.now before (S.has store.old) faults (S.faults store.old) input
+    ensures ran { (root : List ℕ) (before : Option Holdings) (faults : ℕ) (input : Object (List ℕ))
+        → BeginsCubes partial.now before (S.has store.old) faults (S.faults store.old) input
         → CubesRan root result (store_since before faults S.Store store) input (sink_of K.Sink output) (sink_of E.Sink report) }
     ensures home { (name : List ℕ) → S.out store.new name ≡ false }
 {

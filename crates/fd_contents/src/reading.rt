@@ -68,7 +68,8 @@ pub(crate) fn partial<F: Send, X: Drop, S: Store<F>, I: Source<X>>(
     input: &mut I,
 ) -> Result<Partial, Stop<F>>
     ensures asked { IfOk result (λ p. IfSome (S.has store.old) (λ h. IfSome (I.left input.old) (λ octets. asked_in h octets ≡ Ok p))) }
-    ensures refused { IfErr result (λ e. IfSome (S.has store.old) (λ h. IfSome (I.left input.old) (λ octets. Refuses e (λ cause. asked_in h octets ≡ Err cause)))) }
+    ensures refused { IfErr result (λ e. IfSome (S.has store.old)
+        (λ h. IfSome (I.left input.old) (λ octets. Refuses e (λ cause. asked_in h octets ≡ Err cause)))) }
     ensures early { IfErr result IsEarly }
     ensures read { OnOk result (IfSome (I.left input.old) (λ octets. I.left input.new ≡ Some [])) }
     ensures unread { IfSome (S.has store.old) (λ h. IsErr (rules_of h.schema) → IsUnread (source_of I.Source input)) }

@@ -60,7 +60,8 @@ fn first_ranged(keys: &[Key]) -> Option<&Key>
 
 /// Writes the line of a key that no request can name.
 fn tell_no_request<X: Drop, E: Sink<X>>(alloc: Global, report: &mut E, key: &Key) -> Status
-    ensures { ToldOrNoMemory (telling (causes.NoRequest key.now)).status (telling (causes.NoRequest key.now)).line result (E.taken report.old) (E.taken report.new) (E.faults report.old) (E.faults report.new) }
+    ensures { ToldOrNoMemory (telling (causes.NoRequest key.now)).status (telling (causes.NoRequest key.now)).line result
+        (E.taken report.old) (E.taken report.new) (E.faults report.old) (E.faults report.new) }
 {
     match key.text(alloc) {
         Ok(text) => tell_text(

@@ -99,11 +99,15 @@ where
     requires workers { (1 ≤ workers) × (workers ≤ 8) }
     requires layers { AreLayers layers.now }
     requires chains { AreChains (length layers.now) (expand ready.request) (map seen_place ready.places.items) }
-    ensures ran { (root : List ℕ) (before : Option Holdings) (faults : ℕ) (input : Object (List ℕ)) → Begins (RetrieveOver root layers.now workers) before (S.has store.old) faults (S.faults store.old) input ready.opened.items (laid_answers (table_in ready.opened.items) (laid_with layers.now ready.request ready.places.items))
+    ensures ran { (root : List ℕ) (before : Option Holdings) (faults : ℕ) (input : Object (List ℕ))
+        → Begins (RetrieveOver root layers.now workers) before (S.has store.old) faults (S.faults store.old) input ready.opened.items
+        (laid_answers (table_in ready.opened.items) (laid_with layers.now ready.request ready.places.items))
         → Ran (RetrieveOver root layers.now workers) result (store_since before faults S.Store store) input
         (sink_of K.Sink output) (sink_of E.Sink report) }
-    ensures each { (h : Holdings) (octets : List ℕ) → IsReady h layers.now octets ready.request ready.places.items ready.opened.items → (result ≡ Done) ⊎ (result ≡ Missed)
-        → AnsweredEach (IsLaidAnswer (table_at h)) (laid_of h layers.now octets) result (K.taken output.old) (K.taken output.new) (E.taken report.old) (E.taken report.new) }
+    ensures each { (h : Holdings) (octets : List ℕ) → IsReady h layers.now octets ready.request ready.places.items ready.opened.items
+        → (result ≡ Done) ⊎ (result ≡ Missed)
+        → AnsweredEach (IsLaidAnswer (table_at h)) (laid_of h layers.now octets) result
+        (K.taken output.old) (K.taken output.new) (E.taken report.old) (E.taken report.new) }
     ensures out { S.out store.new ≡ S.out store.old }
 {
     let Ready {

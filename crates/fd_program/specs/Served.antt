@@ -16,16 +16,16 @@ use Rattle.fd_archive.specs.Crashing.{OutlastsCrash}
 use Rattle.fd_contents.specs.Cubing.{CubesRan, OfCubes}
 use Rattle.fd_session.specs.Sessions.{OfSession, SessionRan}
 
--- What a command has done.
+-- What a command has done: the facts of `Served` below, of this command.
 pub record CommandRan (F : Type 0) (command : Command) (s : Status) (store : Object Holdings)
     (input output report : Object (List ℕ)) : Type 0 where
   pub ran : Ran command s store input output report
-  pub session : OfSession command (SessionRan F s store input output report)
-  pub cubes : OfCubes command (λ root. CubesRan root s store input output report)
+  pub outlasts : OutlastsCrash command s store input report
+  pub spares : StoresFields command → WhereTold store.before store.now SparesDamaged
   pub notices : Notices command s store input output report
   pub unread : ReadsFitly command store input
-  pub spares : StoresFields command → WhereTold store.before store.now SparesDamaged
-  pub outlasts : OutlastsCrash command s store input report
+  pub session : OfSession command (SessionRan F s store input output report)
+  pub cubes : OfCubes command (λ root. CubesRan root s store input output report)
 
 -- What `fdb` promises of a run that ended with this status, where the words ask for this command, or are none. `kept` is the store,
 -- `read` the input, `written` the output, and `told` the report.
@@ -62,9 +62,11 @@ pub record Served (F : Type 0) (asked : Option Command) (s : Status) (kept : Obj
   -- The cubes that are printed: each key that matches is a key of exactly one of the lines, and the lines have no others; they stand in
   -- byte order, each is read as the request that its cube is, and no two of the cubes can be joined. Or why there are none.
   pub cubes : IfSome asked (λ command. OfCubes command (λ root. CubesRan root s kept read written told))
-  -- A fault is told only where a count rose.
+  -- A fault of the input is told only where its count of faults rose,
   pub input_fault : s ≡ InputFault → Failed read
+  -- a fault of the output only where its count rose, or the report's,
   pub output_fault : s ≡ OutputFault → Failed written ⊎ Failed told
+  -- and a fault of the store only where its count rose.
   pub disk_fault : s ≡ DiskFault → Failed kept
 
 -- A run that ended with this exit status: it is that of one of the statuses, with which the run ended.

@@ -100,11 +100,15 @@ fn answered<
 where
     requires workers { (1 ≤ workers) × (workers ≤ 8) }
     requires count { length ready.places.items ≡ length (expand ready.request) }
-    ensures ran { (root : List ℕ) (before : Option Holdings) (faults : ℕ) (input : Object (List ℕ)) → Begins (Retrieve root workers) before (S.has store.old) faults (S.faults store.old) input ready.opened.items (answers (table_in ready.opened.items) (asked_at ready.request ready.places.items))
+    ensures ran { (root : List ℕ) (before : Option Holdings) (faults : ℕ) (input : Object (List ℕ))
+        → Begins (Retrieve root workers) before (S.has store.old) faults (S.faults store.old) input ready.opened.items
+        (answers (table_in ready.opened.items) (asked_at ready.request ready.places.items))
         → Ran (Retrieve root workers) result (store_since before faults S.Store store) input
         (sink_of K.Sink output) (sink_of E.Sink report) }
-    ensures each { (h : Holdings) (octets : List ℕ) → IsReady h octets ready.request ready.places.items ready.opened.items → (result ≡ Done) ⊎ (result ≡ Missed)
-        → AnsweredEach (IsAnswer (table_at h)) (asked_of h octets) result (K.taken output.old) (K.taken output.new) (E.taken report.old) (E.taken report.new) }
+    ensures each { (h : Holdings) (octets : List ℕ) → IsReady h octets ready.request ready.places.items ready.opened.items
+        → (result ≡ Done) ⊎ (result ≡ Missed)
+        → AnsweredEach (IsAnswer (table_at h)) (asked_of h octets) result
+        (K.taken output.old) (K.taken output.new) (E.taken report.old) (E.taken report.new) }
     ensures out { S.out store.new ≡ S.out store.old }
 {
     let Ready {
@@ -145,12 +149,16 @@ where
     requires within { IfOk located (λ v. AreIn opened.now v.items) }
     requires damaged { IfErr located (λ e. OnLost e (IsDamagedAt opened.now)) }
     // The command is `retrieve`, or `retrieve` over layers; what stands where the keys are located are its answers.
-    ensures ran { (root : List ℕ) (over : Option (List (List Pair))) (before : Option Holdings) (faults : ℕ) (input : Object (List ℕ)) (o : Option (List Answer)) → Begins (retrieving root over workers) before (S.has store.old) faults (S.faults store.old) input opened.now o
+    ensures ran { (root : List ℕ) (over : Option (List (List Pair))) (before : Option Holdings) (faults : ℕ) (input : Object (List ℕ))
+        (o : Option (List Answer))
+        → Begins (retrieving root over workers) before (S.has store.old) faults (S.faults store.old) input opened.now o
         → IfOk located (λ v. (xs : List Answer) → o ≡ Some xs → AreAt opened.now (expand request.now) xs v.items)
         → Ran (retrieving root over workers) result (store_since before faults S.Store store) input
         (sink_of K.Sink output) (sink_of E.Sink report) }
     ensures located { (result ≡ Done) ⊎ (result ≡ Missed) → IsOk located }
-    ensures told { (result ≡ Done) ⊎ (result ≡ Missed) → IfOk located (λ v. (xs : List Answer) → AreAt opened.now (expand request.now) xs v.items → Tells result (outcomes.answered xs) (K.taken output.old) (K.taken output.new) (E.taken report.old) (E.taken report.new)) }
+    ensures told { (result ≡ Done) ⊎ (result ≡ Missed)
+        → IfOk located (λ v. (xs : List Answer) → AreAt opened.now (expand request.now) xs v.items
+        → Tells result (outcomes.answered xs) (K.taken output.old) (K.taken output.new) (E.taken report.old) (E.taken report.new)) }
     ensures out { S.out store.new ≡ S.out store.old }
 {
     let located = match located {
@@ -188,7 +196,8 @@ fn tell_counts<X: Drop, E: Sink<X>>(
     found: u32,
     missed: u32,
 ) -> Status
-    ensures { ToldOrNoMemory (counts_status missed) (counts_text found missed) result (E.taken report.old) (E.taken report.new) (E.faults report.old) (E.faults report.new) }
+    ensures { ToldOrNoMemory (counts_status missed) (counts_text found missed) result
+        (E.taken report.old) (E.taken report.new) (E.faults report.old) (E.faults report.new) }
 {
     let status = if missed == 0 {
         Status::Done
@@ -209,7 +218,8 @@ fn tell_damaged<F: Send, X: Drop, Z: Sealed<F>, E: Sink<X>>(
     report: &mut E,
 ) -> Status
 where
-    ensures told { ToldOrNoMemory Status.Damaged (damaged_line dataset.now.name (BadFile damage)) result (E.taken report.old) (E.taken report.new) (E.faults report.old) (E.faults report.new) }
+    ensures told { ToldOrNoMemory Status.Damaged (damaged_line dataset.now.name (BadFile damage)) result
+        (E.taken report.old) (E.taken report.new) (E.faults report.old) (E.faults report.new) }
 {
     tell_broken(alloc, report, dataset.name(), Broken::File(damage))
 }

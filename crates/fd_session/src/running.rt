@@ -102,7 +102,8 @@ where
     requires schema { IsSchema schema.now }
     requires rules { IfSome (S.has store.old) (λ h. rules_of h.schema ≡ Ok schema.now) }
     ensures ran { (before : Option Holdings) (faults : ℕ) → S.has store.old ≡ before → faults ≤ S.faults store.old
-        → SessionRan F result (store_since before faults S.Store store) (source_of I.Source input) (sink_of K.Sink output) (sink_of E.Sink report) }
+        → SessionRan F result (store_since before faults S.Store store) (source_of I.Source input)
+        (sink_of K.Sink output) (sink_of E.Sink report) }
     ensures home { (name : List ℕ) → S.out store.new name ≡ false }
 {
     match read_input(alloc, input) {
@@ -141,7 +142,8 @@ where
     requires schema { IsSchema schema.now }
     requires short { length read.now.script.dataset ≤ 255 }
     requires each { AreMessages read.now.messages }
-    ensures ran { (before : Option Holdings) (faults : ℕ) (input : Object (List ℕ)) → Begun schema.now read.now.script read.now.messages before (S.has store.old) faults (S.faults store.old) input
+    ensures ran { (before : Option Holdings) (faults : ℕ) (input : Object (List ℕ))
+        → Begun schema.now read.now.script read.now.messages before (S.has store.old) faults (S.faults store.old) input
         → SessionRan F result (store_since before faults S.Store store) input (sink_of K.Sink output) (sink_of E.Sink report) }
     ensures home { (name : List ℕ) → S.out store.new name ≡ false }
 {
@@ -182,7 +184,8 @@ where
     requires steps { LanesFit schema.now read.now.messages read.now.script.dataset (map seen_place places.now) read.now.script.lanes }
     requires places { ArePlaces schema.now read.now.messages read.now.script.lanes (map seen_place places.now) }
     requires done { NoneFails schema.now read.now.script.dataset read.now.messages (all_posed read.now.script.lanes) }
-    ensures ran { (before : Option Holdings) (faults : ℕ) (input : Object (List ℕ)) → Begun schema.now read.now.script read.now.messages before (S.has store.old) faults (S.faults store.old) input
+    ensures ran { (before : Option Holdings) (faults : ℕ) (input : Object (List ℕ))
+        → Begun schema.now read.now.script read.now.messages before (S.has store.old) faults (S.faults store.old) input
         → SessionRan F result (store_since before faults S.Store store) input (sink_of K.Sink output) (sink_of E.Sink report) }
     ensures home { (name : List ℕ) → S.out store.new name ≡ false }
 {
@@ -208,7 +211,8 @@ fn tell_unopened<F: Send + Drop, X: Drop, S: Store<F>, E: Sink<X>>(
     fault: OpenFault<F>,
 ) -> Status
 where
-    ensures told { ToldUnopened dataset.now fault result (E.taken report.old) (E.taken report.new) (E.faults report.old) (E.faults report.new) }
+    ensures told { ToldUnopened dataset.now fault result
+        (E.taken report.old) (E.taken report.new) (E.faults report.old) (E.faults report.new) }
     ensures noted { OnDisk fault (Rose (S.faults store.old) (S.faults store.new)) }
     ensures has { S.has store.new ≡ S.has store.old }
     ensures out { S.out store.new ≡ S.out store.old }

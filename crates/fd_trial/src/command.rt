@@ -112,11 +112,13 @@ where
     requires home { (name : List ℕ) → S.out store.old name ≡ false }
     requires schema { IsSchema schema.now }
     requires given { given.now ≡ trial_given }
-    ensures ran { (root : List ℕ) (start : Option Holdings) (faults : ℕ) (left : Option (List ℕ)) (l : ℕ) (a : Option (List ℕ)) (k : ℕ) → faults ≤ S.faults store.old
+    ensures ran { (root : List ℕ) (start : Option Holdings) (faults : ℕ) (left : Option (List ℕ)) (l : ℕ) (a : Option (List ℕ)) (k : ℕ)
+        → faults ≤ S.faults store.old
         → WhereTold start (S.has store.old) (λ h m. IsPlanted h m × (trial_rules h.schema ≡ Ok schema.now))
         → Ran (Trial root count workers) result (store_since start faults S.Store store)
         (object left left l l) (object a a k k) (sink_of E.Sink report) }
-    ensures undamaged { (result ≡ Status.Done) ⊎ (result ≡ Status.Missed) → IfSome (S.has store.old) (NoneDamaged (taken schema.now trial_given (generated_messages count)).stored) }
+    ensures undamaged { (result ≡ Status.Done) ⊎ (result ≡ Status.Missed)
+        → IfSome (S.has store.old) (NoneDamaged (taken schema.now trial_given (generated_messages count)).stored) }
     ensures spares { WhereTold (S.has store.old) (S.has store.new) SparesDamaged }
     ensures outlasts { WhereTold (S.has store.old) (S.has store.new) (OutlastsTrial result workers count (Ok schema.now)) }
     ensures home { (name : List ℕ) → S.out store.new name ≡ false }
@@ -171,7 +173,8 @@ where
     requires home { (name : List ℕ) → S.out store.old name ≡ false }
     requires given { given.now ≡ trial_given }
     requires stored { (taken schema.now given.now (generated_messages count)).refusal ≡ None }
-    ensures ran { (root : List ℕ) (start : Option Holdings) (faults : ℕ) (left : Option (List ℕ)) (l : ℕ) (a : Option (List ℕ)) (k : ℕ) → faults ≤ S.faults store.old
+    ensures ran { (root : List ℕ) (start : Option Holdings) (faults : ℕ) (left : Option (List ℕ)) (l : ℕ) (a : Option (List ℕ)) (k : ℕ)
+        → faults ≤ S.faults store.old
         → Begins workers schema.now count start (S.has store.old)
         → Ran (Trial root count workers) result (store_since start faults S.Store store)
         (object left left l l) (object a a k k) (sink_of E.Sink report) }
@@ -196,7 +199,8 @@ fn found_text(alloc: Global, found: u64, bytes: u64) -> Result<String, AllocErro
 
 /// The same, and how many keys were missed.
 fn counts_text(alloc: Global, counted: Counted) -> Result<String, AllocError>
-    ensures { IfOk result (λ t. string_bytes t ≡ codes "found " ++ decimal counted.found ++ codes " bytes " ++ decimal counted.bytes ++ codes " missed " ++ decimal counted.missed) }
+    ensures { IfOk result (λ t. string_bytes t ≡ codes "found " ++ decimal counted.found
+        ++ codes " bytes " ++ decimal counted.bytes ++ codes " missed " ++ decimal counted.missed) }
 {
     let Counted {
         found,
@@ -214,7 +218,10 @@ fn tell_counted<X: Drop, E: Sink<X>>(
     count: u32,
     counted: Counted,
 ) -> Status
-    ensures { ToldOrNoMemory Status.Done (line (codes "trial " ++ decimal count ++ codes " found " ++ decimal counted.found ++ codes " bytes " ++ decimal counted.bytes ++ codes " missed " ++ decimal counted.missed)) result (E.taken report.old) (E.taken report.new) (E.faults report.old) (E.faults report.new) }
+    ensures { ToldOrNoMemory Status.Done
+        (line (codes "trial " ++ decimal count ++ codes " found " ++ decimal counted.found
+        ++ codes " bytes " ++ decimal counted.bytes ++ codes " missed " ++ decimal counted.missed))
+        result (E.taken report.old) (E.taken report.new) (E.faults report.old) (E.faults report.new) }
 {
     let Ok(text) = counts_text(alloc, counted) else {
         return tell_no_memory(report);
