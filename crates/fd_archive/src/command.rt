@@ -7,6 +7,7 @@ ghost use Rattle.fd_outcome.specs.Asking.{rules_of};
 ghost use Rattle.fd_outcome.specs.Noticing.{Notices, ReadsFitly, SparesDamaged};
 ghost use Rattle.fd_outcome.specs.Objects.{object};
 ghost use Rattle.fd_outcome.specs.Ran.{Ran};
+ghost use Rattle.fd_objects.specs.Given.{OverInput, sink_of, source_of, store_of, store_since};
 ghost use Rattle.fd_archive.specs.Crashing.{OutlastsCrash};
 
 use crate::storing::store_all;
@@ -52,11 +53,12 @@ pub fn archive<
 where
     requires home { (name : List ℕ) → S.out store.old name ≡ false }
     requires workers { (1 ≤ workers) × (workers ≤ 8) }
-    ensures ran { (a : Option (List ℕ)) (k : ℕ) → Ran (Archive root.now given.now workers) result (object (S.has store.old) (S.has store.new) (S.faults store.old) (S.faults store.new)) (object (I.left input.old) (I.left input.new) (I.faults input.old) (I.faults input.new)) (object a a k k) (object (E.taken report.old) (E.taken report.new) (E.faults report.old) (E.faults report.new)) }
-    ensures notices { (a : Option (List ℕ)) (k : ℕ) → Notices (Archive root.now given.now workers) result (object (S.has store.old) (S.has store.new) (S.faults store.old) (S.faults store.new)) (object (I.left input.old) (I.left input.new) (I.faults input.old) (I.faults input.new)) (object a a k k) (object (E.taken report.old) (E.taken report.new) (E.faults report.old) (E.faults report.new)) }
-    ensures unread { ReadsFitly (Archive root.now given.now workers) (object (S.has store.old) (S.has store.new) (S.faults store.old) (S.faults store.new)) (object (I.left input.old) (I.left input.new) (I.faults input.old) (I.faults input.new)) }
+    ensures ran { OverInput S.Store store I.Source input E.Sink report (Ran (Archive root.now given.now workers) result) }
+    ensures notices { OverInput S.Store store I.Source input E.Sink report (Notices (Archive root.now given.now workers) result) }
+    ensures unread { ReadsFitly (Archive root.now given.now workers) (store_of S.Store store) (source_of I.Source input) }
     ensures spares { WhereTold (S.has store.old) (S.has store.new) SparesDamaged }
-    ensures outlasts { OutlastsCrash (Archive root.now given.now workers) result (object (S.has store.old) (S.has store.new) (S.faults store.old) (S.faults store.new)) (object (I.left input.old) (I.left input.new) (I.faults input.old) (I.faults input.new)) (object (E.taken report.old) (E.taken report.new) (E.faults report.old) (E.faults report.new)) }
+    ensures outlasts { OutlastsCrash (Archive root.now given.now workers) result
+        (store_of S.Store store) (source_of I.Source input) (sink_of E.Sink report) }
     ensures home { (name : List ℕ) → S.out store.new name ≡ false }
 {
     match stored_schema(alloc, store, root.as_str()) {
@@ -97,13 +99,17 @@ where
     requires home { (name : List ℕ) → S.out store.old name ≡ false }
     requires schema { IsSchema schema.now }
     requires workers { (1 ≤ workers) × (workers ≤ 8) }
-    ensures ran { (root : List ℕ) (faults : ℕ) (a : Option (List ℕ)) (k : ℕ) → faults ≤ S.faults store.old → IfSome (S.has store.old) (λ h. rules_of h.schema ≡ Ok schema.now)
-        → Ran (Archive root given.now workers) result (object (S.has store.old) (S.has store.new) faults (S.faults store.new)) (object (I.left input.old) (I.left input.new) (I.faults input.old) (I.faults input.new)) (object a a k k) (object (E.taken report.old) (E.taken report.new) (E.faults report.old) (E.faults report.new)) }
+    ensures ran { (root : List ℕ) (faults : ℕ) (a : Option (List ℕ)) (k : ℕ) → faults ≤ S.faults store.old
+        → IfSome (S.has store.old) (λ h. rules_of h.schema ≡ Ok schema.now)
+        → Ran (Archive root given.now workers) result (store_since (S.has store.old) faults S.Store store)
+        (source_of I.Source input) (object a a k k) (sink_of E.Sink report) }
     ensures notices { (root : List ℕ) (a : Option (List ℕ)) (k : ℕ) → IfSome (S.has store.old) (λ h. rules_of h.schema ≡ Ok schema.now)
-        → Notices (Archive root given.now workers) result (object (S.has store.old) (S.has store.new) (S.faults store.old) (S.faults store.new)) (object (I.left input.old) (I.left input.new) (I.faults input.old) (I.faults input.new)) (object a a k k) (object (E.taken report.old) (E.taken report.new) (E.faults report.old) (E.faults report.new)) }
+        → Notices (Archive root given.now workers) result (store_of S.Store store) (source_of I.Source input)
+        (object a a k k) (sink_of E.Sink report) }
     ensures spares { WhereTold (S.has store.old) (S.has store.new) SparesDamaged }
     ensures outlasts { (root : List ℕ) → IfSome (S.has store.old) (λ h. rules_of h.schema ≡ Ok schema.now)
-        → OutlastsCrash (Archive root given.now workers) result (object (S.has store.old) (S.has store.new) (S.faults store.old) (S.faults store.new)) (object (I.left input.old) (I.left input.new) (I.faults input.old) (I.faults input.new)) (object (E.taken report.old) (E.taken report.new) (E.faults report.old) (E.faults report.new)) }
+        → OutlastsCrash (Archive root given.now workers) result
+        (store_of S.Store store) (source_of I.Source input) (sink_of E.Sink report) }
     ensures home { (name : List ℕ) → S.out store.new name ≡ false }
 {
     match store_all(rt, alloc, schema, given, workers, store, input, gate) {

@@ -5,9 +5,10 @@ ghost use Rattle.fd_words.specs.declared.command.Command.{Command};
 ghost use Rattle.fd_words.specs.declared.command.Command.TheVariants as commands;
 ghost use Rattle.fd_outcome.specs.declared.status.Status.TheVariants.{Done, Missed};
 ghost use Rattle.fd_outcome.specs.Noticing.{Notices, ReadsFitly};
-ghost use Rattle.fd_outcome.specs.Objects.{Object, object};
+ghost use Rattle.fd_outcome.specs.Objects.{Object};
 ghost use Rattle.fd_outcome.specs.Ran.{Ran};
 ghost use Rattle.fd_outcome.specs.Rows.{axes_text, list_text};
+ghost use Rattle.fd_objects.specs.Given.{Over, OverOutput, sink_of, source_of, store_of, store_since};
 ghost use Rattle.fd_contents.specs.Asked.{Begins};
 ghost use Rattle.fd_contents.specs.Printed.{PrintsAll};
 ghost use Rattle.fd_contents.specs.Recorded.{CountsRecords, ListsRecords};
@@ -36,10 +37,10 @@ pub fn list<F: Send + Drop, X: Drop, S: Store<F>, I: Source<X>, K: Sink<X>, E: S
 ) -> Status
 where
     requires home { (name : List ℕ) → S.out store.old name ≡ false }
-    ensures ran { Ran (commands.List root.now) result (object (S.has store.old) (S.has store.new) (S.faults store.old) (S.faults store.new)) (object (I.left input.old) (I.left input.new) (I.faults input.old) (I.faults input.new)) (object (K.taken output.old) (K.taken output.new) (K.faults output.old) (K.faults output.new)) (object (E.taken report.old) (E.taken report.new) (E.faults report.old) (E.faults report.new)) }
-    ensures notices { Notices (commands.List root.now) result (object (S.has store.old) (S.has store.new) (S.faults store.old) (S.faults store.new)) (object (I.left input.old) (I.left input.new) (I.faults input.old) (I.faults input.new)) (object (K.taken output.old) (K.taken output.new) (K.faults output.old) (K.faults output.new)) (object (E.taken report.old) (E.taken report.new) (E.faults report.old) (E.faults report.new)) }
-    ensures recorded { ListsRecords list_text result (I.left input.old) (S.has store.old) (object (K.taken output.old) (K.taken output.new) (K.faults output.old) (K.faults output.new)) }
-    ensures unread { ReadsFitly (commands.List root.now) (object (S.has store.old) (S.has store.new) (S.faults store.old) (S.faults store.new)) (object (I.left input.old) (I.left input.new) (I.faults input.old) (I.faults input.new)) }
+    ensures ran { Over S.Store store I.Source input K.Sink output E.Sink report (Ran (commands.List root.now) result) }
+    ensures notices { Over S.Store store I.Source input K.Sink output E.Sink report (Notices (commands.List root.now) result) }
+    ensures recorded { ListsRecords list_text result (I.left input.old) (S.has store.old) (sink_of K.Sink output) }
+    ensures unread { ReadsFitly (commands.List root.now) (store_of S.Store store) (source_of I.Source input) }
     ensures home { (name : List ℕ) → S.out store.new name ≡ false }
 {
     match partial(alloc, root.as_str(), store, input) {
@@ -61,10 +62,10 @@ pub fn axes<F: Send + Drop, X: Drop, S: Store<F>, I: Source<X>, K: Sink<X>, E: S
 ) -> Status
 where
     requires home { (name : List ℕ) → S.out store.old name ≡ false }
-    ensures ran { Ran (commands.Axes root.now) result (object (S.has store.old) (S.has store.new) (S.faults store.old) (S.faults store.new)) (object (I.left input.old) (I.left input.new) (I.faults input.old) (I.faults input.new)) (object (K.taken output.old) (K.taken output.new) (K.faults output.old) (K.faults output.new)) (object (E.taken report.old) (E.taken report.new) (E.faults report.old) (E.faults report.new)) }
-    ensures notices { Notices (commands.Axes root.now) result (object (S.has store.old) (S.has store.new) (S.faults store.old) (S.faults store.new)) (object (I.left input.old) (I.left input.new) (I.faults input.old) (I.faults input.new)) (object (K.taken output.old) (K.taken output.new) (K.faults output.old) (K.faults output.new)) (object (E.taken report.old) (E.taken report.new) (E.faults report.old) (E.faults report.new)) }
-    ensures recorded { ListsRecords axes_text result (I.left input.old) (S.has store.old) (object (K.taken output.old) (K.taken output.new) (K.faults output.old) (K.faults output.new)) }
-    ensures unread { ReadsFitly (commands.Axes root.now) (object (S.has store.old) (S.has store.new) (S.faults store.old) (S.faults store.new)) (object (I.left input.old) (I.left input.new) (I.faults input.old) (I.faults input.new)) }
+    ensures ran { Over S.Store store I.Source input K.Sink output E.Sink report (Ran (commands.Axes root.now) result) }
+    ensures notices { Over S.Store store I.Source input K.Sink output E.Sink report (Notices (commands.Axes root.now) result) }
+    ensures recorded { ListsRecords axes_text result (I.left input.old) (S.has store.old) (sink_of K.Sink output) }
+    ensures unread { ReadsFitly (commands.Axes root.now) (store_of S.Store store) (source_of I.Source input) }
     ensures home { (name : List ℕ) → S.out store.new name ≡ false }
 {
     match partial(alloc, root.as_str(), store, input) {
@@ -84,9 +85,9 @@ pub fn stats<F: Send + Drop, X: Drop, S: Store<F>, K: Sink<X>, E: Sink<X>>(
 ) -> Status
 where
     requires home { (name : List ℕ) → S.out store.old name ≡ false }
-    ensures ran { (a : Option (List ℕ)) (k : ℕ) → Ran (commands.Stats root.now) result (object (S.has store.old) (S.has store.new) (S.faults store.old) (S.faults store.new)) (object a a k k) (object (K.taken output.old) (K.taken output.new) (K.faults output.old) (K.faults output.new)) (object (E.taken report.old) (E.taken report.new) (E.faults report.old) (E.faults report.new)) }
-    ensures notices { (a : Option (List ℕ)) (k : ℕ) → Notices (commands.Stats root.now) result (object (S.has store.old) (S.has store.new) (S.faults store.old) (S.faults store.new)) (object a a k k) (object (K.taken output.old) (K.taken output.new) (K.faults output.old) (K.faults output.new)) (object (E.taken report.old) (E.taken report.new) (E.faults report.old) (E.faults report.new)) }
-    ensures recorded { CountsRecords result (S.has store.old) (object (K.taken output.old) (K.taken output.new) (K.faults output.old) (K.faults output.new)) }
+    ensures ran { OverOutput S.Store store K.Sink output E.Sink report (Ran (commands.Stats root.now) result) }
+    ensures notices { OverOutput S.Store store K.Sink output E.Sink report (Notices (commands.Stats root.now) result) }
+    ensures recorded { CountsRecords result (S.has store.old) (sink_of K.Sink output) }
     ensures home { (name : List ℕ) → S.out store.new name ≡ false }
 {
     match ruled(alloc, root.as_str(), store) {
@@ -105,9 +106,11 @@ fn printed<F: Send + Drop, X: Drop, S: Store<F>, K: Sink<X>, E: Sink<X>>(
 ) -> Status
 where
     requires home { (name : List ℕ) → S.out store.old name ≡ false }
-    ensures ran { (command : Command) (before : Option Holdings) (faults : ℕ) (input : Object (List ℕ)) → Begins command lines.now before (S.has store.old) faults (S.faults store.old) input
-        → Ran command result (object before (S.has store.new) faults (S.faults store.new)) input (object (K.taken output.old) (K.taken output.new) (K.faults output.old) (K.faults output.new)) (object (E.taken report.old) (E.taken report.new) (E.faults report.old) (E.faults report.new)) }
-    ensures whole { (result ≡ Done) ⊎ (result ≡ Missed) → PrintsAll lines.now result (S.has store.old) (object (K.taken output.old) (K.taken output.new) (K.faults output.old) (K.faults output.new)) (object (E.taken report.old) (E.taken report.new) (E.faults report.old) (E.faults report.new)) }
+    ensures ran { (command : Command) (before : Option Holdings) (faults : ℕ) (input : Object (List ℕ))
+        → Begins command lines.now before (S.has store.old) faults (S.faults store.old) input
+        → Ran command result (store_since before faults S.Store store) input (sink_of K.Sink output) (sink_of E.Sink report) }
+    ensures whole { (result ≡ Done) ⊎ (result ≡ Missed)
+        → PrintsAll lines.now result (S.has store.old) (sink_of K.Sink output) (sink_of E.Sink report) }
     ensures home { (name : List ℕ) → S.out store.new name ≡ false }
 {
     match print(alloc, lines, store, output) {

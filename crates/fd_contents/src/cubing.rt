@@ -1,7 +1,8 @@
 // The command `cubes`.
 ghost use Rattle.std.specs.Prelude.{◌≡◌, List, ℕ, Option, false};
 ghost use Rattle.fd_disk.specs.Folders.{Holdings};
-ghost use Rattle.fd_outcome.specs.Objects.{Object, object};
+ghost use Rattle.fd_outcome.specs.Objects.{Object};
+ghost use Rattle.fd_objects.specs.Given.{Over, sink_of, store_since};
 ghost use Rattle.fd_contents.specs.Cubing.{BeginsCubes, CubesRan};
 
 use crate::gathering::keys_asked;
@@ -29,7 +30,7 @@ pub fn cubes<F: Send + Drop, X: Drop, S: Store<F>, I: Source<X>, K: Sink<X>, E: 
 ) -> Status
 where
     requires home { (name : List ℕ) → S.out store.old name ≡ false }
-    ensures ran { CubesRan root.now result (object (S.has store.old) (S.has store.new) (S.faults store.old) (S.faults store.new)) (object (I.left input.old) (I.left input.new) (I.faults input.old) (I.faults input.new)) (object (K.taken output.old) (K.taken output.new) (K.faults output.old) (K.faults output.new)) (object (E.taken report.old) (E.taken report.new) (E.faults report.old) (E.faults report.new)) }
+    ensures ran { Over S.Store store I.Source input K.Sink output E.Sink report (CubesRan root.now result) }
     ensures home { (name : List ℕ) → S.out store.new name ≡ false }
 {
     match partial(alloc, root.as_str(), store, input) {
@@ -48,8 +49,9 @@ fn cubed<F: Send + Drop, X: Drop, S: Store<F>, K: Sink<X>, E: Sink<X>>(
 ) -> Status
 where
     requires home { (name : List ℕ) → S.out store.old name ≡ false }
-    ensures ran { (root : List ℕ) (before : Option Holdings) (faults : ℕ) (input : Object (List ℕ)) → BeginsCubes partial.now before (S.has store.old) faults (S.faults store.old) input
-        → CubesRan root result (object before (S.has store.new) faults (S.faults store.new)) input (object (K.taken output.old) (K.taken output.new) (K.faults output.old) (K.faults output.new)) (object (E.taken report.old) (E.taken report.new) (E.faults report.old) (E.faults report.new)) }
+    ensures ran { (root : List ℕ) (before : Option Holdings) (faults : ℕ) (input : Object (List ℕ))
+        → BeginsCubes partial.now before (S.has store.old) faults (S.faults store.old) input
+        → CubesRan root result (store_since before faults S.Store store) input (sink_of K.Sink output) (sink_of E.Sink report) }
     ensures home { (name : List ℕ) → S.out store.new name ≡ false }
 {
     match keys_asked(alloc, partial, store) {

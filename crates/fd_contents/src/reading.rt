@@ -4,7 +4,7 @@ ghost use Rattle.std.specs.Result.{IsErr};
 ghost use Rattle.fd_bytes.specs.Causes.{Rose};
 ghost use Rattle.fd_outcome.specs.Asking.{partial_in, rules_of};
 ghost use Rattle.fd_outcome.specs.Noticing.{IsUnread};
-ghost use Rattle.fd_outcome.specs.Objects.{object};
+ghost use Rattle.fd_objects.specs.Given.{source_of};
 ghost use Rattle.fd_telling.specs.Stops.{OnInput, OnRefusal, OnRequest};
 ghost use Rattle.fd_contents.specs.Asked.{IsEarly, IsRuled, Refuses, asked_in, unruled};
 
@@ -68,10 +68,11 @@ pub(crate) fn partial<F: Send, X: Drop, S: Store<F>, I: Source<X>>(
     input: &mut I,
 ) -> Result<Partial, Stop<F>>
     ensures asked { IfOk result (λ p. IfSome (S.has store.old) (λ h. IfSome (I.left input.old) (λ octets. asked_in h octets ≡ Ok p))) }
-    ensures refused { IfErr result (λ e. IfSome (S.has store.old) (λ h. IfSome (I.left input.old) (λ octets. Refuses e (λ cause. asked_in h octets ≡ Err cause)))) }
+    ensures refused { IfErr result (λ e. IfSome (S.has store.old)
+        (λ h. IfSome (I.left input.old) (λ octets. Refuses e (λ cause. asked_in h octets ≡ Err cause)))) }
     ensures early { IfErr result IsEarly }
     ensures read { OnOk result (IfSome (I.left input.old) (λ octets. I.left input.new ≡ Some [])) }
-    ensures unread { IfSome (S.has store.old) (λ h. IsErr (rules_of h.schema) → IsUnread (object (I.left input.old) (I.left input.new) (I.faults input.old) (I.faults input.new))) }
+    ensures unread { IfSome (S.has store.old) (λ h. IsErr (rules_of h.schema) → IsUnread (source_of I.Source input)) }
     ensures input { IfErr result (λ e. OnInput e (Rose (I.faults input.old) (I.faults input.new))) }
     ensures calm { OnOk result (I.faults input.new ≡ I.faults input.old) }
     ensures calm_err { IfErr result (λ e. OnRefusal e (I.faults input.new ≡ I.faults input.old)) }

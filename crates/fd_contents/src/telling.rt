@@ -9,8 +9,8 @@ ghost use Rattle.fd_inventory.specs.Found.{IsNamed};
 ghost use Rattle.fd_outcome.specs.Causes as causes;
 ghost use Rattle.fd_outcome.specs.Causes.{telling};
 ghost use Rattle.fd_outcome.specs.Cubing.{first_ranged, is_ranged, keys_refusal};
-ghost use Rattle.fd_outcome.specs.Objects.{object};
 ghost use Rattle.fd_outcome.specs.Told.{ToldOrNoMemory};
+ghost use Rattle.fd_objects.specs.Given.{sink_of};
 ghost use Rattle.fd_contents.specs.Cubing.{AreCubes};
 ghost use Rattle.fd_contents.specs.Told.{ToldKeys, ToldLines};
 
@@ -60,7 +60,8 @@ fn first_ranged(keys: &[Key]) -> Option<&Key>
 
 /// Writes the line of a key that no request can name.
 fn tell_no_request<X: Drop, E: Sink<X>>(alloc: Global, report: &mut E, key: &Key) -> Status
-    ensures { ToldOrNoMemory (telling (causes.NoRequest key.now)).status (telling (causes.NoRequest key.now)).line result (E.taken report.old) (E.taken report.new) (E.faults report.old) (E.faults report.new) }
+    ensures { ToldOrNoMemory (telling (causes.NoRequest key.now)).status (telling (causes.NoRequest key.now)).line result
+        (E.taken report.old) (E.taken report.new) (E.faults report.old) (E.faults report.new) }
 {
     match key.text(alloc) {
         Ok(text) => tell_text(
@@ -92,7 +93,7 @@ fn print_lines<X: Drop, K: Sink<X>, E: Sink<X>>(
     output: &mut K,
     report: &mut E,
 ) -> Status
-    ensures { ToldLines result (object (K.taken output.old) (K.taken output.new) (K.faults output.old) (K.faults output.new)) (object (E.taken report.old) (E.taken report.new) (E.faults report.old) (E.faults report.new)) (texts lines.now) }
+    ensures { ToldLines result (sink_of K.Sink output) (sink_of E.Sink report) (texts lines.now) }
 {
     match write_lines(alloc, lines, output) {
         Ok(()) => Status::Done,
@@ -112,7 +113,7 @@ fn print_cubes<X: Drop, K: Sink<X>, E: Sink<X>>(
     requires distinct { AllPairs (λ a b. a ≢ b) keys.now }
     requires few { length keys.now ≤ 262144 }
     requires none { keys_refusal keys.now ≡ None }
-    ensures { ToldKeys result (object (K.taken output.old) (K.taken output.new) (K.faults output.old) (K.faults output.new)) (object (E.taken report.old) (E.taken report.new) (E.faults report.old) (E.faults report.new)) keys.now }
+    ensures { ToldKeys result (sink_of K.Sink output) (sink_of E.Sink report) keys.now }
 {
     match lines_of_keys(alloc, keys) {
         Ok(lines) => print_lines(alloc, &lines, output, report),
@@ -128,7 +129,7 @@ pub(crate) fn tell_keys<X: Drop, K: Sink<X>, E: Sink<X>>(
     output: &mut K,
     report: &mut E,
 ) -> Status
-    ensures { ToldKeys result (object (K.taken output.old) (K.taken output.new) (K.faults output.old) (K.faults output.new)) (object (E.taken report.old) (E.taken report.new) (E.faults report.old) (E.faults report.new)) found.now }
+    ensures { ToldKeys result (sink_of K.Sink output) (sink_of E.Sink report) found.now }
 {
     let keys = found.keys();
     if keys.len() > MOST_KEYS {

@@ -9,8 +9,8 @@ ghost use Rattle.fd_outcome.specs.Asking.{rules_of};
 ghost use Rattle.fd_outcome.specs.Ends.{AmongLaid};
 ghost use Rattle.fd_outcome.specs.Layered.{laid_of};
 ghost use Rattle.fd_outcome.specs.Noticing.{IsUnread};
-ghost use Rattle.fd_outcome.specs.Objects.{object};
 ghost use Rattle.fd_outcome.specs.Store.{Stays};
+ghost use Rattle.fd_objects.specs.Given.{source_of};
 ghost use Rattle.fd_retrieve.specs.Looking.{IsLookedThrough};
 ghost use Rattle.fd_telling.specs.Stops.{IsOfRequest, IsRefused, OnInput, OnRefusal, Says};
 ghost use Rattle.fd_layered.specs.Chains.{AreChains};
@@ -46,11 +46,14 @@ pub(crate) fn prepared<F: Send + Drop, X: Drop, S: Store<F>, I: Source<X>>(
 where
     requires home { (n : List ℕ) → S.out store.old n ≡ false }
     requires layers { AreLayers layers.now }
-    ensures prepared { IfOk result (λ r. IfSome (S.has store.old) (λ h. IfSome (I.left input.old) (λ octets. IsReady h layers.now octets r.request r.places.items r.opened.items))) }
+    ensures prepared { IfOk result (λ r. IfSome (S.has store.old)
+        (λ h. IfSome (I.left input.old) (λ octets. IsReady h layers.now octets r.request r.places.items r.opened.items))) }
     ensures chains { IfOk result (λ r. AreChains (length layers.now) (expand r.request) (map seen_place r.places.items)) }
     ensures read { OnOk result (IfSome (I.left input.old) (λ octets. I.left input.new ≡ Some [])) }
-    ensures unread { IfSome (S.has store.old) (λ h. IsErr (rules_of h.schema) → IsUnread (object (I.left input.old) (I.left input.new) (I.faults input.old) (I.faults input.new))) }
-    ensures says { IfErr result (λ e. IfSome (S.has store.old) (λ h. IfSome (I.left input.old) (λ octets. Says e h (IsRefused (laid_of h layers.now octets)) (AmongLaid (laid_of h layers.now octets))))) }
+    ensures unread { IfSome (S.has store.old) (λ h. IsErr (rules_of h.schema) → IsUnread (source_of I.Source input)) }
+    ensures says { IfErr result (λ e. IfSome (S.has store.old)
+        (λ h. IfSome (I.left input.old) (λ octets. Says e h (IsRefused (laid_of h layers.now octets))
+        (AmongLaid (laid_of h layers.now octets))))) }
     ensures input { IfErr result (λ e. OnInput e (Rose (I.faults input.old) (I.faults input.new))) }
     ensures calm { OnOk result (I.faults input.new ≡ I.faults input.old) }
     ensures calm_err { IfErr result (λ e. OnRefusal e (I.faults input.new ≡ I.faults input.old)) }
@@ -87,11 +90,13 @@ fn placed<F: Send, X: Drop, S: Store<F>, I: Source<X>>(
     input: &mut I,
 ) -> Result<(Request, Vec<Place>), Stop<F>>
     requires layers { AreLayers layers.now }
-    ensures placed { IfOk result (λ r. IfSome (S.has store.old) (λ h. IfSome (I.left input.old) (λ octets. laid_in h layers.now octets ≡ Ok (laid_with layers.now r.0 r.1.items)))) }
+    ensures placed { IfOk result (λ r. IfSome (S.has store.old)
+        (λ h. IfSome (I.left input.old) (λ octets. laid_in h layers.now octets ≡ Ok (laid_with layers.now r.0 r.1.items)))) }
     ensures chains { IfOk result (λ r. AreChains (length layers.now) (expand r.0) (map seen_place r.1.items)) }
     ensures read { OnOk result (IfSome (I.left input.old) (λ octets. I.left input.new ≡ Some [])) }
-    ensures unread { IfSome (S.has store.old) (λ h. IsErr (rules_of h.schema) → IsUnread (object (I.left input.old) (I.left input.new) (I.faults input.old) (I.faults input.new))) }
-    ensures says { IfErr result (λ e. IfSome (S.has store.old) (λ h. IfSome (I.left input.old) (λ octets. IsOfRequest e (IsRefused (laid_in h layers.now octets))))) }
+    ensures unread { IfSome (S.has store.old) (λ h. IsErr (rules_of h.schema) → IsUnread (source_of I.Source input)) }
+    ensures says { IfErr result (λ e. IfSome (S.has store.old)
+        (λ h. IfSome (I.left input.old) (λ octets. IsOfRequest e (IsRefused (laid_in h layers.now octets))))) }
     ensures input { IfErr result (λ e. OnInput e (Rose (I.faults input.old) (I.faults input.new))) }
     ensures calm { OnOk result (I.faults input.new ≡ I.faults input.old) }
     ensures calm_err { IfErr result (λ e. OnRefusal e (I.faults input.new ≡ I.faults input.old)) }

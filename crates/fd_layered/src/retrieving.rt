@@ -7,10 +7,11 @@ ghost use Rattle.fd_words.specs.Words.{AreLayers};
 ghost use Rattle.fd_words.specs.declared.command.Command.TheVariants.{RetrieveOver};
 ghost use Rattle.fd_outcome.specs.Layered.{laid_answers, laid_of};
 ghost use Rattle.fd_outcome.specs.Noticing.{AnsweredEach, IsLaidAnswer, Notices, ReadsFitly};
-ghost use Rattle.fd_outcome.specs.Objects.{Object, object};
+ghost use Rattle.fd_outcome.specs.Objects.{Object};
 ghost use Rattle.fd_outcome.specs.Ran.{Ran};
 ghost use Rattle.fd_outcome.specs.Store.{table_at};
 ghost use Rattle.fd_outcome.specs.declared.status.Status.TheVariants.{Done, Missed};
+ghost use Rattle.fd_objects.specs.Given.{Over, sink_of, source_of, store_of, store_since};
 ghost use Rattle.fd_retrieve.specs.Commands.{Begins};
 ghost use Rattle.fd_retrieve.specs.Open.{table_in};
 ghost use Rattle.fd_layered.specs.Chains.{AreChains};
@@ -59,9 +60,10 @@ where
     requires workers { (1 ≤ workers) × (workers ≤ 8) }
     requires layers { AreLayers layers.now }
     requires home { (name : List ℕ) → S.out store.old name ≡ false }
-    ensures ran { Ran (RetrieveOver root.now layers.now workers) result (object (S.has store.old) (S.has store.new) (S.faults store.old) (S.faults store.new)) (object (I.left input.old) (I.left input.new) (I.faults input.old) (I.faults input.new)) (object (K.taken output.old) (K.taken output.new) (K.faults output.old) (K.faults output.new)) (object (E.taken report.old) (E.taken report.new) (E.faults report.old) (E.faults report.new)) }
-    ensures unread { ReadsFitly (RetrieveOver root.now layers.now workers) (object (S.has store.old) (S.has store.new) (S.faults store.old) (S.faults store.new)) (object (I.left input.old) (I.left input.new) (I.faults input.old) (I.faults input.new)) }
-    ensures notices { Notices (RetrieveOver root.now layers.now workers) result (object (S.has store.old) (S.has store.new) (S.faults store.old) (S.faults store.new)) (object (I.left input.old) (I.left input.new) (I.faults input.old) (I.faults input.new)) (object (K.taken output.old) (K.taken output.new) (K.faults output.old) (K.faults output.new)) (object (E.taken report.old) (E.taken report.new) (E.faults report.old) (E.faults report.new)) }
+    ensures ran { Over S.Store store I.Source input K.Sink output E.Sink report (Ran (RetrieveOver root.now layers.now workers) result) }
+    ensures unread { ReadsFitly (RetrieveOver root.now layers.now workers) (store_of S.Store store) (source_of I.Source input) }
+    ensures notices { Over S.Store store I.Source input K.Sink output E.Sink report
+        (Notices (RetrieveOver root.now layers.now workers) result) }
     ensures home { (name : List ℕ) → S.out store.new name ≡ false }
 {
     match prepared(alloc, root.as_str(), layers, store, input) {
@@ -97,10 +99,15 @@ where
     requires workers { (1 ≤ workers) × (workers ≤ 8) }
     requires layers { AreLayers layers.now }
     requires chains { AreChains (length layers.now) (expand ready.request) (map seen_place ready.places.items) }
-    ensures ran { (root : List ℕ) (before : Option Holdings) (faults : ℕ) (input : Object (List ℕ)) → Begins (RetrieveOver root layers.now workers) before (S.has store.old) faults (S.faults store.old) input ready.opened.items (laid_answers (table_in ready.opened.items) (laid_with layers.now ready.request ready.places.items))
-        → Ran (RetrieveOver root layers.now workers) result (object before (S.has store.new) faults (S.faults store.new)) input (object (K.taken output.old) (K.taken output.new) (K.faults output.old) (K.faults output.new)) (object (E.taken report.old) (E.taken report.new) (E.faults report.old) (E.faults report.new)) }
-    ensures each { (h : Holdings) (octets : List ℕ) → IsReady h layers.now octets ready.request ready.places.items ready.opened.items → (result ≡ Done) ⊎ (result ≡ Missed)
-        → AnsweredEach (IsLaidAnswer (table_at h)) (laid_of h layers.now octets) result (K.taken output.old) (K.taken output.new) (E.taken report.old) (E.taken report.new) }
+    ensures ran { (root : List ℕ) (before : Option Holdings) (faults : ℕ) (input : Object (List ℕ))
+        → Begins (RetrieveOver root layers.now workers) before (S.has store.old) faults (S.faults store.old) input ready.opened.items
+        (laid_answers (table_in ready.opened.items) (laid_with layers.now ready.request ready.places.items))
+        → Ran (RetrieveOver root layers.now workers) result (store_since before faults S.Store store) input
+        (sink_of K.Sink output) (sink_of E.Sink report) }
+    ensures each { (h : Holdings) (octets : List ℕ) → IsReady h layers.now octets ready.request ready.places.items ready.opened.items
+        → (result ≡ Done) ⊎ (result ≡ Missed)
+        → AnsweredEach (IsLaidAnswer (table_at h)) (laid_of h layers.now octets) result
+        (K.taken output.old) (K.taken output.new) (E.taken report.old) (E.taken report.new) }
     ensures out { S.out store.new ≡ S.out store.old }
 {
     let Ready {

@@ -3,7 +3,7 @@ ghost use Rattle.std.specs.Prelude.{◌≡◌, false, List, ℕ};
 ghost use Rattle.std.specs.Process.{exit_status};
 ghost use Rattle.fd_words.specs.Texts.{texts};
 ghost use Rattle.fd_outcome.specs.Codes.{code_of};
-ghost use Rattle.fd_outcome.specs.Objects.{object};
+ghost use Rattle.fd_objects.specs.Given.{Over};
 ghost use Rattle.fd_program.specs.Served.{ServedAs};
 
 use crate::top::fdb;
@@ -45,8 +45,13 @@ pub fn ran<
 ) -> ExitCode
 where
     S::Folder: Renew<F>,
+    // No folder is out of the store.
     requires home { (name : List ℕ) → S.out store.old name ≡ false }
-    ensures served { ServedAs F (texts words.now) (exit_status result) (object (S.has store.old) (S.has store.new) (S.faults store.old) (S.faults store.new)) (object (I.left input.old) (I.left input.new) (I.faults input.old) (I.faults input.new)) (object (K.taken output.old) (K.taken output.new) (K.faults output.old) (K.faults output.new)) (object (E.taken report.old) (E.taken report.new) (E.faults report.old) (E.faults report.new)) }
+
+    // What holds of the run, fact by fact, where it ended with the status that is told so.
+    ensures served { Over S.Store store I.Source input K.Sink output E.Sink report (ServedAs F (texts words.now) (exit_status result)) }
+
+    // Each folder is back in the store.
     ensures home { (name : List ℕ) → S.out store.new name ≡ false }
 {
     let status = fdb(rt, alloc, words, store, input, output, report, gate);

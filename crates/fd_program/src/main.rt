@@ -7,6 +7,7 @@ ghost use Rattle.std.specs.String.{string_bytes};
 ghost use Rattle.fd_words.specs.Texts.{texts};
 
 mod exit;
+mod running;
 #[cfg(test)]
 mod tests;
 mod top;

@@ -1,8 +1,8 @@
 // The commands.
-ghost use Rattle.std.specs.Prelude.{◌≡◌, List, ℕ, Option, false};
+ghost use Rattle.std.specs.Prelude.{◌≡◌, List, ℕ, false};
 ghost use Rattle.fd_words.specs.declared.command.Command.TheVariants as commands;
-ghost use Rattle.fd_outcome.specs.Objects.{object};
 ghost use Rattle.fd_outcome.specs.Ran.{Ran};
+ghost use Rattle.fd_objects.specs.Given.{OverStore};
 
 use crate::reclaiming::{purged, wiped};
 use crate::telling::{tell_halt, tell_purged, tell_wiped};
@@ -25,7 +25,7 @@ pub fn purge<F: Send, X: Drop, S: Store<F>, E: Sink<X>>(
 where
     S::Folder: Renew<F>,
     requires home { (name : List ℕ) → S.out store.old name ≡ false }
-    ensures ran { (i : Option (List ℕ)) (j : ℕ) (a : Option (List ℕ)) (k : ℕ) → Ran (commands.Purge root.now dataset.now) result (object (S.has store.old) (S.has store.new) (S.faults store.old) (S.faults store.new)) (object i i j j) (object a a k k) (object (E.taken report.old) (E.taken report.new) (E.faults report.old) (E.faults report.new)) }
+    ensures ran { OverStore S.Store store E.Sink report (Ran (commands.Purge root.now dataset.now) result) }
     ensures home { (name : List ℕ) → S.out store.new name ≡ false }
 {
     let text = dataset.as_str();
@@ -47,7 +47,7 @@ pub fn wipe<F: Send, X: Drop, S: Store<F>, E: Sink<X>>(
 where
     S::Folder: Renew<F>,
     requires home { (name : List ℕ) → S.out store.old name ≡ false }
-    ensures ran { (i : Option (List ℕ)) (j : ℕ) (a : Option (List ℕ)) (k : ℕ) → Ran (commands.Wipe root.now dataset.now) result (object (S.has store.old) (S.has store.new) (S.faults store.old) (S.faults store.new)) (object i i j j) (object a a k k) (object (E.taken report.old) (E.taken report.new) (E.faults report.old) (E.faults report.new)) }
+    ensures ran { OverStore S.Store store E.Sink report (Ran (commands.Wipe root.now dataset.now) result) }
     ensures home { (name : List ℕ) → S.out store.new name ≡ false }
 {
     let text = dataset.as_str();

@@ -6,7 +6,7 @@ ghost use Rattle.fd_key.specs.Pairs as keys;
 ghost use Rattle.fd_key.specs.Pairs.{key_text};
 ghost use Rattle.fd_listing.specs.Lines.{line};
 ghost use Rattle.fd_request.specs.Expansion.{expand};
-ghost use Rattle.fd_outcome.specs.Objects.{object};
+ghost use Rattle.fd_objects.specs.Given.{sink_of};
 ghost use Rattle.fd_ahead.specs.Places.{AreIn};
 ghost use Rattle.fd_ahead.specs.Reading.{IsStock};
 ghost use Rattle.fd_retrieve.specs.Open.{IsDamagedAt};
@@ -46,8 +46,10 @@ fn tell_miss<F: Send, X, E: Sink<X>>(
     report: &mut E,
 ) -> Result<(), Halt<F, X>>
     requires { number < length (expand request.now) }
-    ensures took { OnOk result ((key : List keys.Pair) → slice_get (expand request.now) number ≡ Some key → Takes (E.taken report.old) (E.taken report.new) (line (codes "miss " ++ key_text key))) }
-    ensures front { IfErr result (λ e. (key : List keys.Pair) → slice_get (expand request.now) number ≡ Some key → TakesFront (E.taken report.old) (E.taken report.new) (line (codes "miss " ++ key_text key))) }
+    ensures took { OnOk result ((key : List keys.Pair) → slice_get (expand request.now) number ≡ Some key
+        → Takes (E.taken report.old) (E.taken report.new) (line (codes "miss " ++ key_text key))) }
+    ensures front { IfErr result (λ e. (key : List keys.Pair) → slice_get (expand request.now) number ≡ Some key
+        → TakesFront (E.taken report.old) (E.taken report.new) (line (codes "miss " ++ key_text key))) }
     ensures count { E.faults report.old ≤ E.faults report.new }
     ensures cause { IfErr result (λ e. OnUnwritten e ⊥ (Rose (E.faults report.old) (E.faults report.new))) }
     ensures whole { IfErr result (λ e. OnDamaged e (λ n d. ⊥)) }
@@ -97,14 +99,17 @@ where
     requires within { IfSome located (IsIn opened.now) }
     requires stock { IsStock opened.now stock.old }
     ensures stock { IsStock opened.now stock.new }
-    ensures one { IfOk result (λ is_found. (bytes : Option (List ℕ)) (key : List keys.Pair) → IsAt opened.now bytes located → slice_get (expand request.now) number ≡ Some key
+    ensures one { IfOk result (λ is_found. (bytes : Option (List ℕ)) (key : List keys.Pair) → IsAt opened.now bytes located
+        → slice_get (expand request.now) number ≡ Some key
         → IsOne bytes key is_found (K.taken output.old) (K.taken output.new) (E.taken report.old) (E.taken report.new)) }
-    ensures halted { IfErr result (λ e. (bytes : Option (List ℕ)) (key : List keys.Pair) → IsAt opened.now bytes located → slice_get (expand request.now) number ≡ Some key
+    ensures halted { IfErr result (λ e. (bytes : Option (List ℕ)) (key : List keys.Pair) → IsAt opened.now bytes located
+        → slice_get (expand request.now) number ≡ Some key
         → IsOneInPart bytes key (K.taken output.old) (K.taken output.new) (E.taken report.old) (E.taken report.new)) }
     ensures output { K.faults output.old ≤ K.faults output.new }
     ensures calm { OnOk result (K.faults output.new ≡ K.faults output.old) }
     ensures report { E.faults report.old ≤ E.faults report.new }
-    ensures cause { IfErr result (λ e. OnUnwritten e (Rose (K.faults output.old) (K.faults output.new)) (Rose (E.faults report.old) (E.faults report.new))) }
+    ensures cause { IfErr result (λ e. OnUnwritten e (Rose (K.faults output.old) (K.faults output.new))
+        (Rose (E.faults report.old) (E.faults report.new))) }
     ensures damaged { IfErr result (λ e. OnDamaged e (IsDamagedAt opened.now)) }
     ensures grew { TookSome (E.taken report.old) (E.taken report.new) }
 {
@@ -149,7 +154,8 @@ where
     requires stock { IsStock opened.now stock.old }
     requires range { (from ≤ to) × (to ≤ length located.now) × (found ≤ from) }
     ensures stock { IsStock opened.now stock.new }
-    ensures round { IsRound opened.now (expand request.now) located.now from to found (object (K.taken output.old) (K.taken output.new) (K.faults output.old) (K.faults output.new)) (object (E.taken report.old) (E.taken report.new) (E.faults report.old) (E.faults report.new)) result }
+    ensures round { IsRound opened.now (expand request.now) located.now from to found
+        (sink_of K.Sink output) (sink_of E.Sink report) result }
 {
     let mut found = found;
     for i in from..to {

@@ -9,8 +9,8 @@ ghost use Rattle.fd_request.specs.Expansion.{expand};
 ghost use Rattle.fd_outcome.specs.Asking.{asked_of, rules_of};
 ghost use Rattle.fd_outcome.specs.Ends.{AmongAsked};
 ghost use Rattle.fd_outcome.specs.Noticing.{IsUnread};
-ghost use Rattle.fd_outcome.specs.Objects.{object};
 ghost use Rattle.fd_outcome.specs.Store.{Stays};
+ghost use Rattle.fd_objects.specs.Given.{source_of};
 ghost use Rattle.fd_retrieve.specs.Looking.{IsLookedThrough};
 ghost use Rattle.fd_retrieve.specs.Ready.{AreOpen, NoneIsDamaged, IsBrokenOf, IsReady, IsUnopened, MayOpen, asked_at, placed_of};
 ghost use Rattle.fd_telling.specs.Stops.{IsOfRequest, IsRefused, OfDataset, OnInput, OnRefusal, Says};
@@ -45,11 +45,13 @@ pub(crate) fn prepared<F: Send, X: Drop, S: Store<F>, I: Source<X>>(
 ) -> Result<Ready<F, <S::Folder as Folder<F>>::Sealed>, Stop<F>>
 where
     requires home { (n : List ℕ) → S.out store.old n ≡ false }
-    ensures prepared { IfOk result (λ r. IfSome (S.has store.old) (λ h. IfSome (I.left input.old) (λ octets. IsReady h octets r.request r.places.items r.opened.items))) }
+    ensures prepared { IfOk result (λ r. IfSome (S.has store.old)
+        (λ h. IfSome (I.left input.old) (λ octets. IsReady h octets r.request r.places.items r.opened.items))) }
     ensures count { IfOk result (λ r. length r.places.items ≡ length (expand r.request)) }
     ensures read { OnOk result (IfSome (I.left input.old) (λ octets. I.left input.new ≡ Some [])) }
-    ensures unread { IfSome (S.has store.old) (λ h. IsErr (rules_of h.schema) → IsUnread (object (I.left input.old) (I.left input.new) (I.faults input.old) (I.faults input.new))) }
-    ensures says { IfErr result (λ e. IfSome (S.has store.old) (λ h. IfSome (I.left input.old) (λ octets. Says e h (IsRefused (asked_of h octets)) (AmongAsked (asked_of h octets))))) }
+    ensures unread { IfSome (S.has store.old) (λ h. IsErr (rules_of h.schema) → IsUnread (source_of I.Source input)) }
+    ensures says { IfErr result (λ e. IfSome (S.has store.old)
+        (λ h. IfSome (I.left input.old) (λ octets. Says e h (IsRefused (asked_of h octets)) (AmongAsked (asked_of h octets))))) }
     ensures input { IfErr result (λ e. OnInput e (Rose (I.faults input.old) (I.faults input.new))) }
     ensures calm { OnOk result (I.faults input.new ≡ I.faults input.old) }
     ensures calm_err { IfErr result (λ e. OnRefusal e (I.faults input.new ≡ I.faults input.old)) }
@@ -84,11 +86,13 @@ fn placed<F: Send, X: Drop, S: Store<F>, I: Source<X>>(
     store: &mut S,
     input: &mut I,
 ) -> Result<(Request, Vec<Place>), Stop<F>>
-    ensures placed { IfOk result (λ r. IfSome (S.has store.old) (λ h. IfSome (I.left input.old) (λ octets. placed_of h octets ≡ Ok (asked_at r.0 r.1.items)))) }
+    ensures placed { IfOk result (λ r. IfSome (S.has store.old)
+        (λ h. IfSome (I.left input.old) (λ octets. placed_of h octets ≡ Ok (asked_at r.0 r.1.items)))) }
     ensures count { IfOk result (λ r. length r.1.items ≡ length (expand r.0)) }
     ensures read { OnOk result (IfSome (I.left input.old) (λ octets. I.left input.new ≡ Some [])) }
-    ensures unread { IfSome (S.has store.old) (λ h. IsErr (rules_of h.schema) → IsUnread (object (I.left input.old) (I.left input.new) (I.faults input.old) (I.faults input.new))) }
-    ensures says { IfErr result (λ e. IfSome (S.has store.old) (λ h. IfSome (I.left input.old) (λ octets. IsOfRequest e (IsRefused (placed_of h octets))))) }
+    ensures unread { IfSome (S.has store.old) (λ h. IsErr (rules_of h.schema) → IsUnread (source_of I.Source input)) }
+    ensures says { IfErr result (λ e. IfSome (S.has store.old)
+        (λ h. IfSome (I.left input.old) (λ octets. IsOfRequest e (IsRefused (placed_of h octets))))) }
     ensures input { IfErr result (λ e. OnInput e (Rose (I.faults input.old) (I.faults input.new))) }
     ensures calm { OnOk result (I.faults input.new ≡ I.faults input.old) }
     ensures calm_err { IfErr result (λ e. OnRefusal e (I.faults input.new ≡ I.faults input.old)) }

@@ -6,7 +6,7 @@ ghost use Rattle.fd_words.specs.declared.command.Command.TheVariants.{Retrieve};
 ghost use Rattle.fd_outcome.specs.Causes.{BadFile, damaged_line};
 ghost use Rattle.fd_outcome.specs.Ends.{Tells};
 ghost use Rattle.fd_outcome.specs.Noticing.{AnsweredEach, IsAnswer, Notices, ReadsFitly};
-ghost use Rattle.fd_outcome.specs.Objects.{Object, object};
+ghost use Rattle.fd_outcome.specs.Objects.{Object};
 ghost use Rattle.fd_outcome.specs.Ran.{Ran};
 ghost use Rattle.fd_outcome.specs.Told.{ToldOrNoMemory};
 ghost use Rattle.fd_key.specs.Pairs.{Pair};
@@ -14,6 +14,7 @@ ghost use Rattle.fd_outcome.specs.Asking.{Answer, answers, asked_of};
 ghost use Rattle.fd_outcome.specs.Outcome as outcomes;
 ghost use Rattle.fd_outcome.specs.Store.{table_at};
 ghost use Rattle.fd_outcome.specs.declared.status.Status.TheVariants.{Done, Missed};
+ghost use Rattle.fd_objects.specs.Given.{Over, sink_of, source_of, store_of, store_since};
 ghost use Rattle.fd_ahead.specs.Places.{AreIn};
 ghost use Rattle.fd_retrieve.specs.Commands.{Begins, retrieving};
 ghost use Rattle.fd_retrieve.specs.Located.{AreAt, OnLost};
@@ -65,9 +66,9 @@ pub fn retrieve<
 where
     requires workers { (1 ≤ workers) × (workers ≤ 8) }
     requires home { (name : List ℕ) → S.out store.old name ≡ false }
-    ensures ran { Ran (Retrieve root.now workers) result (object (S.has store.old) (S.has store.new) (S.faults store.old) (S.faults store.new)) (object (I.left input.old) (I.left input.new) (I.faults input.old) (I.faults input.new)) (object (K.taken output.old) (K.taken output.new) (K.faults output.old) (K.faults output.new)) (object (E.taken report.old) (E.taken report.new) (E.faults report.old) (E.faults report.new)) }
-    ensures unread { ReadsFitly (Retrieve root.now workers) (object (S.has store.old) (S.has store.new) (S.faults store.old) (S.faults store.new)) (object (I.left input.old) (I.left input.new) (I.faults input.old) (I.faults input.new)) }
-    ensures notices { Notices (Retrieve root.now workers) result (object (S.has store.old) (S.has store.new) (S.faults store.old) (S.faults store.new)) (object (I.left input.old) (I.left input.new) (I.faults input.old) (I.faults input.new)) (object (K.taken output.old) (K.taken output.new) (K.faults output.old) (K.faults output.new)) (object (E.taken report.old) (E.taken report.new) (E.faults report.old) (E.faults report.new)) }
+    ensures ran { Over S.Store store I.Source input K.Sink output E.Sink report (Ran (Retrieve root.now workers) result) }
+    ensures unread { ReadsFitly (Retrieve root.now workers) (store_of S.Store store) (source_of I.Source input) }
+    ensures notices { Over S.Store store I.Source input K.Sink output E.Sink report (Notices (Retrieve root.now workers) result) }
     ensures home { (name : List ℕ) → S.out store.new name ≡ false }
 {
     match prepared(alloc, root.as_str(), store, input) {
@@ -99,10 +100,15 @@ fn answered<
 where
     requires workers { (1 ≤ workers) × (workers ≤ 8) }
     requires count { length ready.places.items ≡ length (expand ready.request) }
-    ensures ran { (root : List ℕ) (before : Option Holdings) (faults : ℕ) (input : Object (List ℕ)) → Begins (Retrieve root workers) before (S.has store.old) faults (S.faults store.old) input ready.opened.items (answers (table_in ready.opened.items) (asked_at ready.request ready.places.items))
-        → Ran (Retrieve root workers) result (object before (S.has store.new) faults (S.faults store.new)) input (object (K.taken output.old) (K.taken output.new) (K.faults output.old) (K.faults output.new)) (object (E.taken report.old) (E.taken report.new) (E.faults report.old) (E.faults report.new)) }
-    ensures each { (h : Holdings) (octets : List ℕ) → IsReady h octets ready.request ready.places.items ready.opened.items → (result ≡ Done) ⊎ (result ≡ Missed)
-        → AnsweredEach (IsAnswer (table_at h)) (asked_of h octets) result (K.taken output.old) (K.taken output.new) (E.taken report.old) (E.taken report.new) }
+    ensures ran { (root : List ℕ) (before : Option Holdings) (faults : ℕ) (input : Object (List ℕ))
+        → Begins (Retrieve root workers) before (S.has store.old) faults (S.faults store.old) input ready.opened.items
+        (answers (table_in ready.opened.items) (asked_at ready.request ready.places.items))
+        → Ran (Retrieve root workers) result (store_since before faults S.Store store) input
+        (sink_of K.Sink output) (sink_of E.Sink report) }
+    ensures each { (h : Holdings) (octets : List ℕ) → IsReady h octets ready.request ready.places.items ready.opened.items
+        → (result ≡ Done) ⊎ (result ≡ Missed)
+        → AnsweredEach (IsAnswer (table_at h)) (asked_of h octets) result
+        (K.taken output.old) (K.taken output.new) (E.taken report.old) (E.taken report.new) }
     ensures out { S.out store.new ≡ S.out store.old }
 {
     let Ready {
@@ -143,11 +149,16 @@ where
     requires within { IfOk located (λ v. AreIn opened.now v.items) }
     requires damaged { IfErr located (λ e. OnLost e (IsDamagedAt opened.now)) }
     // The command is `retrieve`, or `retrieve` over layers; what stands where the keys are located are its answers.
-    ensures ran { (root : List ℕ) (over : Option (List (List Pair))) (before : Option Holdings) (faults : ℕ) (input : Object (List ℕ)) (o : Option (List Answer)) → Begins (retrieving root over workers) before (S.has store.old) faults (S.faults store.old) input opened.now o
+    ensures ran { (root : List ℕ) (over : Option (List (List Pair))) (before : Option Holdings) (faults : ℕ) (input : Object (List ℕ))
+        (o : Option (List Answer))
+        → Begins (retrieving root over workers) before (S.has store.old) faults (S.faults store.old) input opened.now o
         → IfOk located (λ v. (xs : List Answer) → o ≡ Some xs → AreAt opened.now (expand request.now) xs v.items)
-        → Ran (retrieving root over workers) result (object before (S.has store.new) faults (S.faults store.new)) input (object (K.taken output.old) (K.taken output.new) (K.faults output.old) (K.faults output.new)) (object (E.taken report.old) (E.taken report.new) (E.faults report.old) (E.faults report.new)) }
+        → Ran (retrieving root over workers) result (store_since before faults S.Store store) input
+        (sink_of K.Sink output) (sink_of E.Sink report) }
     ensures located { (result ≡ Done) ⊎ (result ≡ Missed) → IsOk located }
-    ensures told { (result ≡ Done) ⊎ (result ≡ Missed) → IfOk located (λ v. (xs : List Answer) → AreAt opened.now (expand request.now) xs v.items → Tells result (outcomes.answered xs) (K.taken output.old) (K.taken output.new) (E.taken report.old) (E.taken report.new)) }
+    ensures told { (result ≡ Done) ⊎ (result ≡ Missed)
+        → IfOk located (λ v. (xs : List Answer) → AreAt opened.now (expand request.now) xs v.items
+        → Tells result (outcomes.answered xs) (K.taken output.old) (K.taken output.new) (E.taken report.old) (E.taken report.new)) }
     ensures out { S.out store.new ≡ S.out store.old }
 {
     let located = match located {
@@ -185,7 +196,8 @@ fn tell_counts<X: Drop, E: Sink<X>>(
     found: u32,
     missed: u32,
 ) -> Status
-    ensures { ToldOrNoMemory (counts_status missed) (counts_text found missed) result (E.taken report.old) (E.taken report.new) (E.faults report.old) (E.faults report.new) }
+    ensures { ToldOrNoMemory (counts_status missed) (counts_text found missed) result
+        (E.taken report.old) (E.taken report.new) (E.faults report.old) (E.faults report.new) }
 {
     let status = if missed == 0 {
         Status::Done
@@ -206,7 +218,8 @@ fn tell_damaged<F: Send, X: Drop, Z: Sealed<F>, E: Sink<X>>(
     report: &mut E,
 ) -> Status
 where
-    ensures told { ToldOrNoMemory Status.Damaged (damaged_line dataset.now.name (BadFile damage)) result (E.taken report.old) (E.taken report.new) (E.faults report.old) (E.faults report.new) }
+    ensures told { ToldOrNoMemory Status.Damaged (damaged_line dataset.now.name (BadFile damage)) result
+        (E.taken report.old) (E.taken report.new) (E.faults report.old) (E.faults report.new) }
 {
     tell_broken(alloc, report, dataset.name(), Broken::File(damage))
 }

@@ -4,6 +4,7 @@ ghost use Rattle.fd_bytes.specs.Causes.{Rose};
 ghost use Rattle.fd_request.specs.Expansion.{expand};
 ghost use Rattle.fd_outcome.specs.Asking.{Answer};
 ghost use Rattle.fd_outcome.specs.Objects.{object};
+ghost use Rattle.fd_objects.specs.Given.{sink_of};
 ghost use Rattle.fd_ahead.specs.Places.{AreIn, Open};
 ghost use Rattle.fd_ahead.specs.Reading.{IsJob, IsStock};
 ghost use Rattle.fd_retrieve.specs.Open.{IsDamagedAt};
@@ -43,12 +44,17 @@ where
     ensures long { length jobs.new ≡ length jobs.old }
     ensures jobs { All (IsJob opened.now) jobs.new }
     ensures stock { IsStock opened.now stock.new }
-    ensures round { IsRound opened.now (expand request.now) located.now from to found (object (K.taken output.old) (K.taken output.new) (K.faults output.old) (K.faults output.new)) (object (E.taken report.old) (E.taken report.new) (E.faults report.old) (E.faults report.new)) result }
+    ensures round { IsRound opened.now (expand request.now) located.now from to found
+        (sink_of K.Sink output) (sink_of E.Sink report) result }
 {
     let other = alloc;
     let mut write = || -> Result<u32, Halt<F, X>>
-        requires { IsStock opened.now stock.now × AreIn opened.now located.now × (length located.now ≡ length (expand request.now)) × ((from ≤ to) × (to ≤ length located.now) × (found ≤ from)) }
-        ensures { IsStock opened.entry.now stock.exit.now × IsRound opened.entry.now (expand request.entry.now) located.entry.now from to found (object (K.taken output.entry.now) (K.taken output.exit.now) (K.faults output.entry.now) (K.faults output.exit.now)) (object (E.taken report.entry.now) (E.taken report.exit.now) (E.faults report.entry.now) (E.faults report.exit.now)) result }
+        requires { IsStock opened.now stock.now × AreIn opened.now located.now × (length located.now ≡ length (expand request.now))
+            × ((from ≤ to) × (to ≤ length located.now) × (found ≤ from)) }
+        ensures { IsStock opened.entry.now stock.exit.now
+            × IsRound opened.entry.now (expand request.entry.now) located.entry.now from to found
+            (object (K.taken output.entry.now) (K.taken output.exit.now) (K.faults output.entry.now) (K.faults output.exit.now))
+            (object (E.taken report.entry.now) (E.taken report.exit.now) (E.faults report.entry.now) (E.faults report.exit.now)) result }
     {
         answer_some(
             other, request, opened, located, from, to, found, stock, output, report,
@@ -101,7 +107,8 @@ where
     ensures output { K.faults output.old ≤ K.faults output.new }
     ensures calm { OnOk result (K.faults output.new ≡ K.faults output.old) }
     ensures report { E.faults report.old ≤ E.faults report.new }
-    ensures cause { IfErr result (λ e. OnUnwritten e (Rose (K.faults output.old) (K.faults output.new)) (Rose (E.faults report.old) (E.faults report.new))) }
+    ensures cause { IfErr result (λ e. OnUnwritten e (Rose (K.faults output.old) (K.faults output.new))
+        (Rose (E.faults report.old) (E.faults report.new))) }
     ensures damaged { IfErr result (λ e. OnDamaged e (IsDamagedAt opened.now)) }
     ensures grew { TookSome (E.taken report.old) (E.taken report.new) }
 {
@@ -153,7 +160,8 @@ where
     ensures output { K.faults output.old ≤ K.faults output.new }
     ensures calm { OnOk result (K.faults output.new ≡ K.faults output.old) }
     ensures report { E.faults report.old ≤ E.faults report.new }
-    ensures cause { IfErr result (λ e. OnUnwritten e (Rose (K.faults output.old) (K.faults output.new)) (Rose (E.faults report.old) (E.faults report.new))) }
+    ensures cause { IfErr result (λ e. OnUnwritten e (Rose (K.faults output.old) (K.faults output.new))
+        (Rose (E.faults report.old) (E.faults report.new))) }
     ensures damaged { IfErr result (λ e. OnDamaged e (IsDamagedAt opened.now)) }
     ensures grew { TookSome (E.taken report.old) (E.taken report.new) }
 {

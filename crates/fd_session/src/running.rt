@@ -6,7 +6,8 @@ ghost use Rattle.fd_schema.specs.Grammar.{IsSchema};
 ghost use Rattle.fd_words.specs.declared.command.Command.TheVariants as commands;
 ghost use Rattle.fd_outcome.specs.Asking.{rules_of};
 ghost use Rattle.fd_outcome.specs.Noticing.{ReadsFitly};
-ghost use Rattle.fd_outcome.specs.Objects.{Object, object};
+ghost use Rattle.fd_outcome.specs.Objects.{Object};
+ghost use Rattle.fd_objects.specs.Given.{Over, sink_of, source_of, store_of, store_since};
 ghost use Rattle.fd_casting.specs.Miscasts.{NoneFails};
 ghost use Rattle.fd_casting.specs.Steps.{AreMessages, all_posed};
 ghost use Rattle.fd_schema.specs.Reading.{seen_place};
@@ -60,8 +61,8 @@ pub fn session<
 ) -> Status
 where
     requires home { (name : List ℕ) → S.out store.old name ≡ false }
-    ensures ran { SessionRan F result (object (S.has store.old) (S.has store.new) (S.faults store.old) (S.faults store.new)) (object (I.left input.old) (I.left input.new) (I.faults input.old) (I.faults input.new)) (object (K.taken output.old) (K.taken output.new) (K.faults output.old) (K.faults output.new)) (object (E.taken report.old) (E.taken report.new) (E.faults report.old) (E.faults report.new)) }
-    ensures unread { ReadsFitly (commands.Session root.now) (object (S.has store.old) (S.has store.new) (S.faults store.old) (S.faults store.new)) (object (I.left input.old) (I.left input.new) (I.faults input.old) (I.faults input.new)) }
+    ensures ran { Over S.Store store I.Source input K.Sink output E.Sink report (SessionRan F result) }
+    ensures unread { ReadsFitly (commands.Session root.now) (store_of S.Store store) (source_of I.Source input) }
     ensures home { (name : List ℕ) → S.out store.new name ≡ false }
 {
     match stored_schema(alloc, store, root.as_str()) {
@@ -100,7 +101,9 @@ where
     requires home { (name : List ℕ) → S.out store.old name ≡ false }
     requires schema { IsSchema schema.now }
     requires rules { IfSome (S.has store.old) (λ h. rules_of h.schema ≡ Ok schema.now) }
-    ensures ran { (before : Option Holdings) (faults : ℕ) → S.has store.old ≡ before → faults ≤ S.faults store.old → SessionRan F result (object before (S.has store.new) faults (S.faults store.new)) (object (I.left input.old) (I.left input.new) (I.faults input.old) (I.faults input.new)) (object (K.taken output.old) (K.taken output.new) (K.faults output.old) (K.faults output.new)) (object (E.taken report.old) (E.taken report.new) (E.faults report.old) (E.faults report.new)) }
+    ensures ran { (before : Option Holdings) (faults : ℕ) → S.has store.old ≡ before → faults ≤ S.faults store.old
+        → SessionRan F result (store_since before faults S.Store store) (source_of I.Source input)
+        (sink_of K.Sink output) (sink_of E.Sink report) }
     ensures home { (name : List ℕ) → S.out store.new name ≡ false }
 {
     match read_input(alloc, input) {
@@ -139,8 +142,9 @@ where
     requires schema { IsSchema schema.now }
     requires short { length read.now.script.dataset ≤ 255 }
     requires each { AreMessages read.now.messages }
-    ensures ran { (before : Option Holdings) (faults : ℕ) (input : Object (List ℕ)) → Begun schema.now read.now.script read.now.messages before (S.has store.old) faults (S.faults store.old) input
-        → SessionRan F result (object before (S.has store.new) faults (S.faults store.new)) input (object (K.taken output.old) (K.taken output.new) (K.faults output.old) (K.faults output.new)) (object (E.taken report.old) (E.taken report.new) (E.faults report.old) (E.faults report.new)) }
+    ensures ran { (before : Option Holdings) (faults : ℕ) (input : Object (List ℕ))
+        → Begun schema.now read.now.script read.now.messages before (S.has store.old) faults (S.faults store.old) input
+        → SessionRan F result (store_since before faults S.Store store) input (sink_of K.Sink output) (sink_of E.Sink report) }
     ensures home { (name : List ℕ) → S.out store.new name ≡ false }
 {
     let Input { script, messages } = read;
@@ -180,8 +184,9 @@ where
     requires steps { LanesFit schema.now read.now.messages read.now.script.dataset (map seen_place places.now) read.now.script.lanes }
     requires places { ArePlaces schema.now read.now.messages read.now.script.lanes (map seen_place places.now) }
     requires done { NoneFails schema.now read.now.script.dataset read.now.messages (all_posed read.now.script.lanes) }
-    ensures ran { (before : Option Holdings) (faults : ℕ) (input : Object (List ℕ)) → Begun schema.now read.now.script read.now.messages before (S.has store.old) faults (S.faults store.old) input
-        → SessionRan F result (object before (S.has store.new) faults (S.faults store.new)) input (object (K.taken output.old) (K.taken output.new) (K.faults output.old) (K.faults output.new)) (object (E.taken report.old) (E.taken report.new) (E.faults report.old) (E.faults report.new)) }
+    ensures ran { (before : Option Holdings) (faults : ℕ) (input : Object (List ℕ))
+        → Begun schema.now read.now.script read.now.messages before (S.has store.old) faults (S.faults store.old) input
+        → SessionRan F result (store_since before faults S.Store store) input (sink_of K.Sink output) (sink_of E.Sink report) }
     ensures home { (name : List ℕ) → S.out store.new name ≡ false }
 {
     let Input { script, messages } = read;
@@ -206,7 +211,8 @@ fn tell_unopened<F: Send, X: Drop, S: Store<F>, E: Sink<X>>(
     fault: OpenFault<F>,
 ) -> Status
 where
-    ensures told { ToldUnopened dataset.now fault result (E.taken report.old) (E.taken report.new) (E.faults report.old) (E.faults report.new) }
+    ensures told { ToldUnopened dataset.now fault result
+        (E.taken report.old) (E.taken report.new) (E.faults report.old) (E.faults report.new) }
     ensures noted { OnDisk fault (Rose (S.faults store.old) (S.faults store.new)) }
     ensures has { S.has store.new ≡ S.has store.old }
     ensures out { S.out store.new ≡ S.out store.old }

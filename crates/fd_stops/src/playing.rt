@@ -1,7 +1,7 @@
 // `session`, until the store stops.
 ghost use Rattle.std.specs.Prelude.{◌≡◌, false, List, ℕ, IfSome};
 ghost use Rattle.fd_disk.specs.Folders.{WhereTold};
-ghost use Rattle.fd_outcome.specs.Objects.{object};
+ghost use Rattle.fd_objects.specs.Given.{sink_of};
 ghost use Rattle.fd_stopped.specs.declared.fault.StopFault.{StopFault};
 ghost use Rattle.fd_stops.specs.Found.{EachLeft};
 ghost use Rattle.fd_stops.specs.Playing.{FoundOfSession};
@@ -41,7 +41,8 @@ pub fn session_until<
 ) -> Status
 where
     requires home { (name : List ℕ) → S.out store.old.inner name ≡ false }
-    ensures left { IfSome (I.left input.old) (λ octets. WhereTold (S.has store.old.inner) (S.has store.new.inner) (EachLeft (FoundOfSession (StopFault F) result (object (K.taken output.old) (K.taken output.new) (K.faults output.old) (K.faults output.new)) (object (E.taken report.old) (E.taken report.new) (E.faults report.old) (E.faults report.new)) octets))) }
+    ensures left { IfSome (I.left input.old) (λ octets. WhereTold (S.has store.old.inner) (S.has store.new.inner)
+        (EachLeft (FoundOfSession (StopFault F) result (sink_of K.Sink output) (sink_of E.Sink report) octets))) }
     ensures home { (name : List ℕ) → S.out store.new.inner name ≡ false }
 {
     session::<StopFault<F>, X, Stopped<S>, I, K, E, G, R>(

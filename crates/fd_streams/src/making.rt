@@ -1,12 +1,11 @@
 // `generate`.
-ghost use Rattle.std.specs.Prelude.{◌≡◌, ◌≤◌, ℕ, List, Option, IfErr, OnErr, OnOk};
+ghost use Rattle.std.specs.Prelude.{◌≡◌, ◌≤◌, IfErr, OnErr, OnOk};
 ghost use Rattle.fd_bytes.specs.Causes.{Rose};
-ghost use Rattle.fd_disk.specs.Folders.{Holdings};
 ghost use Rattle.fd_io.specs.Streams.{Takes, TakesFront};
 ghost use Rattle.fd_words.specs.declared.command.Command.TheVariants.{Generate};
-ghost use Rattle.fd_outcome.specs.Objects.{object};
 ghost use Rattle.fd_outcome.specs.Outcome.{generated_messages};
 ghost use Rattle.fd_outcome.specs.Ran.{Ran};
+ghost use Rattle.fd_objects.specs.Given.{OverSinks};
 ghost use Rattle.fd_streams.specs.Generating.{OnUnwritten};
 
 use fd_gen::generated;
@@ -54,8 +53,7 @@ pub fn generate<X: Drop, K: Sink<X>, E: Sink<X>>(
     report: &mut E,
 ) -> Status
     requires few { count ≤ 100000 }
-    ensures { (has : Option Holdings) (m : ℕ) (left : Option (List ℕ)) (k : ℕ) → Ran (Generate count) result (object has has m m) (object left left k k)
-        (object (K.taken output.old) (K.taken output.new) (K.faults output.old) (K.faults output.new)) (object (E.taken report.old) (E.taken report.new) (E.faults report.old) (E.faults report.new)) }
+    ensures { OverSinks K.Sink output E.Sink report (Ran (Generate count) result) }
 {
     match write_generated(alloc, count, output) {
         Ok(()) => Status::Done,

@@ -1,14 +1,14 @@
 // `create`.
-ghost use Rattle.std.specs.Prelude.{◌≡◌, false, List, ℕ, Option, None, IfSome};
+ghost use Rattle.std.specs.Prelude.{◌≡◌, false, List, ℕ, None, IfSome};
 ghost use Rattle.fd_disk.specs.Folders.{WhereTold};
 ghost use Rattle.fd_schema.specs.Reading.{IsFirst};
 ghost use Rattle.fd_schema.specs.Grammar.{Fault};
 ghost use Rattle.fd_words.specs.declared.command.Command.TheVariants.{Create};
 ghost use Rattle.fd_outcome.specs.Causes.{InSchema, telling};
 ghost use Rattle.fd_outcome.specs.Noticing.{ReadsFitly};
-ghost use Rattle.fd_outcome.specs.Objects.{object};
 ghost use Rattle.fd_outcome.specs.Ran.{Ran};
 ghost use Rattle.fd_outcome.specs.Told.{ToldOrNoMemory};
+ghost use Rattle.fd_objects.specs.Given.{OverInput, source_of, store_of};
 ghost use Rattle.fd_streams.specs.Creating.{IsCreatedOnly};
 
 use fd_disk::{Down, Store};
@@ -58,9 +58,9 @@ pub fn create<F: Send, X: Drop, S: Store<F>, I: Source<X>, E: Sink<X>>(
     report: &mut E,
 ) -> Status
     requires home { (name : List ℕ) → S.out store.old name ≡ false }
-    ensures ran { (a : Option (List ℕ)) (k : ℕ) → Ran (Create root.now) result (object (S.has store.old) (S.has store.new) (S.faults store.old) (S.faults store.new)) (object (I.left input.old) (I.left input.new) (I.faults input.old) (I.faults input.new)) (object a a k k) (object (E.taken report.old) (E.taken report.new) (E.faults report.old) (E.faults report.new)) }
+    ensures ran { OverInput S.Store store I.Source input E.Sink report (Ran (Create root.now) result) }
     ensures kept { IfSome (I.left input.old) (λ octets. WhereTold (S.has store.old) (S.has store.new) (IsCreatedOnly octets)) }
-    ensures unread { ReadsFitly (Create root.now) (object (S.has store.old) (S.has store.new) (S.faults store.old) (S.faults store.new)) (object (I.left input.old) (I.left input.new) (I.faults input.old) (I.faults input.new)) }
+    ensures unread { ReadsFitly (Create root.now) (store_of S.Store store) (source_of I.Source input) }
     ensures home { (name : List ℕ) → S.out store.new name ≡ false }
 {
     match store.enter(alloc, root.as_str()) {
@@ -92,7 +92,7 @@ fn plant<F: Send, X: Drop, S: Store<F>, I: Source<X>, E: Sink<X>>(
 ) -> Status
     requires home { (name : List ℕ) → S.out store.old name ≡ false }
     requires none { IfSome (S.has store.old) (λ h. h.schema ≡ None) }
-    ensures ran { (a : Option (List ℕ)) (k : ℕ) → Ran (Create root.now) result (object (S.has store.old) (S.has store.new) (S.faults store.old) (S.faults store.new)) (object (I.left input.old) (I.left input.new) (I.faults input.old) (I.faults input.new)) (object a a k k) (object (E.taken report.old) (E.taken report.new) (E.faults report.old) (E.faults report.new)) }
+    ensures ran { OverInput S.Store store I.Source input E.Sink report (Ran (Create root.now) result) }
     ensures kept { IfSome (I.left input.old) (λ octets. WhereTold (S.has store.old) (S.has store.new) (IsCreatedOnly octets)) }
     ensures home { (name : List ℕ) → S.out store.new name ≡ false }
 {

@@ -1,11 +1,9 @@
 // The commands over a stream.
-ghost use Rattle.std.specs.Prelude.{◌≡◌, ℕ, List, Option};
-ghost use Rattle.fd_disk.specs.Folders.{Holdings};
 ghost use Rattle.fd_words.specs.declared.command.Command.TheVariants.{Pick, Split};
-ghost use Rattle.fd_outcome.specs.Objects.{object};
 ghost use Rattle.fd_outcome.specs.Ran.{Ran};
 ghost use Rattle.fd_outcome.specs.Splitting.{split_line};
 ghost use Rattle.fd_outcome.specs.Told.{ToldOrNoMemory};
+ghost use Rattle.fd_objects.specs.Given.{OverStreams};
 ghost use Rattle.fd_streams.specs.Halted.{AreFew};
 ghost use Rattle.fd_streams.specs.Streams.{listing_command};
 
@@ -28,8 +26,7 @@ pub fn pick<X: Drop, I: Source<X>, K: Sink<X>, E: Sink<X>>(
     output: &mut K,
     report: &mut E,
 ) -> Status
-    ensures { (has : Option Holdings) (m : ℕ) → Ran (Pick wanted.now) result (object has has m m) (object (I.left input.old) (I.left input.new) (I.faults input.old) (I.faults input.new))
-        (object (K.taken output.old) (K.taken output.new) (K.faults output.old) (K.faults output.new)) (object (E.taken report.old) (E.taken report.new) (E.faults report.old) (E.faults report.new)) }
+    ensures { OverStreams I.Source input K.Sink output E.Sink report (Ran (Pick wanted.now) result) }
 {
     let Ok(given) = Given::none(alloc) else {
         return tell_no_memory(report);
@@ -59,8 +56,7 @@ pub fn write_list<X: Drop, I: Source<X>, K: Sink<X>, E: Sink<X>>(
     report: &mut E,
 ) -> Status
     requires { AreFew listing }
-    ensures { (has : Option Holdings) (m : ℕ) → Ran (listing_command listing) result (object has has m m) (object (I.left input.old) (I.left input.new) (I.faults input.old) (I.faults input.new))
-        (object (K.taken output.old) (K.taken output.new) (K.faults output.old) (K.faults output.new)) (object (E.taken report.old) (E.taken report.new) (E.faults report.old) (E.faults report.new)) }
+    ensures { OverStreams I.Source input K.Sink output E.Sink report (Ran (listing_command listing) result) }
 {
     match list(alloc, listing, input, output) {
         Ok(()) => Status::Done,
@@ -90,8 +86,7 @@ pub fn split<X: Drop, I: Source<X>, K: Sink<X>, E: Sink<X>>(
     output: &mut K,
     report: &mut E,
 ) -> Status
-    ensures { (has : Option Holdings) (m : ℕ) → Ran Split result (object has has m m) (object (I.left input.old) (I.left input.new) (I.faults input.old) (I.faults input.new))
-        (object (K.taken output.old) (K.taken output.new) (K.faults output.old) (K.faults output.new)) (object (E.taken report.old) (E.taken report.new) (E.faults report.old) (E.faults report.new)) }
+    ensures { OverStreams I.Source input K.Sink output E.Sink report (Ran Split result) }
 {
     match split_input(alloc, input, output) {
         Ok(tally) => tell_split(alloc, report, &tally),

@@ -13,6 +13,7 @@ ghost use Rattle.fd_outcome.specs.Outcome.{generated_messages};
 ghost use Rattle.fd_outcome.specs.Ran.{Ran};
 ghost use Rattle.fd_outcome.specs.Told.{ToldOrNoMemory};
 ghost use Rattle.fd_outcome.specs.Trying.{trial_given, trial_rules};
+ghost use Rattle.fd_objects.specs.Given.{OverStore, sink_of, store_of, store_since};
 ghost use Rattle.fd_archive.specs.Crashing.{OutlastsCrash, OutlastsTrial};
 ghost use Rattle.fd_archive.specs.Kept.{NoneDamaged};
 ghost use Rattle.fd_retrieve.specs.Looking.{IsLookedThrough};
@@ -72,10 +73,11 @@ where
     requires count { count ≤ 100000 }
     requires workers { (1 ≤ workers) × (workers ≤ 8) }
     requires home { (name : List ℕ) → S.out store.old name ≡ false }
-    ensures ran { (left : Option (List ℕ)) (l : ℕ) (a : Option (List ℕ)) (k : ℕ) → Ran (Trial root.now count workers) result (object (S.has store.old) (S.has store.new) (S.faults store.old) (S.faults store.new)) (object left left l l) (object a a k k) (object (E.taken report.old) (E.taken report.new) (E.faults report.old) (E.faults report.new)) }
-    ensures notices { (left : Option (List ℕ)) (l : ℕ) (a : Option (List ℕ)) (k : ℕ) → Notices (Trial root.now count workers) result (object (S.has store.old) (S.has store.new) (S.faults store.old) (S.faults store.new)) (object left left l l) (object a a k k) (object (E.taken report.old) (E.taken report.new) (E.faults report.old) (E.faults report.new)) }
+    ensures ran { OverStore S.Store store E.Sink report (Ran (Trial root.now count workers) result) }
+    ensures notices { OverStore S.Store store E.Sink report (Notices (Trial root.now count workers) result) }
     ensures spares { WhereTold (S.has store.old) (S.has store.new) SparesDamaged }
-    ensures outlasts { (left : Option (List ℕ)) (l : ℕ) → OutlastsCrash (Trial root.now count workers) result (object (S.has store.old) (S.has store.new) (S.faults store.old) (S.faults store.new)) (object left left l l) (object (E.taken report.old) (E.taken report.new) (E.faults report.old) (E.faults report.new)) }
+    ensures outlasts { (left : Option (List ℕ)) (l : ℕ)
+        → OutlastsCrash (Trial root.now count workers) result (store_of S.Store store) (object left left l l) (sink_of E.Sink report) }
     ensures home { (name : List ℕ) → S.out store.new name ≡ false }
 {
     let Ok(given) = given(alloc) else {
@@ -110,10 +112,13 @@ where
     requires home { (name : List ℕ) → S.out store.old name ≡ false }
     requires schema { IsSchema schema.now }
     requires given { given.now ≡ trial_given }
-    ensures ran { (root : List ℕ) (start : Option Holdings) (faults : ℕ) (left : Option (List ℕ)) (l : ℕ) (a : Option (List ℕ)) (k : ℕ) → faults ≤ S.faults store.old
+    ensures ran { (root : List ℕ) (start : Option Holdings) (faults : ℕ) (left : Option (List ℕ)) (l : ℕ) (a : Option (List ℕ)) (k : ℕ)
+        → faults ≤ S.faults store.old
         → WhereTold start (S.has store.old) (λ h m. IsPlanted h m × (trial_rules h.schema ≡ Ok schema.now))
-        → Ran (Trial root count workers) result (object start (S.has store.new) faults (S.faults store.new)) (object left left l l) (object a a k k) (object (E.taken report.old) (E.taken report.new) (E.faults report.old) (E.faults report.new)) }
-    ensures undamaged { (result ≡ Status.Done) ⊎ (result ≡ Status.Missed) → IfSome (S.has store.old) (NoneDamaged (taken schema.now trial_given (generated_messages count)).stored) }
+        → Ran (Trial root count workers) result (store_since start faults S.Store store)
+        (object left left l l) (object a a k k) (sink_of E.Sink report) }
+    ensures undamaged { (result ≡ Status.Done) ⊎ (result ≡ Status.Missed)
+        → IfSome (S.has store.old) (NoneDamaged (taken schema.now trial_given (generated_messages count)).stored) }
     ensures spares { WhereTold (S.has store.old) (S.has store.new) SparesDamaged }
     ensures outlasts { WhereTold (S.has store.old) (S.has store.new) (OutlastsTrial result workers count (Ok schema.now)) }
     ensures home { (name : List ℕ) → S.out store.new name ≡ false }
@@ -168,9 +173,11 @@ where
     requires home { (name : List ℕ) → S.out store.old name ≡ false }
     requires given { given.now ≡ trial_given }
     requires stored { (taken schema.now given.now (generated_messages count)).refusal ≡ None }
-    ensures ran { (root : List ℕ) (start : Option Holdings) (faults : ℕ) (left : Option (List ℕ)) (l : ℕ) (a : Option (List ℕ)) (k : ℕ) → faults ≤ S.faults store.old
+    ensures ran { (root : List ℕ) (start : Option Holdings) (faults : ℕ) (left : Option (List ℕ)) (l : ℕ) (a : Option (List ℕ)) (k : ℕ)
+        → faults ≤ S.faults store.old
         → Begins workers schema.now count start (S.has store.old)
-        → Ran (Trial root count workers) result (object start (S.has store.new) faults (S.faults store.new)) (object left left l l) (object a a k k) (object (E.taken report.old) (E.taken report.new) (E.faults report.old) (E.faults report.new)) }
+        → Ran (Trial root count workers) result (store_since start faults S.Store store)
+        (object left left l l) (object a a k k) (sink_of E.Sink report) }
     ensures looks { WhereTold (S.has store.old) (S.has store.new) IsLookedThrough }
     ensures home { (name : List ℕ) → S.out store.new name ≡ false }
 {
@@ -192,7 +199,8 @@ fn found_text(alloc: Global, found: u64, bytes: u64) -> Result<String, AllocErro
 
 /// The same, and how many keys were missed.
 fn counts_text(alloc: Global, counted: Counted) -> Result<String, AllocError>
-    ensures { IfOk result (λ t. string_bytes t ≡ codes "found " ++ decimal counted.found ++ codes " bytes " ++ decimal counted.bytes ++ codes " missed " ++ decimal counted.missed) }
+    ensures { IfOk result (λ t. string_bytes t ≡ codes "found " ++ decimal counted.found
+        ++ codes " bytes " ++ decimal counted.bytes ++ codes " missed " ++ decimal counted.missed) }
 {
     let Counted {
         found,
@@ -210,7 +218,10 @@ fn tell_counted<X: Drop, E: Sink<X>>(
     count: u32,
     counted: Counted,
 ) -> Status
-    ensures { ToldOrNoMemory Status.Done (line (codes "trial " ++ decimal count ++ codes " found " ++ decimal counted.found ++ codes " bytes " ++ decimal counted.bytes ++ codes " missed " ++ decimal counted.missed)) result (E.taken report.old) (E.taken report.new) (E.faults report.old) (E.faults report.new) }
+    ensures { ToldOrNoMemory Status.Done
+        (line (codes "trial " ++ decimal count ++ codes " found " ++ decimal counted.found
+        ++ codes " bytes " ++ decimal counted.bytes ++ codes " missed " ++ decimal counted.missed))
+        result (E.taken report.old) (E.taken report.new) (E.faults report.old) (E.faults report.new) }
 {
     let Ok(text) = counts_text(alloc, counted) else {
         return tell_no_memory(report);

@@ -1,5 +1,5 @@
 use Rattle.fd_program.proofs.Ran.{counted, created, cubed, did_by, plain, played, tried}
-use Rattle.fd_program.proofs.top.run.Goals as goal
+use Rattle.fd_program.proofs.running.run.Goals as goal
 
 pub returns-in-Pick-clause-did : goal.returns-in-Pick-clause-did
 returns-in-Pick-clause-did g c = did_by _ _ _ _ _ _ _ _ c.in-Pick.is (plain _ _ _ _ _ _ _ tt (c.pick.ensures _ _))
