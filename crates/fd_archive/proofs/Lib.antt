@@ -1,7 +1,6 @@
 pub mod Told
 pub mod Growing
 pub mod Tables
-pub mod Adding
 pub mod Doubting
 pub mod Untouched
 pub mod Firm
