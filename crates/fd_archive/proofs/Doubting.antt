@@ -18,9 +18,8 @@ use Rattle.fd_recovery.specs.Recovered.{all_of, batches_listed, files_of, held, 
 use Rattle.fd_library.specs.Open.{Seated}
 use Rattle.fd_library.specs.Stores.{GivenBack, held_by_pass}
 use Rattle.fd_outcome.specs.Store.{Adds, HasOnly}
-use Rattle.fd_bulk.specs.Adding.{AddsBy, IsHeldBy, IsOnlyOf}
+use Rattle.fd_bulk.specs.Adding.{IsHeldBy, IsOnlyOf}
 use Rattle.fd_archive.proofs.Crashed.{IsTableAfter}
-use Rattle.fd_archive.proofs.Adding.{adds_of}
 use Rattle.fd_archive.proofs.Tables.{all_both, all_long, whole_prefix}
 
 -- What an open dataset may have in doubt: each listing is of these pairs, and the files give its batch; one more is few.
@@ -32,7 +31,7 @@ pub record CanDoubt (workers : ℕ) (pairs : List Pair) (b : List (List Pair)) (
   pub few : p.view.doubts ≢ [] → p.view.amount + 1 ≤ workers + length pairs / 512
 
 module _ (workers : ℕ) (name : List ℕ) (pairs : List Pair) (b : List (List Pair)) (files : Contents) (p : Seated) (v : Contents) (back : GivenBack name (Some files) (Some p) v) (can : CanDoubt workers pairs b files.files p)
-    (adds : AddsBy workers pairs b (held_by_pass (Some files) (Some p))) where
+    (adds : Adds workers pairs b (held_by_pass (Some files) (Some p))) where
   abbrev batch_at : Entry → Option (List Pair)
   batch_at e = batch_of (files_of files.files e)
 
@@ -75,18 +74,18 @@ module _ (workers : ℕ) (name : List ℕ) (pairs : List Pair) (b : List (List P
 
     known_grown : Adds workers pairs b (held name w)
     known_grown = elim (back.images f.reads image) as (λ _. Adds workers pairs b (held name w)) [
-      | inl lists ↦ subst (Adds workers pairs b) (sym (held_as back.entries lists ∙ ap (λ (es : List Entry). all_of (map batch_at es)) entries_are)) (adds_of workers pairs b (held_by_pass (Some files) (Some p)) adds)
+      | inl lists ↦ subst (Adds workers pairs b) (sym (held_as back.entries lists ∙ ap (λ (es : List Entry). all_of (map batch_at es)) entries_are)) adds
       | inr d ↦ doubted d.0 d.1 d.2
     ]
 
 module _ (workers : ℕ) (name : List ℕ) (pairs : List Pair) (b : List (List Pair)) where
-  pub back_grown : (o : Option Contents) (p : Option Seated) (v : Contents) → GivenBack name o p v → IfSome o (λ files. IfSome p (CanDoubt workers pairs b files.files)) → AddsBy workers pairs b (held_by_pass o p) → Adds workers pairs b (held name v)
+  pub back_grown : (o : Option Contents) (p : Option Seated) (v : Contents) → GivenBack name o p v → IfSome o (λ files. IfSome p (CanDoubt workers pairs b files.files)) → Adds workers pairs b (held_by_pass o p) → Adds workers pairs b (held name v)
   back_grown None p v back can adds = absurd back
   back_grown (Some files) None v back can adds = absurd back
   back_grown (Some files) (Some p) v back can adds = known_grown workers name pairs b files p v back can adds v back.table back.table_is refl back.reads
 
   -- whatever a crash leaves of its table
-  pub crash_grown : (o : Option Contents) (p : Option Seated) (v w : Contents) → GivenBack name o p v → IfSome o (λ files. IfSome p (CanDoubt workers pairs b files.files)) → AddsBy workers pairs b (held_by_pass o p)
+  pub crash_grown : (o : Option Contents) (p : Option Seated) (v w : Contents) → GivenBack name o p v → IfSome o (λ files. IfSome p (CanDoubt workers pairs b files.files)) → Adds workers pairs b (held_by_pass o p)
       → ((n : FileName) → w.files n ≡ v.files n) → IsTableAfter v.table w.table → Adds workers pairs b (held name w)
   crash_grown None p v w back can adds files_same left = absurd back
   crash_grown (Some files) None v w back can adds files_same left = absurd back

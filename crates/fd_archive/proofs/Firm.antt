@@ -20,7 +20,6 @@ use Rattle.fd_outcome.specs.Archiving.{Stored, datasets_in, pairs_for}
 use Rattle.fd_outcome.specs.Store.{AddsAll}
 use Rattle.fd_bulk.specs.Archived.{GrowsAll}
 use Rattle.fd_archive.specs.Crashing.{IsAfterCrash, IsFirm}
-use Rattle.fd_archive.proofs.Adding.{adds_all_of}
 use Rattle.fd_archive.proofs.Crashed.{IsTableAfter, files_after, tables_after}
 use Rattle.fd_archive.proofs.Tables.{whole_prefix}
 use Rattle.fd_archive.proofs.Told.{through}
@@ -72,5 +71,5 @@ module _ {D : Type 0} (has : D → Option Contents) where
       (λ s t u g r. record {
         each = λ j left name there b is.
             let open_now : among name (names_of each) ≡ true = elim (is_or_not (among name (names_of each))) as (λ _. among name (names_of each) ≡ true) [ inl e ↦ e | inr e ↦ absurd (some_pair all name there (g.only name e)) ] in
-            subst (AddsAll workers (pairs_for all name) b) (sym (firm_among u j t left name each r.given settled open_now)) (adds_all_of workers (pairs_for all name) b (held_with has each t name) (g.each_is name b is));
+            subst (AddsAll workers (pairs_for all name) b) (sym (firm_among u j t left name each r.given settled open_now)) (g.each_is name b is);
       })

@@ -17,7 +17,7 @@ use Rattle.fd_schema.specs.Rules.{Rule}
 use Rattle.fd_outcome.specs.Archiving.{Stored, pairs_for, taken}
 use Rattle.fd_outcome.specs.Store.{Adds, AddsAll, Grows, GrowsBy, IsFull, entries_in, if_listed}
 use Rattle.fd_outcome.proofs.Leaving.{grows_none}
-use Rattle.fd_bulk.specs.Adding.{AddsBy, IsHeldBy}
+use Rattle.fd_bulk.specs.Adding.{IsHeldBy}
 use Rattle.fd_bulk.specs.Archived as bulks
 use Rattle.fd_bulk.specs.Archived.{Archived, GrowsAll, IsBack, IsFront, IsSure, RefusedArchived, StoppedArchived}
 use Rattle.fd_bulk.specs.declared.bulk.Bulk.{Bulk}
@@ -25,7 +25,6 @@ use Rattle.fd_bulk.specs.declared.bulk.BulkFault.{BulkFault}
 use Rattle.fd_bulk.specs.declared.bulk.BulkFault.TheVariants as faults
 use Rattle.fd_archive.specs.Crashing.{GrowsFirmly, IsAfterCrash, IsFirm, IsUntouched}
 use Rattle.fd_archive.specs.Kept.{InputKept, IsStop, NoneDamaged, RefusedKept, StoppedKept}
-use Rattle.fd_archive.proofs.Adding.{adds_all_of, adds_of}
 use Rattle.fd_archive.proofs.Crashed.{files_after, tables_after}
 use Rattle.fd_archive.proofs.Doubting.{CanDoubt, back_grown, crash_grown}
 use Rattle.fd_archive.proofs.Firm.{firm, firm_among, some_pair}
@@ -93,36 +92,36 @@ module _ {D : Type 0} (has : D → Option Contents) where
         })
 
     among_grown : (name : List ℕ) → held_of s name ≡ Some b → (hs : List (OpenDataset D)) → All (IsBack has workers all) hs → All (OpensAs s) hs → All (λ (h : OpenDataset D). IsGivenBack has h (folder_at u h.name)) hs → (among name (names_of hs) ≡ false → u.folders name ≡ t.folders name)
-        → AddsBy workers (pairs_for all name) b (held_with has hs t name) → Adds workers (pairs_for all name) b (held_of u name)
-    among_grown name is [] back openings given others adds = subst (Adds workers (pairs_for all name) b) (sym (ap (λ (o : Option Contents). held name (unwrap_or o no_contents)) (others refl))) (adds_of workers (pairs_for all name) b (held_of t name) adds)
+        → Adds workers (pairs_for all name) b (held_with has hs t name) → Adds workers (pairs_for all name) b (held_of u name)
+    among_grown name is [] back openings given others adds = subst (Adds workers (pairs_for all name) b) (sym (ap (λ (o : Option Contents). held name (unwrap_or o no_contents)) (others refl))) adds
     among_grown name is (h ∷ hs) back openings given others adds = elim (is_or_not (bytes_eq name h.name)) as (λ _. Adds workers (pairs_for all name) b (held_of u name)) [
       | inl same ↦
           let one : name ≡ h.name = (bytes_eq-Decides name h.name).0 same in
-          let here : AddsBy workers (pairs_for all name) b (held_in has h) = subst (AddsBy workers (pairs_for all name) b) (held_inside has h hs t name same) adds in
+          let here : Adds workers (pairs_for all name) b (held_in has h) = subst (Adds workers (pairs_for all name) b) (held_inside has h hs t name same) adds in
           let opening = All-head (OpensAs s) h hs openings b (ap (held_of s) (sym one) ∙ is) in
           subst (λ (m : List ℕ). Adds workers (pairs_for all m) b (held_of u m)) (sym one)
           (back_grown workers h.name (pairs_for all h.name) b (has h.folder) h.pass (folder_at u h.name) (All-head (λ (g : OpenDataset D). IsGivenBack has g (folder_at u g.name)) h hs given)
-          (can_doubt h (All-head (IsBack has workers all) h hs back) opening) (subst (λ (m : List ℕ). AddsBy workers (pairs_for all m) b (held_in has h)) one here))
+          (can_doubt h (All-head (IsBack has workers all) h hs back) opening) (subst (λ (m : List ℕ). Adds workers (pairs_for all m) b (held_in has h)) one here))
       | inr differs ↦
           among_grown name is hs (All-tail (IsBack has workers all) h hs back) (All-tail (OpensAs s) h hs openings) (All-tail (λ (g : OpenDataset D). IsGivenBack has g (folder_at u g.name)) h hs given)
-          (λ out. others (ap (λ (x : Bool). x || among name (names_of hs)) differs ∙ out)) (subst (AddsBy workers (pairs_for all name) b) (ap (λ (x : Bool). if x then held_in has h else held_with has hs t name) differs) adds)
+          (λ out. others (ap (λ (x : Bool). x || among name (names_of hs)) differs ∙ out)) (subst (Adds workers (pairs_for all name) b) (ap (λ (x : Bool). if x then held_in has h else held_with has hs t name) differs) adds)
     ]
 
     -- the same, whatever a crash leaves
     among_firm : (j : Holdings) → IsAfterCrash u j → (name : List ℕ) → held_of s name ≡ Some b → (hs : List (OpenDataset D)) → All (IsBack has workers all) hs → All (OpensAs s) hs → All (λ (h : OpenDataset D). IsGivenBack has h (folder_at u h.name)) hs → among name (names_of hs) ≡ true
-        → AddsBy workers (pairs_for all name) b (held_with has hs t name) → Adds workers (pairs_for all name) b (held_of j name)
+        → Adds workers (pairs_for all name) b (held_with has hs t name) → Adds workers (pairs_for all name) b (held_of j name)
     among_firm j left name is [] back openings given there adds = absurd (cc there)
     among_firm j left name is (h ∷ hs) back openings given there adds = elim (is_or_not (bytes_eq name h.name)) as (λ _. Adds workers (pairs_for all name) b (held_of j name)) [
       | inl same ↦
           let one : name ≡ h.name = (bytes_eq-Decides name h.name).0 same in
-          let here : AddsBy workers (pairs_for all name) b (held_in has h) = subst (AddsBy workers (pairs_for all name) b) (held_inside has h hs t name same) adds in
+          let here : Adds workers (pairs_for all name) b (held_in has h) = subst (Adds workers (pairs_for all name) b) (held_inside has h hs t name same) adds in
           let opening = All-head (OpensAs s) h hs openings b (ap (held_of s) (sym one) ∙ is) in
           subst (λ (m : List ℕ). Adds workers (pairs_for all m) b (held_of j m)) (sym one)
           (crash_grown workers h.name (pairs_for all h.name) b (has h.folder) h.pass (folder_at u h.name) (folder_at j h.name) (All-head (λ (g : OpenDataset D). IsGivenBack has g (folder_at u g.name)) h hs given)
-          (can_doubt h (All-head (IsBack has workers all) h hs back) opening) (subst (λ (m : List ℕ). AddsBy workers (pairs_for all m) b (held_in has h)) one here) (files_after u j left h.name) (tables_after u j left h.name))
+          (can_doubt h (All-head (IsBack has workers all) h hs back) opening) (subst (λ (m : List ℕ). Adds workers (pairs_for all m) b (held_in has h)) one here) (files_after u j left h.name) (tables_after u j left h.name))
       | inr differs ↦
           among_firm j left name is hs (All-tail (IsBack has workers all) h hs back) (All-tail (OpensAs s) h hs openings) (All-tail (λ (g : OpenDataset D). IsGivenBack has g (folder_at u g.name)) h hs given)
-          (sym (ap (λ (x : Bool). x || among name (names_of hs)) differs) ∙ there) (subst (AddsBy workers (pairs_for all name) b) (ap (λ (x : Bool). if x then held_in has h else held_with has hs t name) differs) adds)
+          (sym (ap (λ (x : Bool). x || among name (names_of hs)) differs) ∙ there) (subst (Adds workers (pairs_for all name) b) (ap (λ (x : Bool). if x then held_in has h else held_with has hs t name) differs) adds)
     ]
 
     abbrev IsFirmAt : List ℕ → Type 0
@@ -146,7 +145,7 @@ module _ {D : Type 0} (has : D → Option Contents) where
         (both_told now later (GivesBack has each) HoldsWith (λ s t. GivesBack has each s t × HoldsWith s t) (λ s t p q. (p, q)) given (kept (settled workers all each back)))
         (λ s t u g r. record {
           schema = r.0.schema ∙ g.schema;
-          each = λ name b is. subst (AddsAll workers (pairs_for all name) b) (sym (r.1 name)) (adds_all_of workers (pairs_for all name) b (held_with has each t name) (g.each_is name b is));
+          each = λ name b is. subst (AddsAll workers (pairs_for all name) b) (sym (r.1 name)) (g.each_is name b is);
         })
 
     some_grow : WhereTold start now (bulks.Grows has workers all each) → All (IsBack has workers all) each → WhereTold start later (Grows workers (pairs_for all))
@@ -163,7 +162,7 @@ module _ {D : Type 0} (has : D → Option Contents) where
         through start now later (GrowsAll has workers all each) (GivesBack has each) (GrowsFirmly workers (pairs_for all)) grows given
         (λ s t u g r. record {
           each = λ name b is. elim (is_or_not (among name (names_of each))) as (λ _. IsFirmAt workers all s t u b name) [
-            | inl there ↦ inr (λ j left. subst (Adds workers (pairs_for all name) b) (sym (firm_among has u j t left name each r.given (settled workers all each back) there)) (adds_of workers (pairs_for all name) b (held_with has each t name) (g.each_is name b is).adds))
+            | inl there ↦ inr (λ j left. subst (Adds workers (pairs_for all name) b) (sym (firm_among has u j t left name each r.given (settled workers all each back) there)) (g.each_is name b is).adds)
             | inr out ↦ closed_firm workers all s t u b name is (g.keeps name out) (r.others name out)
           ];
         })

@@ -2,7 +2,6 @@ pub mod Told
 pub mod Crashed
 pub mod Growing
 pub mod Tables
-pub mod Adding
 pub mod Doubting
 pub mod Untouched
 pub mod Firm

@@ -12,7 +12,6 @@ use Rattle.fd_library.specs.Stores.{KeepsFolder, KeepsTable}
 use Rattle.fd_outcome.specs.Store.{Adds}
 use Rattle.fd_bulk.proofs.Ended.{none_added}
 use Rattle.fd_archive.specs.Crashing.{IsUntouched}
-use Rattle.fd_archive.proofs.Adding.{adds_of}
 use Rattle.fd_archive.proofs.Crashed.{IsTableAfter}
 
 module _ (workers : ℕ) (pairs : List Pair) (name : List ℕ) (t : List (List Pair)) where
@@ -21,7 +20,7 @@ module _ (workers : ℕ) (pairs : List Pair) (name : List ℕ) (t : List (List P
   FirmAfter w = (x : Contents) → ((n : FileName) → x.files n ≡ w.files n) → IsTableAfter w.table x.table → Adds workers pairs t (held name x)
 
   same_adds : (x : Contents) → held name x ≡ Some t → Adds workers pairs t (held name x)
-  same_adds x is = adds_of workers pairs t (held name x) (none_added workers pairs t (held name x) is)
+  same_adds x is = none_added workers pairs t (held name x) is
 
   module _ (v w : Contents) (is : held name v ≡ Some t) (files : w.files ≡ v.files) where
     -- a table that was founded lists nothing, whatever a crash leaves of it

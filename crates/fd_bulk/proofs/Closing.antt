@@ -21,7 +21,7 @@ use Rattle.fd_library.specs.Stores.{held_in, held_of, held_with}
 use Rattle.fd_outcome.specs.Archiving.{Stored, pairs_for}
 use Rattle.fd_bulk.specs.declared.round.Desk.{Desk}
 use Rattle.fd_bulk.specs.declared.round.Job.{Job}
-use Rattle.fd_bulk.specs.Adding.{AddsAllBy, AddsBy}
+use Rattle.fd_outcome.specs.Store.{Adds, AddsAll}
 use Rattle.fd_bulk.specs.Archived.{Grows, GrowsAll, IsBack, IsSure}
 use Rattle.fd_bulk.specs.Columns.{ColumnWorks}
 use Rattle.fd_bulk.specs.Crewing.{Crewed, Finished, HasBegun, HasFull, HoldsRest, SeeFull, Stopping, desks_at}
@@ -418,11 +418,11 @@ module _ {D H X Y E : Type 0} (has : D → Option Contents) (faults : D → ℕ)
       one_opening : (s : Holdings) (b : List (List Pair)) → start ≡ Some s → held_of s g.name ≡ Some b → IfSome g.pass (λ p. length b ≡ p.view.opening)
       one_opening s b is base = openings has faults kept start lost k.board k.before g k.pass (column n js) k.begun k.ended b (k.begun.holds s b is (ap (held_of s) (sym k.same_name) ∙ base))
 
-      one_grown : (s : Holdings) (b : List (List Pair)) → start ≡ Some s → held_of s g.name ≡ Some b → AddsBy (length js) (pairs_for all g.name) b (held_in has g)
+      one_grown : (s : Holdings) (b : List (List Pair)) → start ≡ Some s → held_of s g.name ≡ Some b → Adds (length js) (pairs_for all g.name) b (held_in has g)
       one_grown s b is base =
           let name = k.same_name in
-          subst (λ (w : ℕ). AddsBy w (pairs_for all g.name) b (held_in has g)) (column_long n js)
-          (subst (λ (x : List ℕ). AddsBy (length (column n js)) (pairs_for all x) b (held_in has g)) (sym name)
+          subst (λ (w : ℕ). Adds w (pairs_for all g.name) b (held_in has g)) (column_long n js)
+          (subst (λ (x : List ℕ). Adds (length (column n js)) (pairs_for all x) b (held_in has g)) (sym name)
           (grown has faults kept start lost k.board k.before g k.pass (column n js) k.begun k.ended (stage_at kept (length js) n all k.board k.before.name js slots) (its_at kept (length js) n all k.board k.before.name js slots)
           (column_is kept (length js) n all k.board k.before.name js slots) (dealt (length js) k.before.name) (pairs_for all k.before.name) (λ key. below_workers k.before.name key n) (front_at kept (length js) n all k.board k.before.name js slots) b
           (k.begun.holds s b is (ap (held_of s) (sym name) ∙ base))))
@@ -468,11 +468,11 @@ module _ {D H X Y E : Type 0} (has : D → Option Contents) (faults : D → ℕ)
       keeps = λ x out. r.keeps x (sym (names_now x) ∙ out);
     }
       where
-        go : (x : List ℕ) (b : List (List Pair)) → held_of s x ≡ Some b → (among x (names_of l.each) ≡ true) ⊎ (among x (names_of l.each) ≡ false) → AddsBy (length js) (pairs_for all x) b (held_with has m.each t x)
+        go : (x : List ℕ) (b : List (List Pair)) → held_of s x ≡ Some b → (among x (names_of l.each) ≡ true) ⊎ (among x (names_of l.each) ≡ false) → Adds (length js) (pairs_for all x) b (held_with has m.each t x)
         go x b base (inl there) =
             let o = opened_as x there in
-            subst (AddsBy (length js) (pairs_for all x) b) (sym (held_now t x o))
-            (subst (λ (y : List ℕ). AddsBy (length js) (pairs_for all y) b (held_in has o.now_is)) o.named (one_grown o.number o.now_is o.at s b is (ap (held_of s) o.named ∙ base)))
+            subst (Adds (length js) (pairs_for all x) b) (sym (held_now t x o))
+            (subst (λ (y : List ℕ). Adds (length js) (pairs_for all y) b (held_in has o.now_is)) o.named (one_grown o.number o.now_is o.at s b is (ap (held_of s) o.named ∙ base)))
         go x b base (inr out) = none_added (length js) (pairs_for all x) b (held_with has m.each t x) (rest_now s t x r out ∙ base)
 
     pub grows : WhereTold start now (Grows has (length js) all m.each) × All (IsBack has (length js) all) m.each
@@ -534,22 +534,22 @@ module _ {D H X Y E : Type 0} (has : D → Option Contents) (faults : D → ℕ)
         one_sure : IsSure has g
         one_sure = is_sure has faults kept start lost kk.board kk.before g kk.pass (column n js) kk.begun kk.ended (λ w. Flushed) its whole (λ w. refl)
 
-        one_whole : (s : Holdings) (b : List (List Pair)) → start ≡ Some s → held_of s g.name ≡ Some b → AddsAllBy (length js) (pairs_for all g.name) b (held_in has g)
+        one_whole : (s : Holdings) (b : List (List Pair)) → start ≡ Some s → held_of s g.name ≡ Some b → AddsAll (length js) (pairs_for all g.name) b (held_in has g)
         one_whole s b is base =
             let name = kk.same_name in
-            subst (λ (w : ℕ). AddsAllBy w (pairs_for all g.name) b (held_in has g)) (column_long n js)
-            (subst (λ (x : List ℕ). AddsAllBy (length (column n js)) (pairs_for all x) b (held_in has g)) (sym name)
+            subst (λ (w : ℕ). AddsAll w (pairs_for all g.name) b (held_in has g)) (column_long n js)
+            (subst (λ (x : List ℕ). AddsAll (length (column n js)) (pairs_for all x) b (held_in has g)) (sym name)
             (grown_all has faults kept start lost kk.board kk.before g kk.pass (column n js) kk.begun kk.ended (λ w. Flushed) its whole (dealt (length js) kk.before.name) (pairs_for all kk.before.name) (λ key. below_workers kk.before.name key n) fronts b
             (kk.begun.holds s b is (ap (held_of s) (sym name) ∙ base)) (λ w. refl) same_its))
 
       whole_told : (s t : Holdings) → start ≡ Some s → HoldsRest (names_of l.each) s t → GrowsAll has (length js) all m.each s t
       whole_told s t is r = record { schema = r.schema; each_is = λ x b base. go x b base (true_or_false (among x (names_of l.each))); only = λ x out. only x (sym (names_now x) ∙ out); sound = λ x there. sound_first s is x there; keeps = λ x out. r.keeps x (sym (names_now x) ∙ out) }
         where
-          go : (x : List ℕ) (b : List (List Pair)) → held_of s x ≡ Some b → (among x (names_of l.each) ≡ true) ⊎ (among x (names_of l.each) ≡ false) → AddsAllBy (length js) (pairs_for all x) b (held_with has m.each t x)
+          go : (x : List ℕ) (b : List (List Pair)) → held_of s x ≡ Some b → (among x (names_of l.each) ≡ true) ⊎ (among x (names_of l.each) ≡ false) → AddsAll (length js) (pairs_for all x) b (held_with has m.each t x)
           go x b base (inl there) =
               let o = opened_as x there in
-              subst (AddsAllBy (length js) (pairs_for all x) b) (sym (held_now t x o))
-              (subst (λ (y : List ℕ). AddsAllBy (length js) (pairs_for all y) b (held_in has o.now_is)) o.named (one_whole o.number o.now_is o.at s b is (ap (held_of s) o.named ∙ base)))
+              subst (AddsAll (length js) (pairs_for all x) b) (sym (held_now t x o))
+              (subst (λ (y : List ℕ). AddsAll (length js) (pairs_for all y) b (held_in has o.now_is)) o.named (one_whole o.number o.now_is o.at s b is (ap (held_of s) o.named ∙ base)))
           go x b base (inr out) = none_added_all (length js) (pairs_for all x) b (held_with has m.each t x) (rest_now s t x r out ∙ base) (only x out)
 
       pub grows_all : WhereTold start now (GrowsAll has (length js) all m.each) × All (λ g. IsBack has (length js) all g × IsSure has g) m.each

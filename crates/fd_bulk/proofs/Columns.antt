@@ -11,7 +11,7 @@ use Rattle.fd_dataset.specs.Listed.{entries_of}
 use Rattle.fd_recovery.specs.Recovered.{batches_listed}
 use Rattle.fd_archiver.specs.Writing.{Writing}
 use Rattle.fd_bulk.specs.declared.round.Desk.{Desk}
-use Rattle.fd_bulk.specs.Adding.{AddsAllBy, AddsBy}
+use Rattle.fd_outcome.specs.Store.{Adds, AddsAll}
 use Rattle.fd_bulk.specs.Columns.{AreHome, ColumnWorks, amounts, numbers}
 use Rattle.fd_bulk.specs.Dealing.{dealt_to}
 use Rattle.fd_bulk.specs.Gathering.{AreLanes, Lane, receipts_of, writers_in}
@@ -167,12 +167,12 @@ module _ {H X Y : Type 0} (kept : H → Option (FileName → Option (List ℕ)))
   long = lanes_long kept stages mine b name 0 ds all
 
   -- few batches came behind those that were there, of these pairs alone
-  pub column_adds : AddsBy (length ds) pairs before (batches_listed files (Ok (entries_of history)))
-  column_adds = subst (λ (n : ℕ). AddsBy n pairs before (batches_listed files (Ok (entries_of history)))) long (are_tables deal these opening history pairs rest files before are_listed).0
+  pub column_adds : Adds (length ds) pairs before (batches_listed files (Ok (entries_of history)))
+  column_adds = subst (λ (n : ℕ). Adds n pairs before (batches_listed files (Ok (entries_of history)))) long (are_tables deal these opening history pairs rest files before are_listed).0
 
   -- and all of them are listed
-  pub column_adds_all : ((w : ℕ) → stages w ≡ Flushed) → ((w : ℕ) → w < length ds → mine w ≡ dealt_to deal w pairs) → AddsAllBy (length ds) pairs before (batches_listed files (Ok (entries_of history)))
-  column_adds_all flushed whole = subst (λ (n : ℕ). AddsAllBy n pairs before (batches_listed files (Ok (entries_of history)))) long ((are_tables deal these opening history pairs rest files before are_listed).1 (λ w. none_left w (less_or w (length ds))))
+  pub column_adds_all : ((w : ℕ) → stages w ≡ Flushed) → ((w : ℕ) → w < length ds → mine w ≡ dealt_to deal w pairs) → AddsAll (length ds) pairs before (batches_listed files (Ok (entries_of history)))
+  column_adds_all flushed whole = subst (λ (n : ℕ). AddsAll n pairs before (batches_listed files (Ok (entries_of history)))) long ((are_tables deal these opening history pairs rest files before are_listed).1 (λ w. none_left w (less_or w (length ds))))
     where
       none_left : (w : ℕ) → (w < length ds) ⊎ (length ds ≤ w) → rest w ≡ []
       none_left w (inl lt) =

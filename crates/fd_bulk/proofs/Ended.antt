@@ -23,7 +23,8 @@ use Rattle.fd_library.specs.Stores.{held_by_pass, held_in}
 use Rattle.fd_outcome.specs.Archiving.{Stored, pairs_for}
 use Rattle.fd_bulk.specs.declared.round.Desk.{Desk}
 use Rattle.fd_bulk.specs.declared.round.Job.{Job}
-use Rattle.fd_bulk.specs.Adding.{AddsAllBy, AddsBy, IsHeldBy, IsOnlyOf}
+use Rattle.fd_outcome.specs.Store.{Adds, AddsAll}
+use Rattle.fd_bulk.specs.Adding.{IsHeldBy, IsOnlyOf}
 use Rattle.fd_bulk.specs.Archived.{IsBack, IsSure}
 use Rattle.fd_bulk.specs.Columns.{ColumnWorks, amounts, numbers}
 use Rattle.fd_bulk.specs.Crewing.{HasBegun, IsLent, desks_at, with_desk, writers_of}
@@ -248,24 +249,24 @@ module _ {D H X Y : Type 0} (has : D → Option Contents) (faults : D → ℕ) (
             (All-weaker (λ (l : Listing). l.entry.writer + h.given ≤ h.last) (λ (l : Listing). l.entry.writer < h.last + 1 - h.given) (λ l le. omega (arith, le)) (view p).history begun.earlier)
             ∙ was
 
-        adds_by : AddsBy (length ds) pairs before (batches_listed x.files (Ok (entries_of e.seat.view.history)))
+        adds_by : Adds (length ds) pairs before (batches_listed x.files (Ok (entries_of e.seat.view.history)))
         adds_by = column_adds kept stages mine b h.name deal h.opening e.seat.view.history pairs x.files before ds works home differ count below front first
 
-        adds_all_by : ((w : ℕ) → stages w ≡ Flushed) → ((w : ℕ) → w < length ds → mine w ≡ dealt_to deal w pairs) → AddsAllBy (length ds) pairs before (batches_listed x.files (Ok (entries_of e.seat.view.history)))
+        adds_all_by : ((w : ℕ) → stages w ≡ Flushed) → ((w : ℕ) → w < length ds → mine w ≡ dealt_to deal w pairs) → AddsAll (length ds) pairs before (batches_listed x.files (Ok (entries_of e.seat.view.history)))
         adds_all_by flushed whole = column_adds_all kept stages mine b h.name deal h.opening e.seat.view.history pairs x.files before ds works home differ count below front first flushed whole
 
-      pub grown : AddsBy (length ds) pairs before (held_in has g)
-      grown = folders (AddsBy (length ds) pairs before) adds_by
+      pub grown : Adds (length ds) pairs before (held_in has g)
+      grown = folders (Adds (length ds) pairs before) adds_by
 
-      pub grown_all : ((w : ℕ) → stages w ≡ Flushed) → ((w : ℕ) → w < length ds → mine w ≡ dealt_to deal w pairs) → AddsAllBy (length ds) pairs before (held_in has g)
-      grown_all flushed whole = folders (AddsAllBy (length ds) pairs before) (λ u x k was. adds_all_by u x k was flushed whole)
+      pub grown_all : ((w : ℕ) → stages w ≡ Flushed) → ((w : ℕ) → w < length ds → mine w ≡ dealt_to deal w pairs) → AddsAll (length ds) pairs before (held_in has g)
+      grown_all flushed whole = folders (AddsAll (length ds) pairs before) (λ u x k was. adds_all_by u x k was flushed whole)
 
 -- ---- a dataset to which nothing came
 
-pub none_added : (workers : ℕ) (pairs : List Pair) (before : List (List Pair)) (after : Option (List (List Pair))) → after ≡ Some before → AddsBy workers pairs before after
+pub none_added : (workers : ℕ) (pairs : List Pair) (before : List (List Pair)) (after : Option (List (List Pair))) → after ≡ Some before → Adds workers pairs before after
 none_added workers pairs before after is = record { added = []; after_is = is ∙ ap Some (sym (append-nil before)); only = All-nil _; few = omega arith; none = λ e. refl }
 
-pub none_added_all : (workers : ℕ) (pairs : List Pair) (before : List (List Pair)) (after : Option (List (List Pair))) → after ≡ Some before → pairs ≡ [] → AddsAllBy workers pairs before after
+pub none_added_all : (workers : ℕ) (pairs : List Pair) (before : List (List Pair)) (after : Option (List (List Pair))) → after ≡ Some before → pairs ≡ [] → AddsAll workers pairs before after
 none_added_all workers pairs before after is none = record {
   adds = none_added workers pairs before after is;
   newest_is = λ t at key.

@@ -12,8 +12,7 @@ use Rattle.fd_segment.specs.Held.{Alike, batch_of}
 use Rattle.fd_segment.proofs.Keys.{eq_is, same_as_eq}
 use Rattle.fd_dataset.specs.Listed.{entries_of}
 use Rattle.fd_recovery.specs.Recovered.{all_of, batches_listed, files_of}
-use Rattle.fd_outcome.specs.Store.{HasOnly}
-use Rattle.fd_bulk.specs.Adding.{AddsAllBy, AddsBy}
+use Rattle.fd_outcome.specs.Store.{Adds, AddsAll, HasOnly}
 use Rattle.fd_bulk.specs.Dealing.{Marked, batches_by, batches_of, dealt_to, flat}
 use Rattle.fd_bulk.specs.Gathering.{Gathered, Lane, receipts_of}
 use Rattle.fd_bulk.specs.Merging.{lane_at, those}
@@ -205,10 +204,10 @@ module _ (deal : List ℕ → ℕ) (lanes : List (Lane Sealing)) (opening : ℕ)
       let each : g.each ≡ [] = none_listed files g.each (subst (λ (ps : List Pair). EveryMarked (IsAmong ps) g.each) none among_all) all_held in
       no_elements now.batches (alike_length (batches_of (marked_of pairs_of g.each)) now.batches now.alike ∙ ap (λ (ts : List (ℕ × (ℕ × Sealing))). length (batches_of (marked_of pairs_of ts))) each)
 
-  pub adds_now : AddsBy (length lanes) pairs t (batches_listed files (Ok (entries_of history)))
+  pub adds_now : Adds (length lanes) pairs t (batches_listed files (Ok (entries_of history)))
   adds_now = record { added = now.batches; after_is = holds_now; only = only_of pairs g.each now.batches among_all now.alike; few = few_now; none = none_now }
 
-  pub adds_all_now : ((w : ℕ) → rest w ≡ []) → AddsAllBy (length lanes) pairs t (batches_listed files (Ok (entries_of history)))
+  pub adds_all_now : ((w : ℕ) → rest w ≡ []) → AddsAll (length lanes) pairs t (batches_listed files (Ok (entries_of history)))
   adds_all_now none = record {
     adds = adds_now;
     newest_is = λ u is key.

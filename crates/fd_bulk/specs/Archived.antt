@@ -13,9 +13,9 @@ use Rattle.fd_outcome.specs.declared.refusal.Refusal.TheVariants as refusals
 use Rattle.fd_outcome.specs.Asking.{count_distinct}
 use Rattle.fd_outcome.specs.Archiving.{Stored, Taken, datasets_in, pairs_for, taken, taken_of}
 use Rattle.fd_outcome.specs.Causes.{BadFile, BadTable, Cause, InStream, NoRule, TooManyDatasets}
-use Rattle.fd_outcome.specs.Store.{Stands}
+use Rattle.fd_outcome.specs.Store.{Adds, AddsAll, Stands}
 use Rattle.fd_entries.specs.declared.batch.Pair.{Pair}
-use Rattle.fd_bulk.specs.Adding.{AddsAllBy, AddsBy, IsHeldBy, IsOnlyOf}
+use Rattle.fd_bulk.specs.Adding.{IsHeldBy, IsOnlyOf}
 use Rattle.fd_bulk.specs.declared.bulk.Bulk.{Bulk}
 use Rattle.fd_bulk.specs.declared.bulk.BulkFault.{BulkFault}
 use Rattle.fd_bulk.specs.declared.bulk.BulkFault.TheVariants as faults
@@ -26,7 +26,7 @@ module _ {D : Type 0} (has : D → Option Contents) where
   -- each dataset, open or in the store, has batches of its pairs added to what the store held
   pub record Grows (workers : ℕ) (all : List Stored) (each : List (OpenDataset D)) (s t : Holdings) : Type 0 where
     pub schema : t.schema ≡ s.schema
-    pub each_is : (name : List ℕ) (b : List (List Pair)) → held_of s name ≡ Some b → AddsBy workers (pairs_for all name) b (held_with has each t name)
+    pub each_is : (name : List ℕ) (b : List (List Pair)) → held_of s name ≡ Some b → Adds workers (pairs_for all name) b (held_with has each t name)
     -- what a pass counts from are the batches that were there
     pub openings : All (λ h. (b : List (List Pair)) → held_of s h.name ≡ Some b → IfSome h.pass (λ p. length b ≡ p.view.opening)) each
     -- the open datasets weren't damaged
@@ -37,7 +37,7 @@ module _ {D : Type 0} (has : D → Option Contents) where
   -- and all pairs are stored
   pub record GrowsAll (workers : ℕ) (all : List Stored) (each : List (OpenDataset D)) (s t : Holdings) : Type 0 where
     pub schema : t.schema ≡ s.schema
-    pub each_is : (name : List ℕ) (b : List (List Pair)) → held_of s name ≡ Some b → AddsAllBy workers (pairs_for all name) b (held_with has each t name)
+    pub each_is : (name : List ℕ) (b : List (List Pair)) → held_of s name ≡ Some b → AddsAll workers (pairs_for all name) b (held_with has each t name)
     -- the datasets of the messages are open
     pub only : (name : List ℕ) → among name (names_of each) ≡ false → pairs_for all name ≡ []
     -- and weren't damaged

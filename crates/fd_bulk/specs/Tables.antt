@@ -7,7 +7,7 @@ use Rattle.fd_segment.specs.Held.{Alike, batch_of}
 use Rattle.fd_dataset.specs.Listed.{entries_of, listing}
 use Rattle.fd_recovery.specs.Recovered.{batches_listed, files_of}
 use Rattle.fd_numbers.specs.Numbers.{Differ}
-use Rattle.fd_bulk.specs.Adding.{AddsAllBy, AddsBy}
+use Rattle.fd_outcome.specs.Store.{Adds, AddsAll}
 use Rattle.fd_bulk.specs.Dealing.{dealt_to}
 use Rattle.fd_bulk.specs.Gathering.{AreLanes, Lane, receipts_of, writers_in}
 use Rattle.fd_bulk.specs.Merging.{joined, lane_at}
@@ -49,5 +49,5 @@ pub record AreListed (deal : List ℕ → ℕ) (lanes : List (Lane Sealing)) (op
 abbrev pub AreTables : Type 0
 AreTables = (deal : List ℕ → ℕ) (lanes : List (Lane Sealing)) (opening : ℕ) (history : List Listing) (pairs : List Pair) (rest : ℕ → List Pair) (files : FileName → Option (List ℕ)) (before : List (List Pair))
     → AreListed deal lanes opening history pairs rest files before
-    → AddsBy (length lanes) pairs before (batches_listed files (Ok (entries_of history)))
-    × (((w : ℕ) → rest w ≡ []) → AddsAllBy (length lanes) pairs before (batches_listed files (Ok (entries_of history))))
+    → Adds (length lanes) pairs before (batches_listed files (Ok (entries_of history)))
+    × (((w : ℕ) → rest w ≡ []) → AddsAll (length lanes) pairs before (batches_listed files (Ok (entries_of history))))

@@ -2,7 +2,7 @@
 -- a fault follows by the same rule.
 use Rattle.std.specs.Prelude.{ℕ, List, ◌++◌, codes}
 use Rattle.std.specs.Fmt.{decimal}
-use Rattle.fd_key.specs.FaultTexts.{given_fault_text, key_fault_text}
+use Rattle.fd_key.specs.FaultTexts.{given_fault_text}
 use Rattle.fd_request.specs.FaultTexts.{request_fault_text}
 use Rattle.fd_script.specs.declared.fault.ScriptKind.{ScriptKind}
 use Rattle.fd_script.specs.declared.fault.ScriptKind.TheVariants as kinds
@@ -21,10 +21,6 @@ script_kind_text (kinds.Request fault) = codes "Request " ++ request_fault_text 
 script_kind_text kinds.Number = codes "Number"
 script_kind_text (kinds.TooMany count) = codes "TooMany " ++ decimal count
 script_kind_text kinds.End = codes "End"
-script_kind_text kinds.Message = codes "Message"
-script_kind_text (kinds.Key fault) = codes "Key " ++ key_fault_text fault
-script_kind_text kinds.NoRule = codes "NoRule"
-script_kind_text kinds.OtherDataset = codes "OtherDataset"
 
 -- the line, and what is wrong with it
 abbrev pub script_fault_text : ScriptFault → List ℕ

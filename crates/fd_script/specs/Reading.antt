@@ -41,7 +41,7 @@ abbrev pub seen_request : RequestFault → Option requests.Fault
 seen_request (request_faults.At at kind) = Some (record { at = at; kind = seen_kind kind })
 seen_request request_faults.NoMemory = None
 
--- what a kind says is wrong with a line; the last four are never said of the text alone
+-- what a kind says is wrong with a line, unless memory ran out inside it
 abbrev pub seen_wrong : ScriptKind → Option Wrong
 seen_wrong kinds.TooLong = Some TooLong
 seen_wrong (kinds.Byte b) = Some (Byte b)
@@ -53,10 +53,6 @@ seen_wrong (kinds.Request fault) = option_map Request (seen_request fault)
 seen_wrong kinds.Number = Some Number
 seen_wrong (kinds.TooMany count) = Some (TooMany count)
 seen_wrong kinds.End = Some End
-seen_wrong kinds.Message = None
-seen_wrong (kinds.Key fault) = None
-seen_wrong kinds.NoRule = None
-seen_wrong kinds.OtherDataset = None
 
 -- the kind names what is wrong
 abbrev pub Names : ScriptKind → Option Wrong → Type 0

@@ -1,7 +1,7 @@
 ghost use Rattle.std.specs.Prelude.{◌≡◌};
 ghost use Rattle.fd_script.specs.declared.fault.Refusal.TheVariants as refusals;
 
-use fd_key::{GivenFault, KeyFault};
+use fd_key::GivenFault;
 use fd_request::RequestFault;
 use std::alloc::{AllocError, AllocFailed};
 use std::error::Error;
@@ -30,14 +30,6 @@ pub enum ScriptKind {
     TooMany { count: u32 },
     /// The input ends before `messages`.
     End,
-    /// There is no message with the number.
-    Message,
-    /// The message has no key.
-    Key(KeyFault),
-    /// The key has no place.
-    NoRule,
-    /// The place is in another dataset.
-    OtherDataset,
 }
 
 /// Why a script could not be read.
@@ -98,10 +90,6 @@ impl fmt::Display for ScriptKind {
             ScriptKind::Number => f.write_str("Number"),
             ScriptKind::TooMany { count } => write!(f, "TooMany {count}"),
             ScriptKind::End => f.write_str("End"),
-            ScriptKind::Message => f.write_str("Message"),
-            ScriptKind::Key(fault) => write!(f, "Key {fault}"),
-            ScriptKind::NoRule => f.write_str("NoRule"),
-            ScriptKind::OtherDataset => f.write_str("OtherDataset"),
         }
     }
 }

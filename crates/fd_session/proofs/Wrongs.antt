@@ -40,7 +40,3 @@ named_text (kinds.Request request_faults.NoMemory) w e = cc
 named_text kinds.Number w e = ap wrong_text (some _ w e)
 named_text (kinds.TooMany count) w e = ap wrong_text (some _ w e)
 named_text kinds.End w e = ap wrong_text (some _ w e)
-named_text kinds.Message w e = cc
-named_text (kinds.Key fault) w e = cc
-named_text kinds.NoRule w e = cc
-named_text kinds.OtherDataset w e = cc
