@@ -29,7 +29,8 @@ fn tell_schema<X: Drop, E: Sink<X>>(
     kind: &SchemaKind,
 ) -> Status
     ensures { (text : List ℕ) (fault : Fault) → IsFirst text line kind.now fault
-        → ToldOrNoMemory (telling (InSchema text fault)).status (telling (InSchema text fault)).line result (E.taken report.old) (E.taken report.new) (E.faults report.old) (E.faults report.new) }
+        → ToldOrNoMemory (telling (InSchema text fault)).status (telling (InSchema text fault)).line result
+        (E.taken report.old) (E.taken report.new) (E.faults report.old) (E.faults report.new) }
 {
     let Ok(text) = schema_kind(alloc, kind) else {
         return tell_no_memory(report);

@@ -69,7 +69,8 @@ pub fn write_list<X: Drop, I: Source<X>, K: Sink<X>, E: Sink<X>>(
 
 /// Writes the line of a whole input that was split.
 fn tell_split<X: Drop, E: Sink<X>>(alloc: Global, report: &mut E, tally: &Tally) -> Status
-    ensures { ToldOrNoMemory Status.Done (split_line tally.now.fields tally.now.junk) result (E.taken report.old) (E.taken report.new) (E.faults report.old) (E.faults report.new) }
+    ensures { ToldOrNoMemory Status.Done (split_line tally.now.fields tally.now.junk) result
+        (E.taken report.old) (E.taken report.new) (E.faults report.old) (E.faults report.new) }
 {
     let fields = tally.fields;
     let junk = tally.junk;
