@@ -27,7 +27,7 @@ use std::alloc::Global;
 /// dataset in byte order, and of a dataset by index text and then datum text, with the length of the key's newest message
 /// and the number of the entry that has it. No folder of the store is out, and none is out afterwards; nothing is made in
 /// the store.
-pub fn list<F: Send + Drop, X: Drop, S: Store<F>, I: Source<X>, K: Sink<X>, E: Sink<X>>(
+pub fn list<F: Send, X: Drop, S: Store<F>, I: Source<X>, K: Sink<X>, E: Sink<X>>(
     alloc: Global,
     root: &Root,
     store: &mut S,
@@ -52,7 +52,7 @@ where
 /// Writes a line for each index text of the keys that the partial request on the input asks for, and each name in their
 /// datum texts: `DATASET INDEX NAME=V/W`, dataset by dataset in byte order, with index texts, names and values in byte order.
 /// No folder of the store is out, and none is out afterwards; nothing is made in the store.
-pub fn axes<F: Send + Drop, X: Drop, S: Store<F>, I: Source<X>, K: Sink<X>, E: Sink<X>>(
+pub fn axes<F: Send, X: Drop, S: Store<F>, I: Source<X>, K: Sink<X>, E: Sink<X>>(
     alloc: Global,
     root: &Root,
     store: &mut S,
@@ -76,7 +76,7 @@ where
 
 /// Writes a line for each dataset that has a table: `DATASET entries n fields f keys k bytes b`, in byte order. The input isn't
 /// read. No folder of the store is out, and none is out afterwards; nothing is made in the store.
-pub fn stats<F: Send + Drop, X: Drop, S: Store<F>, K: Sink<X>, E: Sink<X>>(
+pub fn stats<F: Send, X: Drop, S: Store<F>, K: Sink<X>, E: Sink<X>>(
     alloc: Global,
     root: &Root,
     store: &mut S,
@@ -97,7 +97,7 @@ where
 }
 
 /// Writes the lines of all datasets, and on the report only what ends them early.
-fn printed<F: Send + Drop, X: Drop, S: Store<F>, K: Sink<X>, E: Sink<X>>(
+fn printed<F: Send, X: Drop, S: Store<F>, K: Sink<X>, E: Sink<X>>(
     alloc: Global,
     lines: &Lines,
     store: &mut S,

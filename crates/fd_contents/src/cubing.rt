@@ -20,7 +20,7 @@ use std::alloc::Global;
 /// exactly one of the lines, which stand in byte order, and no two of the lines can be joined to one. Nothing is written where
 /// there are more keys than a request may have, or where one of them has a value that is a word of ranges. No folder of the store
 /// is out, and none is out afterwards; nothing is made in the store.
-pub fn cubes<F: Send + Drop, X: Drop, S: Store<F>, I: Source<X>, K: Sink<X>, E: Sink<X>>(
+pub fn cubes<F: Send, X: Drop, S: Store<F>, I: Source<X>, K: Sink<X>, E: Sink<X>>(
     alloc: Global,
     root: &Root,
     store: &mut S,
@@ -40,7 +40,7 @@ where
 }
 
 /// The same, once the partial request is read.
-fn cubed<F: Send + Drop, X: Drop, S: Store<F>, K: Sink<X>, E: Sink<X>>(
+fn cubed<F: Send, X: Drop, S: Store<F>, K: Sink<X>, E: Sink<X>>(
     alloc: Global,
     partial: &Partial,
     store: &mut S,

@@ -34,7 +34,7 @@ pub(crate) enum Halt<F, X> {
 
 /// Opens a dataset of the store, and gives it back; `None` exactly where there is no table. A dataset whose text has more
 /// than 255 bytes has none.
-pub(crate) fn opened_at<F: Send + Drop, S: Store<F>>(
+pub(crate) fn opened_at<F: Send, S: Store<F>>(
     alloc: Global,
     store: &mut S,
     name: &str,
@@ -85,7 +85,7 @@ where
 }
 
 /// What ended the lines of a dataset.
-fn halted<F: Send + Drop, Z: Sealed<F>, X>(
+fn halted<F: Send, Z: Sealed<F>, X>(
     alloc: Global,
     dataset: &Opened<F, Z>,
     fault: LinesFault<F, X>,
@@ -105,7 +105,7 @@ where
 }
 
 /// Writes the lines of one dataset, whose folder isn't out; none where it has no table. It is given back.
-fn print_one<F: Send + Drop, X: Drop, S: Store<F>, K: Sink<X>>(
+fn print_one<F: Send, X: Drop, S: Store<F>, K: Sink<X>>(
     alloc: Global,
     lines: &Lines,
     store: &mut S,
@@ -136,7 +136,7 @@ where
 }
 
 /// Writes the lines of the datasets of these names, in their order.
-fn print_each<F: Send + Drop, X: Drop, S: Store<F>, K: Sink<X>>(
+fn print_each<F: Send, X: Drop, S: Store<F>, K: Sink<X>>(
     alloc: Global,
     lines: &Lines,
     store: &mut S,
@@ -165,7 +165,7 @@ where
 }
 
 /// Writes the lines of all datasets of the store, in the order of their texts. Each is given back before the next is opened.
-pub(crate) fn print<F: Send + Drop, X: Drop, S: Store<F>, K: Sink<X>>(
+pub(crate) fn print<F: Send, X: Drop, S: Store<F>, K: Sink<X>>(
     alloc: Global,
     lines: &Lines,
     store: &mut S,

@@ -21,7 +21,7 @@ use fd_telling::Stop;
 use std::alloc::Global;
 
 /// What ended the reading of a dataset's keys.
-fn unread<F: Send + Drop, Z: Sealed<F>>(
+fn unread<F: Send, Z: Sealed<F>>(
     alloc: Global,
     dataset: &Opened<F, Z>,
     fault: LensFault<F>,
@@ -54,7 +54,7 @@ where
 }
 
 /// The keys of one dataset, whose folder isn't out, behind those that were found; none where it has no table. It is given back.
-fn keys_in<F: Send + Drop, S: Store<F>>(
+fn keys_in<F: Send, S: Store<F>>(
     alloc: Global,
     partial: &Partial,
     store: &mut S,
@@ -83,7 +83,7 @@ where
 }
 
 /// The keys of the datasets of these names, in their order.
-fn keys_in_each<F: Send + Drop, S: Store<F>>(
+fn keys_in_each<F: Send, S: Store<F>>(
     alloc: Global,
     partial: &Partial,
     store: &mut S,
@@ -111,7 +111,7 @@ where
 
 /// The keys of all datasets of the store, in the order of `list`, each once. Once there are more than a request may have, no more
 /// are kept; all datasets are read, so that a damage of one of them is told. Each is given back before the next is opened.
-pub(crate) fn keys_asked<F: Send + Drop, S: Store<F>>(
+pub(crate) fn keys_asked<F: Send, S: Store<F>>(
     alloc: Global,
     partial: &Partial,
     store: &mut S,

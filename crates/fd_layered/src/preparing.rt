@@ -36,7 +36,7 @@ pub(crate) struct Ready<F: Send, Z: Sealed<F>> {
 }
 
 /// Reads the request, and opens the datasets of its keys and those under them. Each is given back.
-pub(crate) fn prepared<F: Send + Drop, X: Drop, S: Store<F>, I: Source<X>>(
+pub(crate) fn prepared<F: Send, X: Drop, S: Store<F>, I: Source<X>>(
     alloc: Global,
     root: &str,
     layers: &Layers,
