@@ -1,13 +1,15 @@
 // The commands.
-ghost use Rattle.std.specs.Prelude.{◌≡◌, ◌⊎◌, List, ℕ, Option, false};
+ghost use Rattle.std.specs.Prelude.{◌≡◌, ◌⊎◌, List, ℕ, Option, IfSome, false};
 ghost use Rattle.fd_disk.specs.Folders.{Holdings};
 ghost use Rattle.fd_words.specs.declared.command.Command.{Command};
 ghost use Rattle.fd_words.specs.declared.command.Command.TheVariants as commands;
 ghost use Rattle.fd_outcome.specs.declared.status.Status.TheVariants.{Done, Missed};
-ghost use Rattle.fd_outcome.specs.Noticing.{Notices, ReadsFitly};
+ghost use Rattle.fd_outcome.specs.Noticing.{AnswersFirmly, Notices, ReadsFitly};
 ghost use Rattle.fd_outcome.specs.Objects.{Object, object};
 ghost use Rattle.fd_outcome.specs.Ran.{Ran};
 ghost use Rattle.fd_outcome.specs.Rows.{axes_text, list_text};
+ghost use Rattle.fd_outcome.specs.Store.{AreNames};
+ghost use Rattle.fd_retrieve.specs.Ready.{AreFirmOf};
 ghost use Rattle.fd_contents.specs.Asked.{Begins};
 ghost use Rattle.fd_contents.specs.Printed.{PrintsAll};
 ghost use Rattle.fd_contents.specs.Recorded.{CountsRecords, ListsRecords};
@@ -25,7 +27,7 @@ use std::alloc::Global;
 /// Writes a line for each key that the partial request on the input asks for: `DATASET INDEX DATUM LENGTH NUMBER`, dataset by
 /// dataset in byte order, and of a dataset by index text and then datum text, with the length of the key's newest message
 /// and the number of the entry that has it. No folder of the store is out, and none is out afterwards; nothing is made in
-/// the store.
+/// the store. At 0 all tables are firm then, so what was listed outlasts a crash.
 pub fn list<F: Send + Drop, X: Drop, S: Store<F>, I: Source<X>, K: Sink<X>, E: Sink<X>>(
     alloc: Global,
     root: &Root,
@@ -38,6 +40,7 @@ where
     requires home { (name : List ℕ) → S.out store.old name ≡ false }
     ensures ran { Ran (commands.List root.now) result (object (S.has store.old) (S.has store.new) (S.faults store.old) (S.faults store.new)) (object (I.left input.old) (I.left input.new) (I.faults input.old) (I.faults input.new)) (object (K.taken output.old) (K.taken output.new) (K.faults output.old) (K.faults output.new)) (object (E.taken report.old) (E.taken report.new) (E.faults report.old) (E.faults report.new)) }
     ensures notices { Notices (commands.List root.now) result (object (S.has store.old) (S.has store.new) (S.faults store.old) (S.faults store.new)) (object (I.left input.old) (I.left input.new) (I.faults input.old) (I.faults input.new)) (object (K.taken output.old) (K.taken output.new) (K.faults output.old) (K.faults output.new)) (object (E.taken report.old) (E.taken report.new) (E.faults report.old) (E.faults report.new)) }
+    ensures firm { AnswersFirmly (commands.List root.now) result (object (S.has store.old) (S.has store.new) (S.faults store.old) (S.faults store.new)) (object (I.left input.old) (I.left input.new) (I.faults input.old) (I.faults input.new)) }
     ensures recorded { ListsRecords list_text result (I.left input.old) (S.has store.old) (object (K.taken output.old) (K.taken output.new) (K.faults output.old) (K.faults output.new)) }
     ensures unread { ReadsFitly (commands.List root.now) (object (S.has store.old) (S.has store.new) (S.faults store.old) (S.faults store.new)) (object (I.left input.old) (I.left input.new) (I.faults input.old) (I.faults input.new)) }
     ensures home { (name : List ℕ) → S.out store.new name ≡ false }
@@ -63,6 +66,7 @@ where
     requires home { (name : List ℕ) → S.out store.old name ≡ false }
     ensures ran { Ran (commands.Axes root.now) result (object (S.has store.old) (S.has store.new) (S.faults store.old) (S.faults store.new)) (object (I.left input.old) (I.left input.new) (I.faults input.old) (I.faults input.new)) (object (K.taken output.old) (K.taken output.new) (K.faults output.old) (K.faults output.new)) (object (E.taken report.old) (E.taken report.new) (E.faults report.old) (E.faults report.new)) }
     ensures notices { Notices (commands.Axes root.now) result (object (S.has store.old) (S.has store.new) (S.faults store.old) (S.faults store.new)) (object (I.left input.old) (I.left input.new) (I.faults input.old) (I.faults input.new)) (object (K.taken output.old) (K.taken output.new) (K.faults output.old) (K.faults output.new)) (object (E.taken report.old) (E.taken report.new) (E.faults report.old) (E.faults report.new)) }
+    ensures firm { AnswersFirmly (commands.Axes root.now) result (object (S.has store.old) (S.has store.new) (S.faults store.old) (S.faults store.new)) (object (I.left input.old) (I.left input.new) (I.faults input.old) (I.faults input.new)) }
     ensures recorded { ListsRecords axes_text result (I.left input.old) (S.has store.old) (object (K.taken output.old) (K.taken output.new) (K.faults output.old) (K.faults output.new)) }
     ensures unread { ReadsFitly (commands.Axes root.now) (object (S.has store.old) (S.has store.new) (S.faults store.old) (S.faults store.new)) (object (I.left input.old) (I.left input.new) (I.faults input.old) (I.faults input.new)) }
     ensures home { (name : List ℕ) → S.out store.new name ≡ false }
@@ -86,6 +90,7 @@ where
     requires home { (name : List ℕ) → S.out store.old name ≡ false }
     ensures ran { (a : Option (List ℕ)) (k : ℕ) → Ran (commands.Stats root.now) result (object (S.has store.old) (S.has store.new) (S.faults store.old) (S.faults store.new)) (object a a k k) (object (K.taken output.old) (K.taken output.new) (K.faults output.old) (K.faults output.new)) (object (E.taken report.old) (E.taken report.new) (E.faults report.old) (E.faults report.new)) }
     ensures notices { (a : Option (List ℕ)) (k : ℕ) → Notices (commands.Stats root.now) result (object (S.has store.old) (S.has store.new) (S.faults store.old) (S.faults store.new)) (object a a k k) (object (K.taken output.old) (K.taken output.new) (K.faults output.old) (K.faults output.new)) (object (E.taken report.old) (E.taken report.new) (E.faults report.old) (E.faults report.new)) }
+    ensures firm { (a : Option (List ℕ)) (k : ℕ) → AnswersFirmly (commands.Stats root.now) result (object (S.has store.old) (S.has store.new) (S.faults store.old) (S.faults store.new)) (object a a k k) }
     ensures recorded { CountsRecords result (S.has store.old) (object (K.taken output.old) (K.taken output.new) (K.faults output.old) (K.faults output.new)) }
     ensures home { (name : List ℕ) → S.out store.new name ≡ false }
 {
@@ -108,6 +113,7 @@ where
     ensures ran { (command : Command) (before : Option Holdings) (faults : ℕ) (input : Object (List ℕ)) → Begins command lines.now before (S.has store.old) faults (S.faults store.old) input
         → Ran command result (object before (S.has store.new) faults (S.faults store.new)) input (object (K.taken output.old) (K.taken output.new) (K.faults output.old) (K.faults output.new)) (object (E.taken report.old) (E.taken report.new) (E.faults report.old) (E.faults report.new)) }
     ensures whole { (result ≡ Done) ⊎ (result ≡ Missed) → PrintsAll lines.now result (S.has store.old) (object (K.taken output.old) (K.taken output.new) (K.faults output.old) (K.faults output.new)) (object (E.taken report.old) (E.taken report.new) (E.faults report.old) (E.faults report.new)) }
+    ensures firm { (result ≡ Done) ⊎ (result ≡ Missed) → IfSome (S.has store.old) (λ h. (names : List (List ℕ)) → AreNames h names → IfSome (S.has store.new) (λ i. AreFirmOf i names)) }
     ensures home { (name : List ℕ) → S.out store.new name ≡ false }
 {
     match print(alloc, lines, store, output) {

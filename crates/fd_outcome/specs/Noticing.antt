@@ -6,6 +6,7 @@ use Rattle.std.specs.List.{AllZip, concat}
 use Rattle.fd_disk.specs.Folders.{Holdings, folder_at}
 use Rattle.fd_entries.specs.Batches.{newest}
 use Rattle.fd_entries.specs.declared.batch.Pair.{Pair}
+use Rattle.fd_recovery.specs.Crashing.{IsFirmTable}
 use Rattle.fd_recovery.specs.Recovered.{IsUndamaged}
 use Rattle.fd_request.specs.Expansion.{Keyword}
 use Rattle.fd_schema.specs.Rules.{Rule, file_key}
@@ -96,6 +97,34 @@ Noticed (commands.Trial root count workers) s h names input a b c d = AreUndamag
 abbrev pub Notices : Command → Status → Object Holdings → Object (List ℕ) → Object (List ℕ) → Object (List ℕ) → Type 0
 Notices command s store input output report = (s ≡ Done) ⊎ (s ≡ Missed) → WhereAsked command input.before store.before store.now (λ octets h i. (names : List (List ℕ)) → AreNames h names
     → Noticed command s h names octets output.before output.now report.before report.now)
+
+-- ---- what was answered outlasts a crash
+
+-- Where a command that reads ends with 0 or 1, each dataset that it opened has a firm table, or none: so each store that a crash may
+-- leave then has of these datasets what was answered from.
+abbrev pub AnswersFirmly : Command → Status → Object Holdings → Object (List ℕ) → Type 0
+AnswersFirmly command s store input = (s ≡ Done) ⊎ (s ≡ Missed) → WhereAsked command input.before store.before store.now (λ octets h i. (names : List (List ℕ)) → AreNames h names
+    → (name : List ℕ) → Opens command h names octets name → IsFirmTable (folder_at i name).table)
+
+-- the command answers from the datasets of the store; of `cubes` it isn't said
+abbrev pub IsAnswering : Command → Type 0
+IsAnswering (commands.Pick wanted) = ⊥
+IsAnswering commands.Describe = ⊥
+IsAnswering commands.Split = ⊥
+IsAnswering (commands.Values decimals) = ⊥
+IsAnswering (commands.Generate count) = ⊥
+IsAnswering (commands.Create root) = ⊥
+IsAnswering (commands.Archive root given workers) = ⊥
+IsAnswering (commands.Retrieve root workers) = Unit {0}
+IsAnswering (commands.RetrieveOver root layers workers) = Unit {0}
+IsAnswering (commands.List root) = Unit {0}
+IsAnswering (commands.Axes root) = Unit {0}
+IsAnswering (commands.Stats root) = Unit {0}
+IsAnswering (commands.Cubes root) = ⊥
+IsAnswering (commands.Session root) = ⊥
+IsAnswering (commands.Purge root dataset) = ⊥
+IsAnswering (commands.Wipe root dataset) = ⊥
+IsAnswering (commands.Trial root count workers) = ⊥
 
 -- ---- schema before input
 

@@ -9,7 +9,7 @@ use Rattle.fd_outcome.specs.declared.status.Status.TheVariants.{Done, Missed, Wo
 use Rattle.fd_outcome.specs.Causes.{table_full}
 use Rattle.fd_outcome.specs.Codes.{code_of}
 use Rattle.fd_outcome.specs.Ends.{Runs, EndsUnasked, ReadsOut, StoresFields, Calm, Completes, Leaves}
-use Rattle.fd_outcome.specs.Noticing.{Notices, ReadsFitly, SparesDamaged}
+use Rattle.fd_outcome.specs.Noticing.{AnswersFirmly, IsAnswering, Notices, ReadsFitly, SparesDamaged}
 use Rattle.fd_outcome.specs.Objects.{Failed, Object}
 use Rattle.fd_outcome.specs.Ran.{Ran}
 use Rattle.fd_archive.specs.Crashing.{OutlastsCrash}
@@ -25,6 +25,7 @@ pub record CommandRan (F : Type 0) (command : Command) (s : Status) (store : Obj
   pub unread : ReadsFitly command store input
   pub spares : StoresFields command → WhereTold store.before store.now SparesDamaged
   pub outlasts : OutlastsCrash command s store input report
+  pub firm : IsAnswering command → AnswersFirmly command s store input
 
 -- A run that ended with this status: what `fdb` promises of it.
 pub record Served (F : Type 0) (words : List (List ℕ)) (s : Status) (store : Object Holdings) (input output report : Object (List ℕ)) : Type 0 where
@@ -40,6 +41,7 @@ pub record Served (F : Type 0) (words : List (List ℕ)) (s : Status) (store : O
   pub unread : IfSome (command_of words) (λ command. ReadsFitly command store input)
   pub spares : IfSome (command_of words) (λ command. StoresFields command → WhereTold store.before store.now SparesDamaged)
   pub outlasts : IfSome (command_of words) (λ command. OutlastsCrash command s store input report)
+  pub firm : IfSome (command_of words) (λ command. IsAnswering command → AnswersFirmly command s store input)
   pub input_fault : s ≡ InputFault → Failed input
   pub output_fault : s ≡ OutputFault → Failed output ⊎ Failed report
   pub disk_fault : s ≡ DiskFault → Failed store

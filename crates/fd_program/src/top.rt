@@ -8,7 +8,7 @@ ghost use Rattle.fd_outcome.specs.Ends.{Runs, EndsUnasked, ReadsOut, StoresField
 ghost use Rattle.fd_io.specs.Streams.{Takes};
 ghost use Rattle.fd_outcome.specs.Causes.{table_full};
 ghost use Rattle.fd_outcome.specs.Objects.{object};
-ghost use Rattle.fd_outcome.specs.Noticing.{Notices, ReadsFitly, SparesDamaged};
+ghost use Rattle.fd_outcome.specs.Noticing.{AnswersFirmly, IsAnswering, Notices, ReadsFitly, SparesDamaged};
 ghost use Rattle.fd_archive.specs.Crashing.{OutlastsCrash};
 ghost use Rattle.fd_contents.specs.Cubing.{CubesRan, OfCubes};
 ghost use Rattle.fd_session.specs.Sessions.{OfSession, SessionRan};
@@ -110,6 +110,9 @@ where
     // What an archive or a trial tells to be stored outlasts a crash: each store that it may leave has it. And whatever is told,
     // each dataset holds there what it held, and behind it few batches of the messages alone.
     ensures outlasts { IfSome (command_of (texts words.now)) (λ command. OutlastsCrash command result (object (S.has store.old) (S.has store.new) (S.faults store.old) (S.faults store.new)) (object (I.left input.old) (I.left input.new) (I.faults input.old) (I.faults input.new)) (object (E.taken report.old) (E.taken report.new) (E.faults report.old) (E.faults report.new))) }
+
+    // What a command that reads told outlasts a crash: at 0 and 1 each dataset that it opened has a firm table, or none.
+    ensures firm { IfSome (command_of (texts words.now)) (λ command. IsAnswering command → AnswersFirmly command result (object (S.has store.old) (S.has store.new) (S.faults store.old) (S.faults store.new)) (object (I.left input.old) (I.left input.new) (I.faults input.old) (I.faults input.new))) }
 
     // A fault is told only where a count rose.
     ensures input_fault { result ≡ Status.InputFault → Rose (I.faults input.old) (I.faults input.new) }

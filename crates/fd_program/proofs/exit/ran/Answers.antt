@@ -19,6 +19,7 @@ returns-clause-served g c =
         unread = e.unread;
         spares = e.spares;
         outlasts = e.outlasts;
+        firm = e.firm;
         input_fault = e.input_fault;
         output_fault = e.output_fault;
         disk_fault = e.disk_fault;

@@ -7,7 +7,7 @@ use Rattle.fd_outcome.proofs.Starved.{is_idle}
 use Rattle.fd_archive.proofs.Outlasting.{starved_outlasts}
 use Rattle.fd_contents.proofs.CubesDone.{starved_cubes}
 use Rattle.fd_session.proofs.Commands.{starved_session}
-use Rattle.fd_program.proofs.Ran.{starved_notices, starved_spares, starved_unread}
+use Rattle.fd_program.proofs.Ran.{starved_firm, starved_notices, starved_spares, starved_unread}
 use Rattle.fd_program.proofs.top.fdb.Goals as goal
 
 pub returns-in-Ok-Some-clause-complete : goal.returns-in-Ok-Some-clause-complete
@@ -87,3 +87,12 @@ returns-in-Ok-None-clause-spares g c = rw (sym c.in-Ok-None.ensures.command ∙ 
 
 pub returns-in-Err-clause-spares : goal.returns-in-Err-clause-spares
 returns-in-Err-clause-spares g c = starved_spares (command_of (texts c.args.words.now)) (g.S.Store.has c.args.store.now)
+
+pub returns-in-Ok-Some-clause-firm : goal.returns-in-Ok-Some-clause-firm
+returns-in-Ok-Some-clause-firm g c = rw (sym c.in-Ok-Some.ensures.command ∙ c.in-Ok-Some.field-0-is) c.run.ensures.did.firm
+
+pub returns-in-Ok-None-clause-firm : goal.returns-in-Ok-None-clause-firm
+returns-in-Ok-None-clause-firm g c = rw (sym c.in-Ok-None.ensures.command ∙ c.in-Ok-None.field-0-is) tt
+
+pub returns-in-Err-clause-firm : goal.returns-in-Err-clause-firm
+returns-in-Err-clause-firm g c = starved_firm (command_of (texts c.args.words.now)) _ (object (g.S.Store.has c.args.store.now) (g.S.Store.has c.args.store.now) (g.S.Store.faults c.args.store.now) (g.S.Store.faults c.args.store.now)) (object (g.I.Source.left c.args.input.now) (g.I.Source.left c.args.input.now) (g.I.Source.faults c.args.input.now) (g.I.Source.faults c.args.input.now)) (is_idle _ _ _ _ _ c.tell_no_memory.ensures)
