@@ -7,6 +7,7 @@ mod Opened
 mod Partial
 mod Exits
 mod Noticed
+mod Firmly
 mod Gathered
 mod Askable
 mod CubeExits

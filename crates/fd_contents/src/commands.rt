@@ -1,14 +1,16 @@
 // The commands.
-ghost use Rattle.std.specs.Prelude.{◌≡◌, ◌⊎◌, List, ℕ, Option, false};
+ghost use Rattle.std.specs.Prelude.{◌≡◌, ◌⊎◌, List, ℕ, Option, IfSome, false};
 ghost use Rattle.fd_disk.specs.Folders.{Holdings};
 ghost use Rattle.fd_words.specs.declared.command.Command.{Command};
 ghost use Rattle.fd_words.specs.declared.command.Command.TheVariants as commands;
 ghost use Rattle.fd_outcome.specs.declared.status.Status.TheVariants.{Done, Missed};
-ghost use Rattle.fd_outcome.specs.Noticing.{Notices, ReadsFitly};
-ghost use Rattle.fd_outcome.specs.Objects.{Object};
+ghost use Rattle.fd_outcome.specs.Noticing.{AnswersFirmly, Notices, ReadsFitly};
+ghost use Rattle.fd_outcome.specs.Objects.{Object, object};
 ghost use Rattle.fd_outcome.specs.Ran.{Ran};
 ghost use Rattle.fd_outcome.specs.Rows.{axes_text, list_text};
+ghost use Rattle.fd_outcome.specs.Store.{AreNames};
 ghost use Rattle.fd_objects.specs.Given.{Over, OverOutput, sink_of, source_of, store_of, store_since};
+ghost use Rattle.fd_retrieve.specs.Ready.{AreFirmOf};
 ghost use Rattle.fd_contents.specs.Asked.{Begins};
 ghost use Rattle.fd_contents.specs.Printed.{PrintsAll};
 ghost use Rattle.fd_contents.specs.Recorded.{CountsRecords, ListsRecords};
@@ -26,7 +28,7 @@ use std::alloc::Global;
 /// Writes a line for each key that the partial request on the input asks for: `DATASET INDEX DATUM LENGTH NUMBER`, dataset by
 /// dataset in byte order, and of a dataset by index text and then datum text, with the length of the key's newest message
 /// and the number of the entry that has it. No folder of the store is out, and none is out afterwards; nothing is made in
-/// the store.
+/// the store. At 0 all tables are firm then, so what was listed outlasts a crash.
 pub fn list<F: Send, X: Drop, S: Store<F>, I: Source<X>, K: Sink<X>, E: Sink<X>>(
     alloc: Global,
     root: &Root,
@@ -39,6 +41,7 @@ where
     requires home { (name : List ℕ) → S.out store.old name ≡ false }
     ensures ran { Over S.Store store I.Source input K.Sink output E.Sink report (Ran (commands.List root.now) result) }
     ensures notices { Over S.Store store I.Source input K.Sink output E.Sink report (Notices (commands.List root.now) result) }
+    ensures firm { AnswersFirmly (commands.List root.now) result (store_of S.Store store) (source_of I.Source input) }
     ensures recorded { ListsRecords list_text result (I.left input.old) (S.has store.old) (sink_of K.Sink output) }
     ensures unread { ReadsFitly (commands.List root.now) (store_of S.Store store) (source_of I.Source input) }
     ensures home { (name : List ℕ) → S.out store.new name ≡ false }
@@ -64,6 +67,7 @@ where
     requires home { (name : List ℕ) → S.out store.old name ≡ false }
     ensures ran { Over S.Store store I.Source input K.Sink output E.Sink report (Ran (commands.Axes root.now) result) }
     ensures notices { Over S.Store store I.Source input K.Sink output E.Sink report (Notices (commands.Axes root.now) result) }
+    ensures firm { AnswersFirmly (commands.Axes root.now) result (store_of S.Store store) (source_of I.Source input) }
     ensures recorded { ListsRecords axes_text result (I.left input.old) (S.has store.old) (sink_of K.Sink output) }
     ensures unread { ReadsFitly (commands.Axes root.now) (store_of S.Store store) (source_of I.Source input) }
     ensures home { (name : List ℕ) → S.out store.new name ≡ false }
@@ -87,6 +91,8 @@ where
     requires home { (name : List ℕ) → S.out store.old name ≡ false }
     ensures ran { OverOutput S.Store store K.Sink output E.Sink report (Ran (commands.Stats root.now) result) }
     ensures notices { OverOutput S.Store store K.Sink output E.Sink report (Notices (commands.Stats root.now) result) }
+    ensures firm { (left : Option (List ℕ)) (n : ℕ)
+        → AnswersFirmly (commands.Stats root.now) result (store_of S.Store store) (object left left n n) }
     ensures recorded { CountsRecords result (S.has store.old) (sink_of K.Sink output) }
     ensures home { (name : List ℕ) → S.out store.new name ≡ false }
 {
@@ -111,6 +117,8 @@ where
         → Ran command result (store_since before faults S.Store store) input (sink_of K.Sink output) (sink_of E.Sink report) }
     ensures whole { (result ≡ Done) ⊎ (result ≡ Missed)
         → PrintsAll lines.now result (S.has store.old) (sink_of K.Sink output) (sink_of E.Sink report) }
+    ensures firm { (result ≡ Done) ⊎ (result ≡ Missed)
+        → IfSome (S.has store.old) (λ h. (names : List (List ℕ)) → AreNames h names → IfSome (S.has store.new) (λ i. AreFirmOf i names)) }
     ensures home { (name : List ℕ) → S.out store.new name ≡ false }
 {
     match print(alloc, lines, store, output) {

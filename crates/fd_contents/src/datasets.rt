@@ -4,11 +4,12 @@ ghost use Rattle.fd_bytes.specs.Causes.{Rose};
 ghost use Rattle.fd_disk.specs.Folders.{Holdings, WhereTold, folder_at};
 ghost use Rattle.fd_io.specs.Streams.{TakesFront};
 ghost use Rattle.fd_schema.specs.Seen.{texts};
+ghost use Rattle.fd_recovery.specs.Crashing.{IsFirmTable};
 ghost use Rattle.fd_recovery.specs.Recovered.{IsUndamaged};
 ghost use Rattle.fd_inventory.specs.Indexes.{IsAmongBad, OnLines};
 ghost use Rattle.fd_outcome.specs.Store.{AreNames, IsLookedThrough, has_table};
 ghost use Rattle.fd_retrieve.specs.Open.{IsOpenIn};
-ghost use Rattle.fd_retrieve.specs.Ready.{IsBrokenOf};
+ghost use Rattle.fd_retrieve.specs.Ready.{AreFirmOf, IsBrokenOf};
 ghost use Rattle.fd_telling.specs.Stops.{OfDataset};
 ghost use Rattle.fd_contents.specs.Halts.{IsWrite, OnStop, OnUnwritten};
 ghost use Rattle.fd_contents.specs.Printed.{ArePrinted, IsPrinted};
@@ -33,7 +34,8 @@ pub(crate) enum Halt<F, X> {
 }
 
 /// Opens a dataset of the store, and gives it back; `None` exactly where there is no table. A dataset whose text has more
-/// than 255 bytes has none.
+/// than 255 bytes has none. The table of one that was opened is firm then.
+#[tactic(auto, using(fd_retrieve::proofs::Firmly::bare_listed))]
 pub(crate) fn opened_at<F: Send, S: Store<F>>(
     alloc: Global,
     store: &mut S,
@@ -45,6 +47,7 @@ where
     ensures short { IfOk result (λ o. IfSome o (λ r. length r.name ≤ 255)) }
     ensures none { IfOk result (λ o. IfSome (S.has store.old) (λ h. is_some o ≡ has_table h name.now)) }
     ensures undamaged { IfOk result (λ o. IfSome (S.has store.old) (λ h. IsUndamaged name.now (folder_at h name.now))) }
+    ensures firm { IfOk result (λ o. IfSome (S.has store.new) (λ i. IsFirmTable (folder_at i name.now).table)) }
     ensures broken { IfErr result (λ e. IfSome (S.has store.old) (λ h. IsBrokenOf e h (name.now ∷ []))) }
     ensures of { IfErr result OfDataset }
     ensures looks { WhereTold (S.has store.old) (S.has store.new) IsLookedThrough }
@@ -115,6 +118,7 @@ fn print_one<F: Send, X: Drop, S: Store<F>, K: Sink<X>>(
 where
     requires home { (n : List ℕ) → S.out store.old n ≡ false }
     ensures printed { OnOk result (IfSome (S.has store.old) (λ h. IsPrinted lines.now h name.now (K.taken output.old) (K.taken output.new))) }
+    ensures firm { OnOk result (IfSome (S.has store.new) (λ i. IsFirmTable (folder_at i name.now).table)) }
     ensures front { OnErr result (IfSome (S.has store.old) (λ h. (text : List ℕ) → text_for lines.now h name.now ≡ Some text → TakesFront (K.taken output.old) (K.taken output.new) text)) }
     ensures broken { IfErr result (λ e. OnStop e (λ stop. IfSome (S.has store.old) (λ h. IsBrokenOf stop h (name.now ∷ [])))) }
     ensures of { IfErr result (λ e. OnStop e OfDataset) }
@@ -146,6 +150,7 @@ fn print_each<F: Send, X: Drop, S: Store<F>, K: Sink<X>>(
 where
     requires home { (n : List ℕ) → S.out store.old n ≡ false }
     ensures printed { OnOk result (IfSome (S.has store.old) (λ h. ArePrinted lines.now h (texts names.now) (K.taken output.old) (K.taken output.new))) }
+    ensures firm { OnOk result (IfSome (S.has store.new) (λ i. AreFirmOf i (texts names.now))) }
     ensures front { OnErr result (IfSome (S.has store.old) (λ h. (text : List ℕ) → texts_for lines.now h (texts names.now) ≡ Some text → TakesFront (K.taken output.old) (K.taken output.new) text)) }
     ensures broken { IfErr result (λ e. OnStop e (λ stop. IfSome (S.has store.old) (λ h. IsBrokenOf stop h (texts names.now)))) }
     ensures of { IfErr result (λ e. OnStop e OfDataset) }
@@ -174,6 +179,7 @@ pub(crate) fn print<F: Send, X: Drop, S: Store<F>, K: Sink<X>>(
 where
     requires home { (n : List ℕ) → S.out store.old n ≡ false }
     ensures printed { OnOk result (IfSome (S.has store.old) (λ h. (names : List (List ℕ)) → AreNames h names → ArePrinted lines.now h names (K.taken output.old) (K.taken output.new))) }
+    ensures firm { OnOk result (IfSome (S.has store.old) (λ h. (names : List (List ℕ)) → AreNames h names → IfSome (S.has store.new) (λ i. AreFirmOf i names))) }
     ensures front { OnErr result (IfSome (S.has store.old) (λ h. (names : List (List ℕ)) (text : List ℕ) → AreNames h names → texts_for lines.now h names ≡ Some text → TakesFront (K.taken output.old) (K.taken output.new) text)) }
     ensures broken { IfErr result (λ e. OnStop e (λ stop. IfSome (S.has store.old) (λ h. (names : List (List ℕ)) → AreNames h names → IsBrokenOf stop h names))) }
     ensures of { IfErr result (λ e. OnStop e OfDataset) }

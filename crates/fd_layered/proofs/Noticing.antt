@@ -3,7 +3,7 @@ use Rattle.std.proofs.Common.{◌≡◌, ◌∙◌, ◌+◌, ℕ, suc, true, Lis
 use Rattle.std.specs.Prelude.{◌⊎◌, Contains}
 use Rattle.std.specs.List.{AllZip}
 use Rattle.std.proofs.lemmas.List.Elements.{All-cons, All-head, All-tail}
-use Rattle.fd_disk.specs.Folders.{Holdings}
+use Rattle.fd_disk.specs.Folders.{Holdings, folder_at}
 use Rattle.fd_entries.specs.declared.batch.Pair as batches
 use Rattle.fd_entries.specs.Batches.{newest}
 use Rattle.fd_key.specs.Pairs.{Pair}
@@ -17,7 +17,7 @@ use Rattle.fd_ahead.specs.declared.located.Located.{Located}
 use Rattle.fd_outcome.specs.Asking.{Answer, Tables, is_among}
 use Rattle.fd_outcome.specs.Ends.{AmongLaid, Tells}
 use Rattle.fd_outcome.specs.Layered.{Laid, all_places, laid_datasets, laid_of, places_under, tables_at}
-use Rattle.fd_outcome.specs.Noticing.{AnsweredEach, AreUndamaged, IsLaidAnswer, Noticed, Notices}
+use Rattle.fd_outcome.specs.Noticing.{AnsweredEach, AnswersFirmly, AreUndamaged, IsLaidAnswer, Noticed, Notices}
 use Rattle.fd_outcome.specs.Objects.{Object}
 use Rattle.fd_outcome.specs.Outcome.{answered}
 use Rattle.fd_outcome.specs.Store.{AreNames, table_at}
@@ -25,6 +25,8 @@ use Rattle.fd_outcome.specs.declared.status.Status.{Status}
 use Rattle.fd_outcome.specs.declared.status.Status.TheVariants.{Done, Missed}
 use Rattle.fd_retrieve.specs.Located.{AreAt, IsAt, IsLocated}
 use Rattle.fd_retrieve.specs.Open.{Open, table_in}
+use Rattle.fd_recovery.specs.Crashing.{IsFirmTable}
+use Rattle.fd_retrieve.specs.Ready.{AreFirmOf}
 use Rattle.fd_retrieve.specs.Tables.{datasets_in}
 use Rattle.fd_retrieve.proofs.Noticing.{at_same, fielded, stand_all, standing_at, zip_of}
 use Rattle.fd_retrieve.proofs.ReadyLemmas.{among_contained}
@@ -106,3 +108,16 @@ over_notices root layers workers s store input output report ks ps os chains rea
     go (Some octets) None n r = tt
     go (Some octets) (Some h) None r = tt
     go (Some octets) (Some h) (Some j) r = λ names are. (over_undamaged layers h octets ks ps os chains r root workers names, each h octets r whole)
+
+pub over_firm : (root : List ℕ) (layers : List (List Pair)) (workers : ℕ) (s : Status) (store : Object Holdings) (input : Object (List ℕ)) (ks : List Keyword) (ps : List Place) (os : List Open) → AreChains (length layers) (expand ks) (map seen_place ps)
+    → IfSome store.before (λ h. IfSome input.before (λ octets. IsReady h layers octets ks ps os)) → IfSome store.now (λ i. AreFirmOf i (datasets_in ps)) → AnswersFirmly (RetrieveOver root layers workers) s store input
+over_firm root layers workers s store input ks ps os chains ready firm whole = go input.before store.before store.now ready firm
+  where
+    go : (i : Option (List ℕ)) (b n : Option Holdings) → IfSome b (λ h. IfSome i (λ octets. IsReady h layers octets ks ps os)) → IfSome n (λ j. AreFirmOf j (datasets_in ps))
+        → IfSome i (λ octets. IfSome b (λ h. IfSome n (λ j. (names : List (List ℕ)) → AreNames h names → (name : List ℕ) → AmongLaid (laid_of h layers octets) name → IsFirmTable (folder_at j name).table)))
+    go None b n r f = tt
+    go (Some octets) None n r f = tt
+    go (Some octets) (Some h) None r f = tt
+    go (Some octets) (Some h) (Some j) r f = λ names are name among.
+        let there = subst (λ q. AmongLaid q name) r.asked among in
+        f name (among_contained (datasets_in ps) name (subst (λ ds. Contains ds name) (sets_are layers h octets ks ps os chains r) there))

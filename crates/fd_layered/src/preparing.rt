@@ -12,6 +12,8 @@ ghost use Rattle.fd_outcome.specs.Noticing.{IsUnread};
 ghost use Rattle.fd_outcome.specs.Store.{Stays};
 ghost use Rattle.fd_objects.specs.Given.{source_of};
 ghost use Rattle.fd_retrieve.specs.Looking.{IsLookedThrough};
+ghost use Rattle.fd_retrieve.specs.Ready.{AreFirmOf};
+ghost use Rattle.fd_retrieve.specs.Tables.{datasets_in};
 ghost use Rattle.fd_telling.specs.Stops.{IsOfRequest, IsRefused, OnInput, OnRefusal, Says};
 ghost use Rattle.fd_layered.specs.Chains.{AreChains};
 ghost use Rattle.fd_layered.specs.Ready.{IsReady, laid_in, laid_with};
@@ -48,6 +50,7 @@ where
     requires layers { AreLayers layers.now }
     ensures prepared { IfOk result (λ r. IfSome (S.has store.old)
         (λ h. IfSome (I.left input.old) (λ octets. IsReady h layers.now octets r.request r.places.items r.opened.items))) }
+    ensures firm { IfOk result (λ r. IfSome (S.has store.new) (λ i. AreFirmOf i (datasets_in r.places.items))) }
     ensures chains { IfOk result (λ r. AreChains (length layers.now) (expand r.request) (map seen_place r.places.items)) }
     ensures read { OnOk result (IfSome (I.left input.old) (λ octets. I.left input.new ≡ Some [])) }
     ensures unread { IfSome (S.has store.old) (λ h. IsErr (rules_of h.schema) → IsUnread (source_of I.Source input)) }

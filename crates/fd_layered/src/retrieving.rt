@@ -6,7 +6,7 @@ ghost use Rattle.fd_schema.specs.Reading.{seen_place};
 ghost use Rattle.fd_words.specs.Words.{AreLayers};
 ghost use Rattle.fd_words.specs.declared.command.Command.TheVariants.{RetrieveOver};
 ghost use Rattle.fd_outcome.specs.Layered.{laid_answers, laid_of};
-ghost use Rattle.fd_outcome.specs.Noticing.{AnsweredEach, IsLaidAnswer, Notices, ReadsFitly};
+ghost use Rattle.fd_outcome.specs.Noticing.{AnsweredEach, AnswersFirmly, IsLaidAnswer, Notices, ReadsFitly};
 ghost use Rattle.fd_outcome.specs.Objects.{Object};
 ghost use Rattle.fd_outcome.specs.Ran.{Ran};
 ghost use Rattle.fd_outcome.specs.Store.{table_at};
@@ -34,7 +34,7 @@ use std::thread::Threads;
 /// nearest layer first. Tells each key that none of them has, and how many were found and missed. So many workers look for the
 /// keys of each dataset, side by side, and so many read and check the fields ahead of the one that is written; what is answered
 /// doesn't depend on their number. No folder of the store is out, and none is out afterwards: each dataset is opened once, and
-/// given back as soon as it is opened, and nothing is made in the store.
+/// given back as soon as it is opened, and nothing is made in the store. The tables that are answered from are firm then.
 pub fn retrieve_over<
     F: Send + Drop,
     X: Drop,
@@ -64,6 +64,7 @@ where
     ensures unread { ReadsFitly (RetrieveOver root.now layers.now workers) (store_of S.Store store) (source_of I.Source input) }
     ensures notices { Over S.Store store I.Source input K.Sink output E.Sink report
         (Notices (RetrieveOver root.now layers.now workers) result) }
+    ensures firm { AnswersFirmly (RetrieveOver root.now layers.now workers) result (store_of S.Store store) (source_of I.Source input) }
     ensures home { (name : List ℕ) → S.out store.new name ≡ false }
 {
     match prepared(alloc, root.as_str(), layers, store, input) {
@@ -108,6 +109,7 @@ where
         → (result ≡ Done) ⊎ (result ≡ Missed)
         → AnsweredEach (IsLaidAnswer (table_at h)) (laid_of h layers.now octets) result
         (K.taken output.old) (K.taken output.new) (E.taken report.old) (E.taken report.new) }
+    ensures has { S.has store.new ≡ S.has store.old }
     ensures out { S.out store.new ≡ S.out store.old }
 {
     let Ready {

@@ -8,7 +8,7 @@ use Rattle.fd_words.specs.declared.command.Command.TheVariants as commands
 use Rattle.fd_outcome.specs.declared.status.Status.{Status}
 use Rattle.fd_outcome.specs.declared.status.Status.TheVariants.{Done, Missed, OutputFault, NoMemory}
 use Rattle.fd_outcome.specs.Ends.{StoresFields, WhereAsked}
-use Rattle.fd_outcome.specs.Noticing.{IsUnfit, IsUnread, Noticed, Notices, ReadsFitly, SparesDamaged}
+use Rattle.fd_outcome.specs.Noticing.{AnswersFirmly, IsAnswering, IsUnfit, IsUnread, Noticed, Notices, ReadsFitly, SparesDamaged}
 use Rattle.fd_outcome.specs.Objects.{Object, object}
 use Rattle.fd_outcome.specs.Ran.{Ran}
 use Rattle.fd_outcome.specs.Store.{AreNames}
@@ -68,6 +68,10 @@ pub starved_unread : (o : Option Command) (store : Object Holdings) (left : Opti
 starved_unread None store left k = tt
 starved_unread (Some command) store left k = fits command store.before (object left left k k) (λ schema unfit. record { same = refl; calm = refl })
 
+pub starved_firm : (o : Option Command) (s : Status) (store : Object Holdings) (input : Object (List ℕ)) → (s ≡ NoMemory) ⊎ (s ≡ OutputFault) → IfSome o (λ command. IsAnswering command → AnswersFirmly command s store input)
+starved_firm None s store input idle = tt
+starved_firm (Some command) s store input idle = λ answers whole. absurd (never_whole s idle whole)
+
 spares_same : (has : Option Holdings) → WhereTold has has SparesDamaged
 spares_same None = tt
 spares_same (Some h) = λ name damaged. record { files = refl; table = inl refl }
@@ -112,13 +116,13 @@ module _ (F : Type 0) where
 
     pub plain : (command : Command) → IsPlain command → Ran command s store input output report → CommandRan F command s store input output report
     plain (commands.Pick wanted) is ran =
-        record { ran = ran; session = tt; cubes = tt; recorded = tt; notices = silent (commands.Pick wanted) (λ octets h names. tt); unread = never_unfit (commands.Pick wanted) (λ schema unfit. unfit); spares = λ stores. absurd stores; outlasts = tt }
-    plain commands.Describe is ran = record { ran = ran; session = tt; cubes = tt; recorded = tt; notices = silent commands.Describe (λ octets h names. tt); unread = never_unfit commands.Describe (λ schema unfit. unfit); spares = λ stores. absurd stores; outlasts = tt }
-    plain commands.Split is ran = record { ran = ran; session = tt; cubes = tt; recorded = tt; notices = silent commands.Split (λ octets h names. tt); unread = never_unfit commands.Split (λ schema unfit. unfit); spares = λ stores. absurd stores; outlasts = tt }
+        record { ran = ran; session = tt; cubes = tt; recorded = tt; notices = silent (commands.Pick wanted) (λ octets h names. tt); unread = never_unfit (commands.Pick wanted) (λ schema unfit. unfit); spares = λ stores. absurd stores; outlasts = tt; firm = λ answers. absurd answers }
+    plain commands.Describe is ran = record { ran = ran; session = tt; cubes = tt; recorded = tt; notices = silent commands.Describe (λ octets h names. tt); unread = never_unfit commands.Describe (λ schema unfit. unfit); spares = λ stores. absurd stores; outlasts = tt; firm = λ answers. absurd answers }
+    plain commands.Split is ran = record { ran = ran; session = tt; cubes = tt; recorded = tt; notices = silent commands.Split (λ octets h names. tt); unread = never_unfit commands.Split (λ schema unfit. unfit); spares = λ stores. absurd stores; outlasts = tt; firm = λ answers. absurd answers }
     plain (commands.Values decimals) is ran =
-        record { ran = ran; session = tt; cubes = tt; recorded = tt; notices = silent (commands.Values decimals) (λ octets h names. tt); unread = never_unfit (commands.Values decimals) (λ schema unfit. unfit); spares = λ stores. absurd stores; outlasts = tt }
+        record { ran = ran; session = tt; cubes = tt; recorded = tt; notices = silent (commands.Values decimals) (λ octets h names. tt); unread = never_unfit (commands.Values decimals) (λ schema unfit. unfit); spares = λ stores. absurd stores; outlasts = tt; firm = λ answers. absurd answers }
     plain (commands.Generate count) is ran =
-        record { ran = ran; session = tt; cubes = tt; recorded = tt; notices = silent (commands.Generate count) (λ octets h names. tt); unread = never_unfit (commands.Generate count) (λ schema unfit. unfit); spares = λ stores. absurd stores; outlasts = tt }
+        record { ran = ran; session = tt; cubes = tt; recorded = tt; notices = silent (commands.Generate count) (λ octets h names. tt); unread = never_unfit (commands.Generate count) (λ schema unfit. unfit); spares = λ stores. absurd stores; outlasts = tt; firm = λ answers. absurd answers }
     plain (commands.Create root) is ran = absurd is
     plain (commands.Archive root given workers) is ran = absurd is
     plain (commands.Retrieve root workers) is ran = absurd is
@@ -129,23 +133,23 @@ module _ (F : Type 0) where
     plain (commands.Cubes root) is ran = absurd is
     plain (commands.Session root) is ran = absurd is
     plain (commands.Purge root dataset) is ran =
-        record { ran = ran; session = tt; cubes = tt; recorded = tt; notices = silent (commands.Purge root dataset) (λ octets h names. tt); unread = never_unfit (commands.Purge root dataset) (λ schema unfit. unfit); spares = λ stores. absurd stores; outlasts = tt }
+        record { ran = ran; session = tt; cubes = tt; recorded = tt; notices = silent (commands.Purge root dataset) (λ octets h names. tt); unread = never_unfit (commands.Purge root dataset) (λ schema unfit. unfit); spares = λ stores. absurd stores; outlasts = tt; firm = λ answers. absurd answers }
     plain (commands.Wipe root dataset) is ran =
-        record { ran = ran; session = tt; cubes = tt; recorded = tt; notices = silent (commands.Wipe root dataset) (λ octets h names. tt); unread = never_unfit (commands.Wipe root dataset) (λ schema unfit. unfit); spares = λ stores. absurd stores; outlasts = tt }
+        record { ran = ran; session = tt; cubes = tt; recorded = tt; notices = silent (commands.Wipe root dataset) (λ octets h names. tt); unread = never_unfit (commands.Wipe root dataset) (λ schema unfit. unfit); spares = λ stores. absurd stores; outlasts = tt; firm = λ answers. absurd answers }
     plain (commands.Trial root count workers) is ran = absurd is
 
     pub created : (root : List ℕ) → Ran (commands.Create root) s store input output report → ReadsFitly (commands.Create root) store input → CommandRan F (commands.Create root) s store input output report
-    created root ran unread = record { ran = ran; session = tt; cubes = tt; recorded = tt; notices = silent (commands.Create root) (λ octets h names. tt); unread = unread; spares = λ stores. absurd stores; outlasts = tt }
+    created root ran unread = record { ran = ran; session = tt; cubes = tt; recorded = tt; notices = silent (commands.Create root) (λ octets h names. tt); unread = unread; spares = λ stores. absurd stores; outlasts = tt; firm = λ answers. absurd answers }
 
-    pub counted : (root : List ℕ) → Ran (commands.Stats root) s store input output report → Notices (commands.Stats root) s store input output report → CountsRecords s store.before output → CommandRan F (commands.Stats root) s store input output report
-    counted root ran notices recorded = record { ran = ran; session = tt; cubes = tt; recorded = recorded; notices = notices; unread = never_unfit (commands.Stats root) (λ schema unfit. unfit); spares = λ stores. absurd stores; outlasts = tt }
+    pub counted : (root : List ℕ) → Ran (commands.Stats root) s store input output report → Notices (commands.Stats root) s store input output report → CountsRecords s store.before output → AnswersFirmly (commands.Stats root) s store input → CommandRan F (commands.Stats root) s store input output report
+    counted root ran notices recorded firm = record { ran = ran; session = tt; cubes = tt; recorded = recorded; notices = notices; unread = never_unfit (commands.Stats root) (λ schema unfit. unfit); spares = λ stores. absurd stores; outlasts = tt; firm = λ answers. firm }
 
     pub cubed : (root : List ℕ) → CubesRan root s store input output report → CommandRan F (commands.Cubes root) s store input output report
-    cubed root ran = record { ran = cubes_ran root s store input output report ran; session = tt; cubes = ran; recorded = tt; notices = λ whole. tt; unread = ran.unread; spares = λ stores. absurd stores; outlasts = tt }
+    cubed root ran = record { ran = cubes_ran root s store input output report ran; session = tt; cubes = ran; recorded = tt; notices = λ whole. tt; unread = ran.unread; spares = λ stores. absurd stores; outlasts = tt; firm = λ answers. absurd answers }
 
     pub played : (root : List ℕ) → SessionRan F s store input output report → ReadsFitly (commands.Session root) store input → CommandRan F (commands.Session root) s store input output report
-    played root ran unread = record { ran = session_ran F root s store input output report ran; session = ran; cubes = tt; recorded = tt; notices = λ whole. tt; unread = unread; spares = λ stores. ran.spares; outlasts = tt }
+    played root ran unread = record { ran = session_ran F root s store input output report ran; session = ran; cubes = tt; recorded = tt; notices = λ whole. tt; unread = unread; spares = λ stores. ran.spares; outlasts = tt; firm = λ answers. absurd answers }
 
     pub tried : (root : List ℕ) (count workers : ℕ) → Ran (commands.Trial root count workers) s store input output report → OutlastsCrash (commands.Trial root count workers) s store input report
         → Notices (commands.Trial root count workers) s store input output report → WhereTold store.before store.now SparesDamaged → CommandRan F (commands.Trial root count workers) s store input output report
-    tried root count workers ran outlasts notices spares = record { ran = ran; session = tt; cubes = tt; recorded = tt; notices = notices; unread = never_unfit (commands.Trial root count workers) (λ schema unfit. unfit); spares = λ stores. spares; outlasts = outlasts }
+    tried root count workers ran outlasts notices spares = record { ran = ran; session = tt; cubes = tt; recorded = tt; notices = notices; unread = never_unfit (commands.Trial root count workers) (λ schema unfit. unfit); spares = λ stores. spares; outlasts = outlasts; firm = λ answers. absurd answers }

@@ -16,7 +16,7 @@ use Rattle.fd_archive.proofs.Outlasting.{starved_outlasts}
 use Rattle.fd_contents.proofs.CubesDone.{starved_cubes}
 use Rattle.fd_session.proofs.Commands.{starved_session}
 use Rattle.fd_program.specs.Served.{CommandRan, Served}
-use Rattle.fd_program.proofs.Ran.{starved_notices, starved_recorded, starved_spares, starved_unread}
+use Rattle.fd_program.proofs.Ran.{starved_firm, starved_notices, starved_recorded, starved_spares, starved_unread}
 
 -- ---- where a command ran
 
@@ -28,6 +28,7 @@ module _ (F : Type 0) (s : Status) (store : Object Holdings) (input output repor
     complete = completes command s store input output report did.ran;
     store = did.ran.store_is;
     outlasts = did.outlasts;
+    firm = did.firm;
     spares = did.spares;
     notices = did.notices;
     unread = did.unread;
@@ -69,6 +70,7 @@ module _ (F : Type 0) (result : Status) (has : Option Holdings) (k : ℕ) (left 
     complete = λ calm_input calm_output calm_report calm_store. tt;
     store = same_store has;
     outlasts = tt;
+    firm = tt;
     spares = tt;
     notices = tt;
     unread = tt;
@@ -94,6 +96,7 @@ module _ (F : Type 0) (result : Status) (has : Option Holdings) (k : ℕ) (left 
     complete = starved_complete result has k k left l l taken o o c d m n told asked;
     store = starved_store result has k k left l l taken o o c d m n told asked;
     outlasts = starved_outlasts result has k k left l l c d m n told asked;
+    firm = starved_firm asked result (object has has k k) (object left left l l) (is_idle result c d m n told);
     spares = starved_spares asked has;
     notices = starved_notices asked result (object has has k k) (object left left l l) (object taken taken o o) (object c d m n) (is_idle result c d m n told);
     unread = starved_unread asked (object has has k k) left l;

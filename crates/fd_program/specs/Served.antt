@@ -9,7 +9,7 @@ use Rattle.fd_outcome.specs.declared.status.Status.TheVariants.{Done, Missed, Wo
 use Rattle.fd_outcome.specs.Causes.{table_full}
 use Rattle.fd_outcome.specs.Codes.{code_of}
 use Rattle.fd_outcome.specs.Ends.{Runs, EndsUnasked, ReadsOut, StoresFields, Calm, Completes, Leaves}
-use Rattle.fd_outcome.specs.Noticing.{Notices, ReadsFitly, SparesDamaged}
+use Rattle.fd_outcome.specs.Noticing.{AnswersFirmly, IsAnswering, Notices, ReadsFitly, SparesDamaged}
 use Rattle.fd_outcome.specs.Objects.{Failed, Object}
 use Rattle.fd_outcome.specs.Ran.{Ran}
 use Rattle.fd_archive.specs.Crashing.{OutlastsCrash}
@@ -22,6 +22,7 @@ pub record CommandRan (F : Type 0) (command : Command) (s : Status) (store : Obj
     (input output report : Object (List ℕ)) : Type 0 where
   pub ran : Ran command s store input output report
   pub outlasts : OutlastsCrash command s store input report
+  pub firm : IsAnswering command → AnswersFirmly command s store input
   pub spares : StoresFields command → WhereTold store.before store.now SparesDamaged
   pub notices : Notices command s store input output report
   pub unread : ReadsFitly command store input
@@ -47,6 +48,8 @@ pub record Served (F : Type 0) (asked : Option Command) (s : Status) (kept : Obj
   -- What an archive or a trial tells to be stored outlasts a crash: each store that it may leave has it. And whatever is told, each
   -- dataset holds there what it held, and behind it few batches of the messages alone.
   pub outlasts : IfSome asked (λ command. OutlastsCrash command s kept read told)
+  -- What a command that reads told outlasts a crash: at 0 and 1 each dataset that it opened has a firm table, or none.
+  pub firm : IfSome asked (λ command. IsAnswering command → AnswersFirmly command s kept read)
   -- A dataset that is damaged so has its files after a command that stores fields, and its table as it was, or synced.
   pub spares : IfSome asked (λ command. StoresFields command → WhereTold kept.before kept.now SparesDamaged)
   -- At 0 and 1, also where a dataset that it opens is damaged: of none of them the table is none, or a file absent or too short, or an

@@ -1,5 +1,6 @@
 pub mod Staying
 pub mod Looking
+pub mod Firmly
 pub mod TableLemmas
 pub mod Distinct
 pub mod OpenLemmas

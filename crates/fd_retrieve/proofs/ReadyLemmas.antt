@@ -135,7 +135,7 @@ among_contained (x ∷ xs) d (suc k, lt, e) = or_true (bytes_eq d x) (is_among x
     or_true false b q = q
 
 module _ (h : Holdings) where
-  among_found : (ds : List (List ℕ)) (d : List ℕ) → is_among ds d ≡ true → has_table h d ≡ true → is_among (filter (has_table h) ds) d ≡ true
+  pub among_found : (ds : List (List ℕ)) (d : List ℕ) → is_among ds d ≡ true → has_table h d ≡ true → is_among (filter (has_table h) ds) d ≡ true
   among_found [] d is has = absurd cc
   among_found (x ∷ xs) d is has = elim (is_or_not (bytes_eq d x)) [
     | inl same ↦
@@ -171,10 +171,10 @@ module _ (h : Holdings) where
   among_one : (os : List Open) (o : Open) (n : List ℕ) → is_among (names_of (os ++ o ∷ [])) n ≡ (is_among (names_of os) n || (bytes_eq n o.name || false))
   among_one os o n = ap (λ l. is_among l n) (map-append (λ (x : Open). x.name) os (o ∷ [])) ∙ list_any-append (λ m. bytes_eq n m) (names_of os) (o.name ∷ [])
 
-  among_last : (ns : List (List ℕ)) (m n : List ℕ) → is_among (ns ++ m ∷ []) n ≡ (is_among ns n || (bytes_eq n m || false))
+  pub among_last : (ns : List (List ℕ)) (m n : List ℕ) → is_among (ns ++ m ∷ []) n ≡ (is_among ns n || (bytes_eq n m || false))
   among_last ns m n = list_any-append (λ k. bytes_eq n k) ns (m ∷ [])
 
-  or_either : (a b : Bool) → (a || (b || false)) ≡ true → (a ≡ true) ⊎ (b ≡ true)
+  pub or_either : (a b : Bool) → (a || (b || false)) ≡ true → (a ≡ true) ⊎ (b ≡ true)
   or_either true b e = inl refl
   or_either false true e = inr refl
   or_either false false e = absurd cc

@@ -7,6 +7,7 @@ use Rattle.fd_request.specs.Expansion.{Keyword, expand}
 use Rattle.fd_outcome.specs.Asking.{Asked, answers, asked_of, is_among, placed, request_in, rules_of, ◌then◌}
 use Rattle.fd_outcome.specs.Causes.{Cause}
 use Rattle.fd_outcome.specs.Store.{Stands, has_table, table_at}
+use Rattle.fd_recovery.specs.Crashing.{IsFirmTable}
 use Rattle.fd_recovery.specs.Recovered.{IsUndamaged}
 use Rattle.fd_recovery.specs.declared.fault.OpenFault.{OpenFault}
 use Rattle.fd_recovery.specs.declared.fault.OpenFault.TheVariants as faults
@@ -40,6 +41,10 @@ pub record AreOpen (h : Holdings) (names : List (List ℕ)) (os : List Open) : T
 -- none of these datasets is damaged, as far as an opening looks
 abbrev pub NoneIsDamaged : Holdings → List (List ℕ) → Type 0
 NoneIsDamaged h names = (n : List ℕ) → is_among names n ≡ true → IsUndamaged n (folder_at h n)
+
+-- each of these datasets has a firm table, or none
+abbrev pub AreFirmOf : Holdings → List (List ℕ) → Type 0
+AreFirmOf i names = (n : List ℕ) → is_among names n ≡ true → IsFirmTable (folder_at i n).table
 
 -- this is broken in the dataset of this name; or want of memory
 abbrev pub IsBrokenAs : {F : Type 0} → List ℕ → Broken → Stop F → Type 0

@@ -5,6 +5,7 @@ ghost use Rattle.fd_entries.specs.declared.table.Entry.{Entry};
 ghost use Rattle.fd_entries.specs.Table.{listed};
 ghost use Rattle.fd_segment.specs.Shared.{AreOf, standings};
 ghost use Rattle.fd_recovery.specs.Causes.{NotTooMany, OnDamaged, OnNotATable};
+ghost use Rattle.fd_recovery.specs.Crashing.{IsFirmTable};
 ghost use Rattle.fd_recovery.specs.Damages.{IsFirst, damages};
 ghost use Rattle.fd_recovery.specs.Recovered.{IsUndamaged, WithTable};
 ghost use Rattle.fd_outcome.specs.Store.{StaysFolder, Stays, has_table};
@@ -20,7 +21,8 @@ use fd_segment::Segment;
 use std::alloc::Global;
 use std::sync::Arc;
 
-/// Opens a dataset of the store, whose folder isn't out, and gives it back; `None` exactly where there is no table.
+/// Opens a dataset of the store, whose folder isn't out, and gives it back; `None` exactly where there is no table. The table of one
+/// that was opened is firm then.
 pub fn open<F: Send, S: Store<F>>(
     alloc: Global,
     store: &mut S,
@@ -31,6 +33,7 @@ where
     ensures opened { IfOk result (λ o. IfSome o (λ r. (r.name ≡ name.now) × IfSome (S.has store.old) (λ h. IsOpenIn h r))) }
     ensures none { IfOk result (λ o. IfSome (S.has store.old) (λ h. is_some o ≡ has_table h name.now)) }
     ensures undamaged { IfOk result (λ o. IfSome (S.has store.old) (λ h. IsUndamaged name.now (folder_at h name.now))) }
+    ensures firm { IfOk result (λ o. IfSome (S.has store.new) (λ i. IsFirmTable (folder_at i name.now).table)) }
     ensures broken { IfErr result (λ e. IfSome (S.has store.old) (λ h. StandsAsSaid name.now (folder_at h name.now) e)) }
     ensures never { IfErr result NotTooMany }
     ensures stays { WhereTold (S.has store.old) (S.has store.new) Stays }
@@ -49,7 +52,7 @@ where
 }
 
 /// Opens the dataset of a folder, whose table isn't out, and gives the table back.
-#[tactic(auto, using(crate::proofs::Undamaged::undamaged))]
+#[tactic(auto, using(crate::proofs::Undamaged::undamaged, crate::proofs::Firmly::bare))]
 fn open_in<F: Send, D: Folder<F>>(
     alloc: Global,
     folder: &mut D,
@@ -61,6 +64,7 @@ where
     ensures opened { IfOk result (λ o. IfSome o (λ r. (r.name ≡ name.now) × IfSome (D.has folder.old) (λ v. IsOpenOf v r))) }
     ensures none { IfOk result (λ o. IfSome (D.has folder.old) (λ v. is_some o ≡ is_some v.table)) }
     ensures undamaged { IfOk result (λ o. IfSome (D.has folder.old) (λ v. IsUndamaged name.now v)) }
+    ensures firm { IfOk result (λ o. IfSome (D.has folder.new) (λ w. IsFirmTable w.table)) }
     ensures broken { IfErr result (λ e. IfSome (D.has folder.old) (λ v. StandsAsSaid name.now v e)) }
     ensures never { IfErr result NotTooMany }
     ensures stays { IfSome (D.has folder.old) (λ v. IfSome (D.has folder.new) (λ w. StaysFolder name.now v w)) }

@@ -4,6 +4,7 @@ ghost use Rattle.fd_bytes.specs.Causes.{Rose};
 ghost use Rattle.fd_disk.specs.Folders.{WhereTold, folder_at};
 ghost use Rattle.fd_schema.specs.Seen.{texts};
 ghost use Rattle.fd_recovery.specs.Causes.{NotTooMany};
+ghost use Rattle.fd_recovery.specs.Crashing.{IsFirmTable};
 ghost use Rattle.fd_recovery.specs.Recovered.{IsUndamaged};
 ghost use Rattle.fd_request.specs.Expansion.{expand};
 ghost use Rattle.fd_outcome.specs.Asking.{asked_of, rules_of};
@@ -12,7 +13,8 @@ ghost use Rattle.fd_outcome.specs.Noticing.{IsUnread};
 ghost use Rattle.fd_outcome.specs.Store.{Stays};
 ghost use Rattle.fd_objects.specs.Given.{source_of};
 ghost use Rattle.fd_retrieve.specs.Looking.{IsLookedThrough};
-ghost use Rattle.fd_retrieve.specs.Ready.{AreOpen, NoneIsDamaged, IsBrokenOf, IsReady, IsUnopened, MayOpen, asked_at, placed_of};
+ghost use Rattle.fd_retrieve.specs.Ready.{AreFirmOf, AreOpen, NoneIsDamaged, IsBrokenOf, IsReady, IsUnopened, MayOpen, asked_at, placed_of};
+ghost use Rattle.fd_retrieve.specs.Tables.{datasets_in};
 ghost use Rattle.fd_telling.specs.Stops.{IsOfRequest, IsRefused, OfDataset, OnInput, OnRefusal, Says};
 
 use crate::asking::{places_of, request_of};
@@ -47,6 +49,7 @@ where
     requires home { (n : List ℕ) → S.out store.old n ≡ false }
     ensures prepared { IfOk result (λ r. IfSome (S.has store.old)
         (λ h. IfSome (I.left input.old) (λ octets. IsReady h octets r.request r.places.items r.opened.items))) }
+    ensures firm { IfOk result (λ r. IfSome (S.has store.new) (λ i. AreFirmOf i (datasets_in r.places.items))) }
     ensures count { IfOk result (λ r. length r.places.items ≡ length (expand r.request)) }
     ensures read { OnOk result (IfSome (I.left input.old) (λ octets. I.left input.new ≡ Some [])) }
     ensures unread { IfSome (S.has store.old) (λ h. IsErr (rules_of h.schema) → IsUnread (source_of I.Source input)) }
@@ -127,6 +130,7 @@ where
     requires home { (n : List ℕ) → S.out store.old n ≡ false }
     ensures opened { IfOk result (λ v. IfSome (S.has store.old) (λ h. AreOpen h (texts names.now) v.items)) }
     ensures undamaged { IfOk result (λ v. IfSome (S.has store.old) (λ h. NoneIsDamaged h (texts names.now))) }
+    ensures firm { IfOk result (λ v. IfSome (S.has store.new) (λ i. AreFirmOf i (texts names.now))) }
     ensures broken { IfErr result (λ e. IfSome (S.has store.old) (λ h. IsBrokenOf e h (texts names.now))) }
     ensures of { IfErr result OfDataset }
     ensures stays { WhereTold (S.has store.old) (S.has store.new) Stays }
@@ -155,6 +159,7 @@ where
     requires home { (n : List ℕ) → S.out store.old n ≡ false }
     ensures opened { OnOk result (IfSome (S.has store.old) (λ h. MayOpen h opened.old.items name.now opened.new.items)) }
     ensures undamaged { OnOk result (IfSome (S.has store.old) (λ h. IsUndamaged name.now (folder_at h name.now))) }
+    ensures firm { OnOk result (IfSome (S.has store.new) (λ i. IsFirmTable (folder_at i name.now).table)) }
     ensures broken { IfErr result (λ e. IfSome (S.has store.old) (λ h. IsBrokenOf e h (name.now ∷ []))) }
     ensures of { IfErr result OfDataset }
     ensures stays { WhereTold (S.has store.old) (S.has store.new) Stays }

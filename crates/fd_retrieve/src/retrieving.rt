@@ -5,7 +5,7 @@ ghost use Rattle.fd_request.specs.Expansion.{expand};
 ghost use Rattle.fd_words.specs.declared.command.Command.TheVariants.{Retrieve};
 ghost use Rattle.fd_outcome.specs.Causes.{BadFile, damaged_line};
 ghost use Rattle.fd_outcome.specs.Ends.{Tells};
-ghost use Rattle.fd_outcome.specs.Noticing.{AnsweredEach, IsAnswer, Notices, ReadsFitly};
+ghost use Rattle.fd_outcome.specs.Noticing.{AnsweredEach, AnswersFirmly, IsAnswer, Notices, ReadsFitly};
 ghost use Rattle.fd_outcome.specs.Objects.{Object};
 ghost use Rattle.fd_outcome.specs.Ran.{Ran};
 ghost use Rattle.fd_outcome.specs.Told.{ToldOrNoMemory};
@@ -42,7 +42,7 @@ use std::thread::Threads;
 /// that has none, and how many were found and missed. So many workers look for the keys of each dataset, side by side, and
 /// so many read and check the fields ahead of the one that is written; what is answered doesn't depend on their number. No
 /// folder of the store is out, and none is out afterwards: each dataset is given back as soon as it is opened, and nothing
-/// is made in the store.
+/// is made in the store. The tables that are answered from are firm then, so what was answered outlasts a crash.
 pub fn retrieve<
     F: Send + Drop,
     X: Drop,
@@ -69,6 +69,7 @@ where
     ensures ran { Over S.Store store I.Source input K.Sink output E.Sink report (Ran (Retrieve root.now workers) result) }
     ensures unread { ReadsFitly (Retrieve root.now workers) (store_of S.Store store) (source_of I.Source input) }
     ensures notices { Over S.Store store I.Source input K.Sink output E.Sink report (Notices (Retrieve root.now workers) result) }
+    ensures firm { AnswersFirmly (Retrieve root.now workers) result (store_of S.Store store) (source_of I.Source input) }
     ensures home { (name : List ℕ) → S.out store.new name ≡ false }
 {
     match prepared(alloc, root.as_str(), store, input) {
@@ -109,6 +110,7 @@ where
         → (result ≡ Done) ⊎ (result ≡ Missed)
         → AnsweredEach (IsAnswer (table_at h)) (asked_of h octets) result
         (K.taken output.old) (K.taken output.new) (E.taken report.old) (E.taken report.new) }
+    ensures has { S.has store.new ≡ S.has store.old }
     ensures out { S.out store.new ≡ S.out store.old }
 {
     let Ready {
@@ -159,6 +161,7 @@ where
     ensures told { (result ≡ Done) ⊎ (result ≡ Missed)
         → IfOk located (λ v. (xs : List Answer) → AreAt opened.now (expand request.now) xs v.items
         → Tells result (outcomes.answered xs) (K.taken output.old) (K.taken output.new) (E.taken report.old) (E.taken report.new)) }
+    ensures has { S.has store.new ≡ S.has store.old }
     ensures out { S.out store.new ≡ S.out store.old }
 {
     let located = match located {

@@ -9,11 +9,15 @@ use Rattle.fd_schema.specs.Grammar.{schema_of}
 use Rattle.fd_schema.specs.Rules.{Rule}
 use Rattle.fd_purge.specs.Purging.{read_of}
 pub use Rattle.fd_recovery.specs.Crashing.{AreFirm, IsAfterCrash, IsFolderAfter}
+use Rattle.fd_words.specs.declared.command.Command.{Command}
+use Rattle.fd_outcome.specs.declared.status.Status.{Status}
+use Rattle.fd_outcome.specs.declared.status.Status.TheVariants.{Done, Missed}
 use Rattle.fd_outcome.specs.Causes.{Cause}
+use Rattle.fd_outcome.specs.Ends.{Opens, WhereAsked}
 use Rattle.fd_outcome.specs.Archiving.{pairs_for, taken}
 use Rattle.fd_outcome.specs.Outcome.{generated_messages}
 use Rattle.fd_outcome.specs.Trying.{trial_given, trial_schema}
-use Rattle.fd_outcome.specs.Store.{Adds, Sorted, table_at}
+use Rattle.fd_outcome.specs.Store.{Adds, AreNames, Sorted, table_at}
 
 -- each store that a crash may leave of the later one is so
 abbrev pub EachLeft : (Holdings → Holdings → Type 0) → Holdings → Holdings → Type 0
@@ -45,6 +49,14 @@ FoundTried workers count (Err cause) h j = IsAfterCrash h j
 pub record FoundCreated (octets : List ℕ) (h j : Holdings) : Type 0 where
   pub schema : (j.schema ≡ h.schema) ⊎ ((h.schema ≡ None) × (j.schema ≡ Some octets) × IsOk (schema_of octets))
   pub folders : (name : List ℕ) → IsFolderAfter (folder_at h name) (folder_at j name)
+
+-- each dataset that the command opened holds what it held
+abbrev pub HasAnswered : Command → List ℕ → Holdings → Holdings → Type 0
+HasAnswered command input h j = (names : List (List ℕ)) → AreNames h names → (name : List ℕ) → Opens command h names input name → table_at j name ≡ table_at h name
+
+-- Where a command that reads ended with 0 or 1, what it answered from outlasts a crash.
+abbrev pub AnswersLast : Command → Status → Option (List ℕ) → Option Holdings → Option Holdings → Type 0
+AnswersLast command s input a b = (s ≡ Done) ⊎ (s ≡ Missed) → WhereAsked command input a b (λ octets h i. EachLeft (HasAnswered command octets) h i)
 
 -- What is found where one dataset was purged or wiped: the schema, and of each other dataset what a crash before may have left.
 -- Of this one it is that, or what the purge or the wipe leaves at a moment of it.

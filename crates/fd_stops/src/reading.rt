@@ -1,8 +1,9 @@
 // The commands that only read, until the store stops. What they do is nothing that a crash may find.
-ghost use Rattle.std.specs.Prelude.{◌≡◌, ◌≤◌, false, List, ℕ};
+ghost use Rattle.std.specs.Prelude.{◌≡◌, ◌≤◌, None, false, List, ℕ};
 ghost use Rattle.fd_disk.specs.Folders.{WhereTold};
 ghost use Rattle.fd_words.specs.Words.{AreLayers};
-ghost use Rattle.fd_stops.specs.Found.{EachLeft, IsAfterCrash};
+ghost use Rattle.fd_words.specs.declared.command.Command.TheVariants as commands;
+ghost use Rattle.fd_stops.specs.Found.{AnswersLast, EachLeft, IsAfterCrash};
 
 use fd_contents::{axes, cubes, list, stats};
 use fd_disk::Store;
@@ -18,7 +19,7 @@ use std::thread::Threads;
 
 /// Looks for fields in a store that passes so many calls on and fails all later ones. Whatever their number is, and whatever
 /// is told, each store that a crash may leave then of the one below is one that a crash before may have left: its schema, each
-/// dataset's files, and an image of each table.
+/// dataset's files, and an image of each table. At 0 and 1 each dataset that was looked into holds there what it held.
 pub fn retrieve_until<
     F: Send + Drop,
     X: Drop,
@@ -43,6 +44,7 @@ where
     requires workers { (1 ≤ workers) × (workers ≤ 8) }
     requires home { (name : List ℕ) → S.out store.old.inner name ≡ false }
     ensures before { WhereTold (S.has store.old.inner) (S.has store.new.inner) (EachLeft IsAfterCrash) }
+    ensures answered { AnswersLast (commands.Retrieve root.now workers) result (I.left input.old) (S.has store.old.inner) (S.has store.new.inner) }
     ensures home { (name : List ℕ) → S.out store.new.inner name ≡ false }
 {
     retrieve::<StopFault<F>, X, Stopped<S>, I, K, E, G, R>(
@@ -77,6 +79,7 @@ where
     requires layers { AreLayers layers.now }
     requires home { (name : List ℕ) → S.out store.old.inner name ≡ false }
     ensures before { WhereTold (S.has store.old.inner) (S.has store.new.inner) (EachLeft IsAfterCrash) }
+    ensures answered { AnswersLast (commands.RetrieveOver root.now layers.now workers) result (I.left input.old) (S.has store.old.inner) (S.has store.new.inner) }
     ensures home { (name : List ℕ) → S.out store.new.inner name ≡ false }
 {
     retrieve_over::<StopFault<F>, X, Stopped<S>, I, K, E, G, R>(
@@ -96,6 +99,7 @@ pub fn list_until<F: Send + Drop, X: Drop, S: Store<F>, I: Source<X>, K: Sink<X>
 where
     requires home { (name : List ℕ) → S.out store.old.inner name ≡ false }
     ensures before { WhereTold (S.has store.old.inner) (S.has store.new.inner) (EachLeft IsAfterCrash) }
+    ensures answered { AnswersLast (commands.List root.now) result (I.left input.old) (S.has store.old.inner) (S.has store.new.inner) }
     ensures home { (name : List ℕ) → S.out store.new.inner name ≡ false }
 {
     list::<StopFault<F>, X, Stopped<S>, I, K, E>(alloc, root, store, input, output, report)
@@ -113,6 +117,7 @@ pub fn axes_until<F: Send + Drop, X: Drop, S: Store<F>, I: Source<X>, K: Sink<X>
 where
     requires home { (name : List ℕ) → S.out store.old.inner name ≡ false }
     ensures before { WhereTold (S.has store.old.inner) (S.has store.new.inner) (EachLeft IsAfterCrash) }
+    ensures answered { AnswersLast (commands.Axes root.now) result (I.left input.old) (S.has store.old.inner) (S.has store.new.inner) }
     ensures home { (name : List ℕ) → S.out store.new.inner name ≡ false }
 {
     axes::<StopFault<F>, X, Stopped<S>, I, K, E>(alloc, root, store, input, output, report)
@@ -146,6 +151,7 @@ pub fn stats_until<F: Send + Drop, X: Drop, S: Store<F>, K: Sink<X>, E: Sink<X>>
 where
     requires home { (name : List ℕ) → S.out store.old.inner name ≡ false }
     ensures before { WhereTold (S.has store.old.inner) (S.has store.new.inner) (EachLeft IsAfterCrash) }
+    ensures answered { AnswersLast (commands.Stats root.now) result None (S.has store.old.inner) (S.has store.new.inner) }
     ensures home { (name : List ℕ) → S.out store.new.inner name ≡ false }
 {
     stats::<StopFault<F>, X, Stopped<S>, K, E>(alloc, root, store, output, report)

@@ -8,6 +8,7 @@ use Rattle.fd_retrieve.proofs.Looking.{looked_unmoved}
 use Rattle.fd_telling.proofs.StopLemmas.{later_disk}
 use Rattle.fd_contents.specs.Asked.{Refuses, asked_in}
 use Rattle.fd_contents.proofs.Exits.{both_at, list_opens, list_prints, list_refused, stopped}
+use Rattle.fd_contents.proofs.Firmly.{list_firm}
 use Rattle.fd_contents.proofs.Noticed.{list_notices, list_records}
 use Rattle.fd_contents.proofs.Whole.{stop_whole}
 use Rattle.fd_contents.proofs.Partial.{refuses_more}
@@ -59,3 +60,12 @@ returns-in-Ok-clause-recorded g c =
 
 pub returns-in-Err-clause-recorded : goal.returns-in-Err-clause-recorded
 returns-in-Err-clause-recorded g c = λ done. stop_whole _ c.tell_stop.result (g.E.Sink.taken c.args.report.now) (g.E.Sink.taken c.tell_stop.new.report) (g.E.Sink.faults c.args.report.now) (g.E.Sink.faults c.tell_stop.new.report) c.in-Err.stop c.tell_stop.ensures.told (inl done)
+
+pub returns-in-Ok-clause-firm : goal.returns-in-Ok-clause-firm
+returns-in-Ok-clause-firm g c =
+    list_firm c.args.root.now c.printed.result (object (g.S.Store.has c.args.store.now) (g.S.Store.has c.printed.new.store) (g.S.Store.faults c.args.store.now) (g.S.Store.faults c.printed.new.store))
+    (g.S.Store.has c.partial.new.store) c.in-Ok.ensures.has c.printed.ensures.firm
+    (object (g.I.Source.left c.args.input.now) (g.I.Source.left c.partial.new.input) (g.I.Source.faults c.args.input.now) (g.I.Source.faults c.partial.new.input))
+
+pub returns-in-Err-clause-firm : goal.returns-in-Err-clause-firm
+returns-in-Err-clause-firm g c = λ whole. stop_whole _ c.tell_stop.result (g.E.Sink.taken c.args.report.now) (g.E.Sink.taken c.tell_stop.new.report) (g.E.Sink.faults c.args.report.now) (g.E.Sink.faults c.tell_stop.new.report) c.in-Err.stop c.tell_stop.ensures.told whole

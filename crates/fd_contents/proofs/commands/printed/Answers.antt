@@ -50,3 +50,14 @@ returns-in-Err-Unwritten-clause-whole g c = λ whole.
 
 pub returns-clause-whole : goal.returns-clause-whole
 returns-clause-whole g c = λ whole. stop_whole _ c.tell_stop.result (g.E.Sink.taken c.args.report.now) (g.E.Sink.taken c.tell_stop.new.report) (g.E.Sink.faults c.args.report.now) (g.E.Sink.faults c.tell_stop.new.report) c.in-Err-Stop.stop c.tell_stop.ensures.told whole
+
+pub returns-in-Ok-clause-firm : goal.returns-in-Ok-clause-firm
+returns-in-Ok-clause-firm g c = λ whole. c.in-Ok.ensures.firm
+
+pub returns-in-Err-Unwritten-clause-firm : goal.returns-in-Err-Unwritten-clause-firm
+returns-in-Err-Unwritten-clause-firm g c = λ whole.
+    told_whole _ c.tell_output_failed.result (g.E.Sink.taken c.args.report.now) (g.E.Sink.taken c.tell_output_failed.new.report) (g.E.Sink.faults c.args.report.now) (g.E.Sink.faults c.tell_output_failed.new.report)
+    OutputFault output_failed refl c.tell_output_failed.ensures whole
+
+pub returns-clause-firm : goal.returns-clause-firm
+returns-clause-firm g c = λ whole. stop_whole _ c.tell_stop.result (g.E.Sink.taken c.args.report.now) (g.E.Sink.taken c.tell_stop.new.report) (g.E.Sink.faults c.args.report.now) (g.E.Sink.faults c.tell_stop.new.report) c.in-Err-Stop.stop c.tell_stop.ensures.told whole

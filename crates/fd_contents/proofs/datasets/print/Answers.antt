@@ -3,6 +3,8 @@ use Rattle.fd_io.specs.Streams.{TakesFront}
 use Rattle.fd_schema.specs.Seen.{texts}
 use Rattle.fd_contents.specs.Printed.{ArePrinted}
 use Rattle.fd_contents.specs.Texts.{texts_for}
+use Rattle.fd_retrieve.specs.Ready.{AreFirmOf}
+use Rattle.fd_contents.proofs.Firmly.{told_any}
 use Rattle.fd_contents.proofs.Names.{named_lines, of_names}
 use Rattle.fd_contents.proofs.datasets.print.Goals as goal
 
@@ -27,3 +29,10 @@ returns-clause-front g c =
     let here = subst (λ o. IfSome o (λ h. (text : List ℕ) → texts_for l h (texts c.in-Ok.names.items) ≡ Some text → R text)) c.names.ensures.has own in
     named_lines has (λ h names text. texts_for l h names ≡ Some text) R
     (of_names has c.in-Ok.names.items (g.S.Store.out c.args.store.now) (λ h names. (text : List ℕ) → texts_for l h names ≡ Some text → R text) c.requires.home c.in-Ok.ensures.sorted c.in-Ok.ensures.each here)
+
+pub returns-in-Ok-print_each-clause-firm : goal.returns-in-Ok-print_each-clause-firm
+returns-in-Ok-print_each-clause-firm g c =
+    let has = g.S.Store.has c.args.store.now in
+    let new = g.S.Store.has c.print_each.new.store in
+    let own = subst (λ ns. IfSome new (λ i. AreFirmOf i (texts ns))) c.deref.ensures.value c.in-Ok-print_each.ensures.firm in
+    of_names has c.in-Ok.names.items (g.S.Store.out c.args.store.now) (λ h names. IfSome new (λ i. AreFirmOf i names)) c.requires.home c.in-Ok.ensures.sorted c.in-Ok.ensures.each (told_any has (IfSome new (λ i. AreFirmOf i (texts c.in-Ok.names.items))) own)

@@ -2,7 +2,10 @@ use Rattle.std.proofs.Common.{rules, ◌≡◌, ◌∙◌, ◌+◌, ◌∷◌, [
 use Rattle.std.proofs.lemmas.List.{length-map}
 use Rattle.fd_io.specs.Streams.{TakesFront}
 use Rattle.fd_schema.specs.Seen.{texts}
-use Rattle.fd_retrieve.specs.Ready.{IsBrokenOf}
+use Rattle.fd_disk.specs.Folders.{folder_at}
+use Rattle.fd_recovery.specs.Crashing.{IsFirmTable}
+use Rattle.fd_retrieve.specs.Ready.{AreFirmOf, IsBrokenOf}
+use Rattle.fd_retrieve.proofs.Firmly.{firm_told_more}
 use Rattle.fd_retrieve.proofs.PrepareLemmas.{among_one_of, broken_told, take_end, take_more}
 use Rattle.fd_retrieve.proofs.Looking.{looked_both}
 use Rattle.fd_contents.specs.Printed.{IsPrinted}
@@ -44,6 +47,9 @@ loop-i-preserved g c =
           (one_more c.args.lines.now (g.S.Store.has c.args.store.now) (g.S.Store.has c.loop-i.store) (take c.loop-i.i (texts c.args.names.now)) (string_bytes c.index-names-i.result) (g.K.Sink.taken c.args.output.now) (g.K.Sink.taken c.loop-i.output) (g.K.Sink.taken c.print_one.new.output)
           c.loop-i.invariant.looks c.loop-i.invariant.printed
           (subst (λ n. IfSome (g.S.Store.has c.loop-i.store) (λ h. IsPrinted c.args.lines.now h n (g.K.Sink.taken c.loop-i.output) (g.K.Sink.taken c.print_one.new.output))) text c.in-Ok.ensures.printed));
+      firm = subst (λ l. IfSome (g.S.Store.has c.print_one.new.store) (λ i. AreFirmOf i l)) (sym more)
+          (firm_told_more (g.S.Store.has c.loop-i.store) (g.S.Store.has c.print_one.new.store) (take c.loop-i.i (texts c.args.names.now)) (string_bytes c.index-names-i.result) c.print_one.ensures.looks c.loop-i.invariant.firm
+          (subst (λ n. IfSome (g.S.Store.has c.print_one.new.store) (λ i. IsFirmTable (folder_at i n).table)) text c.in-Ok.ensures.firm));
       calm = c.in-Ok.ensures.calm ∙ c.loop-i.invariant.calm;
       later = omega (arith, later, before);
     }
@@ -52,3 +58,8 @@ pub returns-clause-printed : goal.returns-clause-printed
 returns-clause-printed g c =
     let long = length-map c.args.names.now string_bytes in
     subst (λ l. Printed c.args.lines.now (g.S.Store.has c.args.store.now) l (g.K.Sink.taken c.args.output.now) (g.K.Sink.taken c.loop-i.output)) (take_end (texts c.args.names.now) c.loop-i.i (omega (arith, long, c.loop-i-test.false))) c.loop-i.invariant.printed
+
+pub returns-clause-firm : goal.returns-clause-firm
+returns-clause-firm g c =
+    let long = length-map c.args.names.now string_bytes in
+    subst (λ l. IfSome (g.S.Store.has c.loop-i.store) (λ i. AreFirmOf i l)) (take_end (texts c.args.names.now) c.loop-i.i (omega (arith, long, c.loop-i-test.false))) c.loop-i.invariant.firm

@@ -24,3 +24,9 @@ returns-clause-front g c =
     let o = c.in-Ok-Some.opened in
     let opened : (o.name ≡ c.args.name.now) × IfSome (g.S.Store.has c.args.store.now) (λ h. IsOpenIn h o) = search rules in
     front_at_open c.args.lines.now (g.S.Store.has c.args.store.now) o c.args.name.now (g.K.Sink.taken c.args.output.now) (g.K.Sink.taken c.write_lines.new.sink) opened.0 opened.1 c.in-Err-write_lines.ensures.front
+
+pub returns-in-Ok-None-clause-firm : goal.returns-in-Ok-None-clause-firm
+returns-in-Ok-None-clause-firm g c = c.in-Ok-None.ensures.firm
+
+pub returns-in-Ok-clause-firm : goal.returns-in-Ok-clause-firm
+returns-in-Ok-clause-firm g c = c.in-Ok-Some.ensures.firm

@@ -20,22 +20,22 @@ pub returns-in-Create-clause-did : goal.returns-in-Create-clause-did
 returns-in-Create-clause-did g c = did_by _ _ _ _ _ _ _ _ c.in-Create.is (created _ _ _ _ _ _ _ (c.create.ensures.ran _ _) c.create.ensures.unread)
 
 pub returns-in-Archive-clause-did : goal.returns-in-Archive-clause-did
-returns-in-Archive-clause-did g c = did_by _ _ _ _ _ _ _ _ c.in-Archive.is (record { ran = c.archive.ensures.ran _ _; session = tt; cubes = tt; recorded = tt; notices = c.archive.ensures.notices (g.K.Sink.taken c.args.output.now) (g.K.Sink.faults c.args.output.now); unread = c.archive.ensures.unread; spares = λ stores. c.archive.ensures.spares; outlasts = c.archive.ensures.outlasts })
+returns-in-Archive-clause-did g c = did_by _ _ _ _ _ _ _ _ c.in-Archive.is (record { ran = c.archive.ensures.ran _ _; session = tt; cubes = tt; recorded = tt; notices = c.archive.ensures.notices (g.K.Sink.taken c.args.output.now) (g.K.Sink.faults c.args.output.now); unread = c.archive.ensures.unread; spares = λ stores. c.archive.ensures.spares; outlasts = c.archive.ensures.outlasts; firm = λ answers. absurd answers })
 
 pub returns-in-Retrieve-clause-did : goal.returns-in-Retrieve-clause-did
-returns-in-Retrieve-clause-did g c = did_by _ _ _ _ _ _ _ _ c.in-Retrieve.is (record { ran = c.retrieve.ensures.ran; session = tt; cubes = tt; recorded = tt; notices = c.retrieve.ensures.notices; unread = c.retrieve.ensures.unread; spares = λ stores. absurd stores; outlasts = tt })
+returns-in-Retrieve-clause-did g c = did_by _ _ _ _ _ _ _ _ c.in-Retrieve.is (record { ran = c.retrieve.ensures.ran; session = tt; cubes = tt; recorded = tt; notices = c.retrieve.ensures.notices; unread = c.retrieve.ensures.unread; spares = λ stores. absurd stores; outlasts = tt; firm = λ answers. c.retrieve.ensures.firm })
 
 pub returns-in-RetrieveOver-clause-did : goal.returns-in-RetrieveOver-clause-did
-returns-in-RetrieveOver-clause-did g c = did_by _ _ _ _ _ _ _ _ c.in-RetrieveOver.is (record { ran = c.retrieve_over.ensures.ran; session = tt; cubes = tt; recorded = tt; notices = c.retrieve_over.ensures.notices; unread = c.retrieve_over.ensures.unread; spares = λ stores. absurd stores; outlasts = tt })
+returns-in-RetrieveOver-clause-did g c = did_by _ _ _ _ _ _ _ _ c.in-RetrieveOver.is (record { ran = c.retrieve_over.ensures.ran; session = tt; cubes = tt; recorded = tt; notices = c.retrieve_over.ensures.notices; unread = c.retrieve_over.ensures.unread; spares = λ stores. absurd stores; outlasts = tt; firm = λ answers. c.retrieve_over.ensures.firm })
 
 pub returns-in-List-clause-did : goal.returns-in-List-clause-did
-returns-in-List-clause-did g c = did_by _ _ _ _ _ _ _ _ c.in-List.is (record { ran = c.list.ensures.ran; session = tt; cubes = tt; recorded = c.list.ensures.recorded; notices = c.list.ensures.notices; unread = c.list.ensures.unread; spares = λ stores. absurd stores; outlasts = tt })
+returns-in-List-clause-did g c = did_by _ _ _ _ _ _ _ _ c.in-List.is (record { ran = c.list.ensures.ran; session = tt; cubes = tt; recorded = c.list.ensures.recorded; notices = c.list.ensures.notices; unread = c.list.ensures.unread; spares = λ stores. absurd stores; outlasts = tt; firm = λ answers. c.list.ensures.firm })
 
 pub returns-in-Axes-clause-did : goal.returns-in-Axes-clause-did
-returns-in-Axes-clause-did g c = did_by _ _ _ _ _ _ _ _ c.in-Axes.is (record { ran = c.axes.ensures.ran; session = tt; cubes = tt; recorded = c.axes.ensures.recorded; notices = c.axes.ensures.notices; unread = c.axes.ensures.unread; spares = λ stores. absurd stores; outlasts = tt })
+returns-in-Axes-clause-did g c = did_by _ _ _ _ _ _ _ _ c.in-Axes.is (record { ran = c.axes.ensures.ran; session = tt; cubes = tt; recorded = c.axes.ensures.recorded; notices = c.axes.ensures.notices; unread = c.axes.ensures.unread; spares = λ stores. absurd stores; outlasts = tt; firm = λ answers. c.axes.ensures.firm })
 
 pub returns-in-Stats-clause-did : goal.returns-in-Stats-clause-did
-returns-in-Stats-clause-did g c = did_by _ _ _ _ _ _ _ _ c.in-Stats.is (counted _ _ _ _ _ _ _ (c.stats.ensures.ran _ _) (c.stats.ensures.notices (g.I.Source.left c.args.input.now) (g.I.Source.faults c.args.input.now)) c.stats.ensures.recorded)
+returns-in-Stats-clause-did g c = did_by _ _ _ _ _ _ _ _ c.in-Stats.is (counted _ _ _ _ _ _ _ (c.stats.ensures.ran _ _) (c.stats.ensures.notices (g.I.Source.left c.args.input.now) (g.I.Source.faults c.args.input.now)) c.stats.ensures.recorded (c.stats.ensures.firm (g.I.Source.left c.args.input.now) (g.I.Source.faults c.args.input.now)))
 
 pub returns-in-Cubes-clause-did : goal.returns-in-Cubes-clause-did
 returns-in-Cubes-clause-did g c = did_by _ _ _ _ _ _ _ _ c.in-Cubes.is (cubed _ _ _ _ _ _ _ c.cubes.ensures.ran)

@@ -2,7 +2,9 @@ use Rattle.std.proofs.Common.{rules, ◌≡◌, Some, IfSome}
 use Rattle.std.specs.Prelude.{option_map}
 use Rattle.std.proofs.lemmas.Result.{IfOk-weaker}
 use Rattle.fd_disk.specs.Folders.{SameBut, WhereTold, folder_at}
+use Rattle.fd_recovery.specs.Crashing.{IsFirmTable}
 use Rattle.fd_recovery.specs.Recovered.{IsUndamaged}
+use Rattle.fd_retrieve.proofs.Firmly.{firm_given}
 use Rattle.fd_retrieve.proofs.Looking.{looked_given}
 use Rattle.fd_retrieve.proofs.Staying.{stays_given}
 use Rattle.fd_retrieve.proofs.Undamaged.{undamaged_in}
@@ -43,3 +45,11 @@ returns-clause-undamaged g c =
     let d = g.S.Folder.Folder.has c.in-Ok.folder in
     let first : d ≡ option_map (λ s. folder_at s name) old = search rules in
     IfOk-weaker c.open_in-answer.result (λ o. IfSome d (λ v. IsUndamaged name v)) (λ o. IfSome old (λ h. IsUndamaged name (folder_at h name))) (λ o sound. undamaged_in old d name first sound) c.open_in-answer.ensures.undamaged
+
+pub returns-clause-firm : goal.returns-clause-firm
+returns-clause-firm g c =
+    let name = c.args.name.now in
+    let new = g.S.Store.has c.give_folder.new.self in
+    let e = g.S.Folder.Folder.has c.open_in-answer.new.folder in
+    let left : IfSome new (λ t. e ≡ Some (folder_at t name)) = search rules in
+    IfOk-weaker c.open_in-answer.result (λ o. IfSome e (λ w. IsFirmTable w.table)) (λ o. IfSome new (λ i. IsFirmTable (folder_at i name).table)) (λ o firm. firm_given new e name left firm) c.open_in-answer.ensures.firm

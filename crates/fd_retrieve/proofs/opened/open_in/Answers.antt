@@ -7,6 +7,7 @@ use Rattle.fd_segment.specs.Held.{batch_of}
 use Rattle.fd_segment.specs.Shared.{standings}
 use Rattle.fd_recovery.specs.Recovered.{AreTakenUp, ReadsImage, all_of, held}
 use Rattle.fd_retrieve.proofs.OpenLemmas.{lists_again, open_told}
+use Rattle.fd_retrieve.proofs.Firmly.{synced_back}
 use Rattle.fd_retrieve.proofs.Looking.{as_synced, refused_looked}
 use Rattle.fd_retrieve.proofs.Staying.{table_back}
 use Rattle.fd_retrieve.proofs.opened.open_in.Goals as goal
@@ -52,6 +53,16 @@ returns-in-Ok-clause-looks g c =
     let put : has c.give_table.new.self ≡ with_table table (has c.recover.new.folder) = search rules in
     let image : IfSome old (λ v. ReadsImage v.table) = search rules in
     as_synced old (has c.recover.new.folder) (has c.give_table.new.self) table firm image out put
+
+pub returns-in-Ok-clause-firm : goal.returns-in-Ok-clause-firm
+returns-in-Ok-clause-firm g c =
+    let has = g.D.Folder.has in
+    let old = has c.args.folder.now in
+    let table = g.D.Table.Disk.file c.into_table.result in
+    let firm : IfSome old (λ v. table ≡ option_map synced v.table) = search rules in
+    let out : has c.recover.new.folder ≡ option_map without_table old = search rules in
+    let put : has c.give_table.new.self ≡ with_table table (has c.recover.new.folder) = search rules in
+    synced_back old (has c.recover.new.folder) (has c.give_table.new.self) table firm out put
 
 pub returns-in-Err-clause-looks : goal.returns-in-Err-clause-looks
 returns-in-Err-clause-looks g c = refused_looked (g.D.Folder.has c.args.folder.now) (g.D.Folder.has c.recover.new.folder) c.in-Err.ensures.has_err c.in-Err.ensures.image_err

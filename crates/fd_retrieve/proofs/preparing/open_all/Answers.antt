@@ -1,9 +1,11 @@
 use Rattle.std.proofs.Common.{rules, ◌≡◌, ◌∷◌, [], IfSome, string_bytes, subst, sym, arith, take}
 use Rattle.std.proofs.lemmas.List.{length-map}
 use Rattle.fd_disk.specs.Folders.{folder_at}
+use Rattle.fd_recovery.specs.Crashing.{IsFirmTable}
 use Rattle.fd_recovery.specs.Recovered.{IsUndamaged}
 use Rattle.fd_schema.specs.Seen.{texts}
-use Rattle.fd_retrieve.specs.Ready.{AreOpen, IsBrokenOf, MayOpen, NoneIsDamaged}
+use Rattle.fd_retrieve.specs.Ready.{AreFirmOf, AreOpen, IsBrokenOf, MayOpen, NoneIsDamaged}
+use Rattle.fd_retrieve.proofs.Firmly.{firm_told_more}
 use Rattle.fd_retrieve.proofs.Looking.{looked_both}
 use Rattle.fd_retrieve.proofs.Staying.{told_both}
 use Rattle.fd_retrieve.proofs.PrepareLemmas.{among_one_of, broken_told, none_told_more, open_told_more, take_end, take_more}
@@ -29,6 +31,9 @@ loop-i-preserved g c =
           (open_told_more (g.S.Store.has c.args.store.now) (g.S.Store.has c.loop-i.store) (take c.loop-i.i (texts c.args.names.now)) c.loop-i.opened.items c.open_more.new.opened.items (string_bytes c.index-names-i.result) c.loop-i.invariant.stays c.loop-i.invariant.opened (subst (λ n. IfSome (g.S.Store.has c.loop-i.store) (λ h. MayOpen h c.loop-i.opened.items n c.open_more.new.opened.items)) text c.in-Ok.ensures.opened));
       undamaged = subst (λ l. IfSome (g.S.Store.has c.args.store.now) (λ h. NoneIsDamaged h l)) (sym more)
           (none_told_more (g.S.Store.has c.args.store.now) (g.S.Store.has c.loop-i.store) (take c.loop-i.i (texts c.args.names.now)) (string_bytes c.index-names-i.result) c.loop-i.invariant.stays c.loop-i.invariant.undamaged (subst (λ n. IfSome (g.S.Store.has c.loop-i.store) (λ h. IsUndamaged n (folder_at h n))) text c.in-Ok.ensures.undamaged));
+      firm = subst (λ l. IfSome (g.S.Store.has c.open_more.new.store) (λ i. AreFirmOf i l)) (sym more)
+          (firm_told_more (g.S.Store.has c.loop-i.store) (g.S.Store.has c.open_more.new.store) (take c.loop-i.i (texts c.args.names.now)) (string_bytes c.index-names-i.result) c.open_more.ensures.looks c.loop-i.invariant.firm
+          (subst (λ n. IfSome (g.S.Store.has c.open_more.new.store) (λ i. IsFirmTable (folder_at i n).table)) text c.in-Ok.ensures.firm));
       later = omega (arith, later, before);
     }
 
@@ -41,3 +46,8 @@ pub returns-clause-undamaged : goal.returns-clause-undamaged
 returns-clause-undamaged g c =
     let long = length-map c.args.names.now string_bytes in
     subst (λ l. IfSome (g.S.Store.has c.args.store.now) (λ h. NoneIsDamaged h l)) (take_end (texts c.args.names.now) c.loop-i.i (omega (arith, long, c.loop-i-test.false))) c.loop-i.invariant.undamaged
+
+pub returns-clause-firm : goal.returns-clause-firm
+returns-clause-firm g c =
+    let long = length-map c.args.names.now string_bytes in
+    subst (λ l. IfSome (g.S.Store.has c.loop-i.store) (λ i. AreFirmOf i l)) (take_end (texts c.args.names.now) c.loop-i.i (omega (arith, long, c.loop-i-test.false))) c.loop-i.invariant.firm

@@ -6,8 +6,9 @@ use Rattle.fd_schema.specs.Seen.{texts}
 use Rattle.fd_outcome.specs.Asking.{count_distinct}
 use Rattle.fd_outcome.specs.Store.{Stays, has_table}
 use Rattle.fd_telling.specs.Stops.{OnTooMany}
-use Rattle.fd_retrieve.specs.Ready.{AreOpen, IsBrokenOf, NoneIsDamaged, asked_at, placed_of}
+use Rattle.fd_retrieve.specs.Ready.{AreFirmOf, AreOpen, IsBrokenOf, NoneIsDamaged, asked_at, placed_of}
 use Rattle.fd_retrieve.specs.Tables.{AreTables, datasets_in}
+use Rattle.fd_retrieve.proofs.Firmly.{firm_all}
 use Rattle.fd_retrieve.proofs.Looking.{looked_both, looked_unmoved}
 use Rattle.fd_retrieve.proofs.PrepareLemmas.{broken_all, broken_told_says, many_of, many_told_says, ready_told}
 use Rattle.fd_retrieve.proofs.preparing.prepared.Goals as goal
@@ -80,3 +81,16 @@ returns-in-Err-open_all-clause-looks g c =
 
 pub returns-in-Err-clause-looks : goal.returns-in-Err-clause-looks
 returns-in-Err-clause-looks g c = looked_unmoved (g.S.Store.has c.args.store.now) (g.S.Store.has c.placed.new.store) c.in-Err.ensures.has
+
+pub returns-in-Ok-open_all-clause-firm : goal.returns-in-Ok-open_all-clause-firm
+returns-in-Ok-open_all-clause-firm g c =
+    let old = g.S.Store.has c.args.store.now in
+    let mid = g.S.Store.has c.placed.new.store in
+    let new = g.S.Store.has c.open_all.new.store in
+    let places = c.in-Ok.pair.1.items in
+    let names = texts c.in-Ok-tables_of.names.items in
+    let same : mid ≡ old = search rules in
+    let tables : IfSome old (λ h. AreTables h (datasets_in places) names) = search rules in
+    let looks = looked_both old (g.S.Store.has c.tables_of.new.store) new (looked_both old mid (g.S.Store.has c.tables_of.new.store) (looked_unmoved old mid same) c.in-Ok-tables_of.ensures.looks) c.in-Ok-open_all.ensures.looks in
+    let firm : IfSome new (λ i. AreFirmOf i names) = search rules in
+    firm_all old new (datasets_in places) names looks tables firm

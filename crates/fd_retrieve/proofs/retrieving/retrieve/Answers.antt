@@ -1,4 +1,4 @@
-use Rattle.std.proofs.Common.{None, subst, sym}
+use Rattle.std.proofs.Common.{None, IfSome, subst, sym}
 use Rattle.fd_disk.specs.Folders.{WhereTold}
 use Rattle.fd_outcome.specs.Asking.{asked_of}
 use Rattle.fd_outcome.specs.Ends.{AmongAsked}
@@ -7,6 +7,9 @@ use Rattle.fd_outcome.specs.Store.{IsLookedThrough}
 use Rattle.fd_outcome.proofs.Exits.{never_whole}
 use Rattle.fd_telling.proofs.StopLemmas.{later_disk}
 use Rattle.fd_telling.specs.Stops.{IsRefused}
+use Rattle.fd_retrieve.specs.Ready.{AreFirmOf}
+use Rattle.fd_retrieve.specs.Tables.{datasets_in}
+use Rattle.fd_retrieve.proofs.Firmly.{plain_firm}
 use Rattle.fd_retrieve.proofs.Plain.{plain_notices, plain_refuses, plain_told}
 use Rattle.fd_retrieve.proofs.StopExits.{stop_not_whole, stopped}
 use Rattle.fd_retrieve.proofs.retrieving.retrieve.Goals as goal
@@ -40,3 +43,13 @@ returns-in-Ok-clause-notices g c =
 
 pub returns-in-Err-clause-notices : goal.returns-in-Err-clause-notices
 returns-in-Err-clause-notices g c = λ whole. never_whole _ c.tell_stop.result (stop_not_whole c.in-Err.stop c.tell_stop.result _ _ _ _ c.tell_stop.ensures.told) whole
+
+pub returns-in-Ok-clause-firm : goal.returns-in-Ok-clause-firm
+returns-in-Ok-clause-firm g c =
+    plain_firm c.args.root.now c.args.workers c.answered.result (object (g.S.Store.has c.args.store.now) (g.S.Store.has c.answered.new.store) (g.S.Store.faults c.args.store.now) (g.S.Store.faults c.answered.new.store))
+    (object (g.I.Source.left c.args.input.now) (g.I.Source.left c.prepared.new.input) (g.I.Source.faults c.args.input.now) (g.I.Source.faults c.prepared.new.input))
+    c.in-Ok.ready.request c.in-Ok.ready.places.items c.in-Ok.ready.opened.items c.in-Ok.ensures.count c.in-Ok.ensures.prepared
+    (subst (λ o. IfSome o (λ i. AreFirmOf i (datasets_in c.in-Ok.ready.places.items))) (sym c.answered.ensures.has) c.in-Ok.ensures.firm)
+
+pub returns-in-Err-clause-firm : goal.returns-in-Err-clause-firm
+returns-in-Err-clause-firm g c = λ whole. never_whole _ c.tell_stop.result (stop_not_whole c.in-Err.stop c.tell_stop.result _ _ _ _ c.tell_stop.ensures.told) whole
