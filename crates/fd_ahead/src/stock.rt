@@ -1,10 +1,10 @@
 //! The fields that were read ahead, as they are written.
-ghost use Rattle.std.specs.Prelude.{◌≡◌, ◌≤◌, All, List, length, true, IfErr, IfSome, IsSome, OnOk};
+ghost use Rattle.std.specs.Prelude.{◌≡◌, ◌≤◌, ◌+◌, ◌++◌, ℕ, All, List, length, false, true, IfErr, IfOk, IfSome, IsSome, IsTrue, OnOk};
 ghost use Rattle.fd_bytes.specs.Causes.{Rose};
 ghost use Rattle.fd_segment.specs.Copying.{IsCopied, IsCopiedInPart, IsDigestedAt};
 ghost use Rattle.fd_retriever.specs.Answers.{OnDamaged, OnWrite, UnlessWrite, Unwritten};
 ghost use Rattle.fd_ahead.specs.Places.{InSegment, IsIn, IsMetAt, Open};
-ghost use Rattle.fd_ahead.specs.Reading.{IsJob, IsRead, IsReadOf, IsStock};
+ghost use Rattle.fd_ahead.specs.Reading.{AreJoined, IsHeld, IsJob, IsRead, IsReadOf, IsStock};
 
 use crate::job::{Item, ReadJob, keep};
 use crate::located::Located;
@@ -92,6 +92,50 @@ fn take_next<F: Drop>(
     }
 }
 
+/// Appends bytes where the list has room for them, and tells whether it had.
+fn append_within(joined: &mut Vec<u8>, bytes: &[u8]) -> bool
+    ensures appended { IsTrue result → joined.new.items ≡ joined.old.items ++ bytes.now }
+    ensures same { result ≡ false → joined.new.items ≡ joined.old.items }
+{
+    let room = joined.capacity() - joined.len();
+    bytes.len() <= room && joined.extend_from_slice(bytes).is_ok()
+}
+
+/// Appends what was read, where it was read well and there is room for it, and tells whether it did.
+fn append_read<F>(joined: &mut Vec<u8>, read: &Result<Bytes, LensFault<F>>) -> bool
+    ensures appended { IsTrue result → (bytes : List ℕ) × (read.now ≡ Ok bytes) × (joined.new.items ≡ joined.old.items ++ bytes) }
+    ensures same { result ≡ false → joined.new.items ≡ joined.old.items }
+{
+    match read {
+        Ok(bytes) => append_within(joined, bytes.as_slice()),
+        Err(_) => false,
+    }
+}
+
+/// Takes out what was read for a key, and appends it, where it comes next, was read well and there is room for it. Tells
+/// whether it did.
+fn join_next<F: Drop>(
+    ready: &mut Vec<Item<F>>,
+    located: Option<Located>,
+    joined: &mut Vec<u8>,
+) -> bool
+    ensures ready { (os : List Open) → All (IsRead os) ready.old.items → All (IsRead os) ready.new.items }
+    ensures joined { IsTrue result → (os : List Open) → All (IsRead os) ready.old.items → (bytes : List ℕ) × IsHeld os located bytes × (joined.new.items ≡ joined.old.items ++ bytes) }
+    ensures same { result ≡ false → joined.new.items ≡ joined.old.items }
+{
+    let (Some(item), Some(place)) = (ready.last(), located) else {
+        return false;
+    };
+    if !is_at(&item.located, &place) {
+        return false;
+    }
+    if !append_read(joined, &item.read) {
+        return false;
+    }
+    let _ = ready.pop();
+    true
+}
+
 impl<F: Send + Drop, Z: Sealed<F>> Stock<OpenSegments<F, Z>, F> {
     /// Nothing was read ahead yet.
     pub fn new(alloc: Global) -> Stock<OpenSegments<F, Z>, F>
@@ -110,6 +154,30 @@ impl<F: Send + Drop, Z: Sealed<F>> Stock<OpenSegments<F, Z>, F> {
     {
         self.ready.clear();
         take_over(jobs, &mut self.ready);
+    }
+
+    /// Takes out the fields that were read ahead and come next, as long as they are those of the keys from one number on, below
+    /// another, and appends their bytes, as far as there is room for them without taking memory. Tells how many there were. A
+    /// field that couldn't be read stays.
+    pub fn gather(
+        &mut self,
+        located: &[Option<Located>],
+        from: usize,
+        to: usize,
+        joined: &mut Vec<u8>,
+    ) -> usize
+        requires range { (from ≤ to) × (to ≤ length located.now) }
+        ensures stock { (os : List Open) → IsStock os self.old → IsStock os self.new }
+        ensures count { from + result ≤ to }
+        ensures joined { (os : List Open) → IsStock os self.old → AreJoined os located.now from result joined.old.items joined.new.items }
+        ensures none { result ≡ 0 → joined.new.items ≡ joined.old.items }
+    {
+        for i in from..to {
+            if !join_next(&mut self.ready, located[i], joined) {
+                return i - from;
+            }
+        }
+        to - from
     }
 
     /// Writes the bytes at a place into the sink, once they were checked: those that were read ahead, where they come next,

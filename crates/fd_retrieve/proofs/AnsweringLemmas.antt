@@ -83,25 +83,36 @@ as_many tables (k1 ∷ ks) (p1 ∷ ps) xs e long =
 
 -- ---- one more
 
-found_more : (xs : List Answer) (i : ℕ) (x : Answer) → slice_get xs i ≡ Some x → found_bytes (take (suc i) xs) ≡ found_bytes (take i xs) ++ bytes_or_none x.found
+pub found_more : (xs : List Answer) (i : ℕ) (x : Answer) → slice_get xs i ≡ Some x → found_bytes (take (suc i) xs) ≡ found_bytes (take i xs) ++ bytes_or_none x.found
 found_more [] i x at = absurd (true≢false (sym (ap is_some at)))
 found_more (y ∷ ys) zero x at = append-nil (bytes_or_none y.found) ∙ ap (λ (z : Answer). bytes_or_none z.found) (some_is y x at)
 found_more (y ∷ ys) (suc i) x at = ap (λ z. bytes_or_none y.found ++ z) (found_more ys i x at) ∙ sym (append_assoc (bytes_or_none y.found) (found_bytes (take i ys)) (bytes_or_none x.found))
 
-lines_more : (xs : List Answer) (i : ℕ) (x : Answer) → slice_get xs i ≡ Some x → miss_lines (take (suc i) xs) ≡ miss_lines (take i xs) ++ miss_line x.key x.found
+pub lines_more : (xs : List Answer) (i : ℕ) (x : Answer) → slice_get xs i ≡ Some x → miss_lines (take (suc i) xs) ≡ miss_lines (take i xs) ++ miss_line x.key x.found
 lines_more [] i x at = absurd (true≢false (sym (ap is_some at)))
 lines_more (y ∷ ys) zero x at = append-nil (miss_line y.key y.found) ∙ ap (λ (z : Answer). miss_line z.key z.found) (some_is y x at)
 lines_more (y ∷ ys) (suc i) x at = ap (λ z. miss_line y.key y.found ++ z) (lines_more ys i x at) ∙ sym (append_assoc (miss_line y.key y.found) (miss_lines (take i ys)) (miss_line x.key x.found))
 
-count_more : (xs : List Answer) (i : ℕ) (x : Answer) → slice_get xs i ≡ Some x → count_found (take (suc i) xs) ≡ count_found (take i xs) + count_if x.found 1 0
+pub count_more : (xs : List Answer) (i : ℕ) (x : Answer) → slice_get xs i ≡ Some x → count_found (take (suc i) xs) ≡ count_found (take i xs) + count_if x.found 1 0
 count_more [] i x at = absurd (true≢false (sym (ap is_some at)))
 count_more (y ∷ ys) zero x at = let e = ap (λ (z : Answer). count_if z.found 1 0) (some_is y x at) in omega (arith, e)
 count_more (y ∷ ys) (suc i) x at = let e = count_more ys i x at in omega (arith, e)
 
-miss_more : (xs : List Answer) (i : ℕ) (x : Answer) → slice_get xs i ≡ Some x → count_missed (take (suc i) xs) ≡ count_missed (take i xs) + count_if x.found 0 1
+pub miss_more : (xs : List Answer) (i : ℕ) (x : Answer) → slice_get xs i ≡ Some x → count_missed (take (suc i) xs) ≡ count_missed (take i xs) + count_if x.found 0 1
 miss_more [] i x at = absurd (true≢false (sym (ap is_some at)))
 miss_more (y ∷ ys) zero x at = let e = ap (λ (z : Answer). count_if z.found 0 1) (some_is y x at) in omega (arith, e)
 miss_more (y ∷ ys) (suc i) x at = let e = miss_more ys i x at in omega (arith, e)
+
+-- the first answers, and the others
+pub found_rest : (ys : List Answer) (n : ℕ) → found_bytes ys ≡ found_bytes (take n ys) ++ found_bytes (drop n ys)
+found_rest ys zero = refl
+found_rest [] (suc n) = refl
+found_rest (y ∷ ys) (suc n) = ap (λ z. bytes_or_none y.found ++ z) (found_rest ys n) ∙ sym (append_assoc (bytes_or_none y.found) (found_bytes (take n ys)) (found_bytes (drop n ys)))
+
+pub lines_rest : (ys : List Answer) (n : ℕ) → miss_lines ys ≡ miss_lines (take n ys) ++ miss_lines (drop n ys)
+lines_rest ys zero = refl
+lines_rest [] (suc n) = refl
+lines_rest (y ∷ ys) (suc n) = ap (λ z. miss_line y.key y.found ++ z) (lines_rest ys n) ∙ sym (append_assoc (miss_line y.key y.found) (miss_lines (take n ys)) (miss_lines (drop n ys)))
 
 module _ (xs : List Answer) (i : ℕ) (x : Answer) (at : slice_get xs i ≡ Some x) (a b b' c d d' : Option (List ℕ)) (f m : ℕ) (so_far : IsAnswered xs i a b c d f m) where
   pub more_found : IsOne x.found x.key true b b' d d' → IsAnswered xs (suc i) a b' c d' (f + 1) m
@@ -135,16 +146,6 @@ module _ (xs : List Answer) (i : ℕ) (x : Answer) (at : slice_get xs i ≡ Some
       counts_missed : (o : Option (List ℕ)) → false ≡ is_some o → count_if o 0 1 ≡ 1
       counts_missed None e = refl
       counts_missed (Some z) e = absurd (true≢false (sym e))
-
-  found_rest : (ys : List Answer) (n : ℕ) → found_bytes ys ≡ found_bytes (take n ys) ++ found_bytes (drop n ys)
-  found_rest ys zero = refl
-  found_rest [] (suc n) = refl
-  found_rest (y ∷ ys) (suc n) = ap (λ z. bytes_or_none y.found ++ z) (found_rest ys n) ∙ sym (append_assoc (bytes_or_none y.found) (found_bytes (take n ys)) (found_bytes (drop n ys)))
-
-  lines_rest : (ys : List Answer) (n : ℕ) → miss_lines ys ≡ miss_lines (take n ys) ++ miss_lines (drop n ys)
-  lines_rest ys zero = refl
-  lines_rest [] (suc n) = refl
-  lines_rest (y ∷ ys) (suc n) = ap (λ z. miss_line y.key y.found ++ z) (lines_rest ys n) ∙ sym (append_assoc (miss_line y.key y.found) (miss_lines (take n ys)) (miss_lines (drop n ys)))
 
   pub part_answered : IsOneInPart x.found x.key b b' d d' → IsAnsweredInPart xs a b' c d'
   part_answered one = record {

@@ -11,10 +11,10 @@ use Rattle.fd_retrieve.specs.Located.{IsIn, StandsAt}
 use Rattle.fd_retrieve.specs.Open.{Open}
 use Rattle.fd_retrieve.proofs.Staying.{some_is}
 
-told_is : (fields : Option (List ℕ)) (all bytes : List ℕ) (at len : ℕ) → fields ≡ Some all → IfSome fields (λ f. bytes ≡ take len (drop at f)) → bytes ≡ take len (drop at all)
+pub told_is : (fields : Option (List ℕ)) (all bytes : List ℕ) (at len : ℕ) → fields ≡ Some all → IfSome fields (λ f. bytes ≡ take len (drop at f)) → bytes ≡ take len (drop at all)
 told_is fields all bytes at len is told = subst (λ (o : Option (List ℕ)). IfSome o (λ f. bytes ≡ take len (drop at f))) is told
 
-at_segment : (ss : List Standing) (n : ℕ) (s : Standing) (P : Standing → Type 0) → slice_get ss n ≡ Some s → IfSome (slice_get ss n) P → P s
+pub at_segment : (ss : List Standing) (n : ℕ) (s : Standing) (P : Standing → Type 0) → slice_get ss n ≡ Some s → IfSome (slice_get ss n) P → P s
 at_segment ss n s P is h = subst (λ (o : Option Standing). IfSome o P) is h
 
 module _ (os : List Open) (bytes : Option (List ℕ)) (l : Located) (o : Open) (old new : Option (List ℕ)) (at : slice_get os l.number ≡ Some o) (there : StandsAt os bytes l) where

@@ -11,6 +11,8 @@ pub mod ReadyLemmas
 pub mod RequestLemmas
 pub mod Unread
 pub mod AnsweringLemmas
+pub mod JoinedLemmas
+pub mod RoundLemmas
 pub mod LocatingLemmas
 pub mod Noticing
 pub mod CopiedLemmas

@@ -1,5 +1,5 @@
 -- The answer of a request in rounds: what one of them does.
-use Rattle.std.specs.Prelude.{◌≤◌, ◌-◌, ℕ, List, Option, Result, IfErr, IfOk, OnOk}
+use Rattle.std.specs.Prelude.{◌≤◌, ◌<◌, ◌-◌, ℕ, List, Option, Result, Ok, Err, IfErr, IfOk, OnOk}
 use Rattle.fd_key.specs.Pairs as keys
 use Rattle.fd_ahead.specs.declared.located.Located.{Located}
 use Rattle.fd_outcome.specs.Asking.{Answer}
@@ -33,3 +33,10 @@ module _ {F X : Type 0} (os : List Open) (ks : List (List keys.Pair)) (located :
     pub cause : IfErr result (λ e. OnUnwritten e (Failed output) (Failed report))
     pub damaged : IfErr result (λ e. OnDamaged e (IsDamagedAt os))
     pub grew : TookSome report.before report.now
+
+module _ {F X : Type 0} (os : List Open) (ks : List (List keys.Pair)) (located : List (Option Located)) (from to found : ℕ) (output report : Object (List ℕ)) where
+  -- Some keys were answered, from one number on and at most up to another: the number of the next one, and how many were counted
+  -- with those that were found before; or why not all of them.
+  abbrev pub IsStep : Result (ℕ × ℕ) (Halt F X) → Type 0
+  IsStep (Ok r) = (from < r.0) × (r.0 ≤ to) × IsRound {F = F} {X = X} os ks located from r.0 found output report (Ok r.1)
+  IsStep (Err e) = IsRound os ks located from to found output report (Err e)

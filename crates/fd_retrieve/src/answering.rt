@@ -12,7 +12,7 @@ ghost use Rattle.fd_ahead.specs.Reading.{IsStock};
 ghost use Rattle.fd_retrieve.specs.Open.{IsDamagedAt};
 ghost use Rattle.fd_retrieve.specs.Located.{IsAt, IsIn};
 ghost use Rattle.fd_retrieve.specs.Finding.{IsOne, IsOneInPart, OnDamaged, OnUnwritten, TookSome, one_if};
-ghost use Rattle.fd_retrieve.specs.Rounds.{IsRound};
+ghost use Rattle.fd_retrieve.specs.Rounds.{IsRound, IsStep};
 
 use crate::datasets::write_found;
 use fd_ahead::{Located, Opened, ReadStock};
@@ -134,8 +134,77 @@ fn one_more_if(found: u32, is_found: bool) -> u32
     if is_found { found + 1 } else { found }
 }
 
+/// Writes what is found for the key with a number, where it is located, or tells on the report that it isn't there, and
+/// counts it with those that were found before.
+fn answer_counted<F: Send + Drop, X, Z: Sealed<F>, K: Sink<X>, E: Sink<X>>(
+    alloc: Global,
+    request: &Request,
+    number: u32,
+    opened: &[Opened<F, Z>],
+    located: &[Option<Located>],
+    found: u32,
+    stock: &mut ReadStock<F, Z>,
+    output: &mut K,
+    report: &mut E,
+) -> Result<u32, Halt<F, X>>
+where
+    requires count { length located.now ≡ length (expand request.now) }
+    requires within { AreIn opened.now located.now }
+    requires stock { IsStock opened.now stock.old }
+    requires range { (number < length located.now) × (found ≤ number) }
+    ensures stock { IsStock opened.now stock.new }
+    ensures round { IsRound opened.now (expand request.now) located.now number (number + 1) found (object (K.taken output.old) (K.taken output.new) (K.faults output.old) (K.faults output.new)) (object (E.taken report.old) (E.taken report.new) (E.faults report.old) (E.faults report.new)) result }
+{
+    let one = located[number as usize];
+    match answer_one(alloc, request, number, opened, one, stock, output, report) {
+        Ok(is_found) => Ok(one_more_if(found, is_found)),
+        Err(halt) => Err(halt),
+    }
+}
+
+/// Answers keys of a request from one number on, at most up to another: those whose fields were read ahead and come next, by
+/// one write of them all, as far as there is room to join them; where there are none, the first key alone. Tells the number
+/// of the next key, and how many were found with those that were found before.
+fn answer_next<F: Send + Drop, X, Z: Sealed<F>, K: Sink<X>, E: Sink<X>>(
+    alloc: Global,
+    request: &Request,
+    opened: &[Opened<F, Z>],
+    located: &[Option<Located>],
+    from: u32,
+    to: u32,
+    found: u32,
+    stock: &mut ReadStock<F, Z>,
+    joined: &mut Vec<u8>,
+    output: &mut K,
+    report: &mut E,
+) -> Result<(u32, u32), Halt<F, X>>
+where
+    requires count { length located.now ≡ length (expand request.now) }
+    requires within { AreIn opened.now located.now }
+    requires stock { IsStock opened.now stock.old }
+    requires range { (from < to) × (to ≤ length located.now) × (found ≤ from) }
+    ensures stock { IsStock opened.now stock.new }
+    ensures step { IsStep opened.now (expand request.now) located.now from to found (object (K.taken output.old) (K.taken output.new) (K.faults output.old) (K.faults output.new)) (object (E.taken report.old) (E.taken report.new) (E.faults report.old) (E.faults report.new)) result }
+{
+    joined.clear();
+    let count = stock.gather(located, from as usize, to as usize, joined) as u32;
+    if count == 0 {
+        return match answer_counted(
+            alloc, request, from, opened, located, found, stock, output, report,
+        ) {
+            Ok(more) => Ok((from + 1, more)),
+            Err(halt) => Err(halt),
+        };
+    }
+    match write_all(output, joined.as_slice()) {
+        Ok(()) => Ok((from + count, found + count)),
+        Err(fault) => Err(Halt::Unwritten(fault)),
+    }
+}
+
 /// Writes what is found for each key of a request from one number up to another, in its order, where it is located, tells
-/// each miss on the report, and counts with those that were found before.
+/// each miss on the report, and counts with those that were found before. The bytes of fields that were read ahead are joined
+/// in a list, as far as it has room, and written at once.
 pub(crate) fn answer_some<F: Send + Drop, X, Z: Sealed<F>, K: Sink<X>, E: Sink<X>>(
     alloc: Global,
     request: &Request,
@@ -145,6 +214,7 @@ pub(crate) fn answer_some<F: Send + Drop, X, Z: Sealed<F>, K: Sink<X>, E: Sink<X
     to: u32,
     found: u32,
     stock: &mut ReadStock<F, Z>,
+    joined: &mut Vec<u8>,
     output: &mut K,
     report: &mut E,
 ) -> Result<u32, Halt<F, X>>
@@ -158,10 +228,15 @@ where
         (sink_of K.Sink output) (sink_of E.Sink report) result }
 {
     let mut found = found;
-    for i in from..to {
-        let one = located[i as usize];
-        match answer_one(alloc, request, i, opened, one, stock, output, report) {
-            Ok(is_found) => found = one_more_if(found, is_found),
+    let mut done = from;
+    'steps: while done < to {
+        match answer_next(
+            alloc, request, opened, located, done, to, found, stock, joined, output, report,
+        ) {
+            Ok((next, more)) => {
+                done = next;
+                found = more;
+            }
             Err(halt) => return Err(halt),
         }
     }

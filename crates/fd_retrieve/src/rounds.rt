@@ -20,6 +20,17 @@ use fd_request::Request;
 use std::alloc::Global;
 use std::thread::Threads;
 
+/// How many bytes of fields that were read ahead are joined at most, to be written at once.
+const JOINED: usize = 65_536;
+
+/// A list with room for the bytes that are joined. Without memory it has none, and each field is written alone.
+fn room_for_joined(alloc: Global) -> Vec<u8> {
+    match Vec::with_capacity(alloc, JOINED) {
+        Ok(joined) => joined,
+        Err(_) => Vec::new(alloc),
+    }
+}
+
 /// Answers the keys from one number up to another, while threads read what their jobs want.
 fn answer_round<'a, F: Send + Drop, X, Z: Sealed<F>, K: Sink<X>, E: Sink<X>, R: Threads + Sync>(
     rt: &'a R,
@@ -32,6 +43,7 @@ fn answer_round<'a, F: Send + Drop, X, Z: Sealed<F>, K: Sink<X>, E: Sink<X>, R: 
     found: u32,
     jobs: &mut [ReadJob<F, Z>],
     stock: &mut ReadStock<F, Z>,
+    joined: &mut Vec<u8>,
     output: &mut K,
     report: &mut E,
 ) -> Result<u32, Halt<F, X>>
@@ -57,7 +69,7 @@ where
             (object (E.taken report.entry.now) (E.taken report.exit.now) (E.faults report.entry.now) (E.faults report.exit.now)) result }
     {
         answer_some(
-            other, request, opened, located, from, to, found, stock, output, report,
+            other, request, opened, located, from, to, found, stock, joined, output, report,
         )
     };
     read_beside(rt, alloc, opened, jobs, &mut write)
@@ -92,6 +104,7 @@ fn answer_rounds<F: Send + Drop, X, Z: Sealed<F>, K: Sink<X>, E: Sink<X>, R: Thr
     located: &[Option<Located>],
     jobs: &mut [ReadJob<F, Z>],
     stock: &mut ReadStock<F, Z>,
+    joined: &mut Vec<u8>,
     output: &mut K,
     report: &mut E,
 ) -> Result<(u32, u32), Halt<F, X>>
@@ -119,7 +132,8 @@ where
     'rounds: while done < count {
         let after = dealt(located, next, jobs);
         match answer_round(
-            rt, alloc, request, opened, located, done, next, found, jobs, stock, output, report,
+            rt, alloc, request, opened, located, done, next, found, jobs, stock, joined, output,
+            report,
         ) {
             Ok(more) => found = more,
             Err(halt) => return Err(halt),
@@ -169,7 +183,17 @@ where
         return Err(Halt::NoMemory);
     };
     let mut stock = Stock::new(alloc);
+    let mut joined = room_for_joined(alloc);
     answer_rounds(
-        rt, alloc, request, opened, located, &mut jobs, &mut stock, output, report,
+        rt,
+        alloc,
+        request,
+        opened,
+        located,
+        &mut jobs,
+        &mut stock,
+        &mut joined,
+        output,
+        report,
     )
 }
