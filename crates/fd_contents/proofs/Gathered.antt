@@ -3,7 +3,6 @@ use Rattle.std.proofs.Common.{◌≡◌, ◌∙◌, ◌<◌, ℕ, false, true≢
 use Rattle.std.specs.Prelude.{is_some, nat_lt, option_map, IfOk, Result, Ok, Err}
 use Rattle.std.specs.List.{AllZip}
 use Rattle.std.proofs.lemmas.Bool.{cond-true, lt-ltb}
-use Rattle.std.proofs.lemmas.List.Elements.{AllZip-push}
 use Rattle.fd_disk.specs.Folders.{Holdings, WhereTold, folder_at}
 use Rattle.fd_disk.specs.declared.file.File.{File}
 use Rattle.fd_entries.specs.declared.batch.Pair.{Pair}
@@ -28,6 +27,13 @@ use Rattle.fd_contents.proofs.Opened.{open_recorded, tells_all}
 pub if_ok : {A E : Type 0} {P Q : A → Type 0} → ((x : A) → P x → Q x) → (r : Result A E) → IfOk r P → IfOk r Q
 if_ok f (Ok x) p = f x p
 if_ok f (Err e) p = tt
+
+-- one pair more
+zip_push : {A B : Type 0} (R : A → B → Type 0) (xs : List A) (ys : List B) (x : A) (y : B) → AllZip R xs ys → R x y → AllZip R (xs ++ x ∷ []) (ys ++ y ∷ [])
+zip_push R [] [] x y z r = (r, tt)
+zip_push R [] (b ∷ bs) x y z r = absurd z
+zip_push R (a ∷ rest) [] x y z r = absurd z
+zip_push R (a ∷ rest) (b ∷ bs) x y z r = (z.0, zip_push R rest bs x y z.1 r)
 
 -- ---- the tables of a dataset
 
@@ -120,7 +126,7 @@ module _ (keywords : List Keyword) where
   more : (h i : Holdings) (before : List (List ℕ)) (name : List ℕ) (found new : Keys) → IsLookedThrough h i → Stays h i → FindsAll keywords h before found → FindsIn keywords i name found new → FindsAll keywords h (before ++ name ∷ []) new
   more h i before name found new looks stays so_far one = record {
     tables = so_far.tables ++ one.table ∷ [];
-    each = AllZip-push (IsTableIn h) before so_far.tables name one.table so_far.each (table_before h i name one.table looks stays one.is);
+    each = zip_push (IsTableIn h) before so_far.tables name one.table so_far.each (table_before h i name one.table looks stays one.is);
     keeps = subst (Keeps new) (sym (tables_more (IsTableIn h) before so_far.tables name one.table [] so_far.each)) (one.keeps (matching keywords before so_far.tables) so_far.keeps);
   }
 
