@@ -5,7 +5,7 @@ use Rattle.fd_io.specs.Streams.{Takes, TakesFront}
 use Rattle.fd_key.specs.Pairs as keys
 use Rattle.fd_ahead.specs.declared.located.Located.{Located}
 use Rattle.fd_ahead.specs.Reading.{AreJoined}
-use Rattle.fd_outcome.specs.Objects.{Object, object}
+use Rattle.fd_outcome.specs.Objects.{object}
 use Rattle.fd_retrieve.specs.declared.answering.Halt.{Halt}
 use Rattle.fd_retrieve.specs.declared.answering.Halt.TheVariants as halts
 use Rattle.fd_retrieve.specs.Finding.{OnUnwritten}
@@ -39,20 +39,6 @@ module _ {F X : Type 0} where
       cause = tt;
       damaged = tt;
       grew = took_nothing c;
-    }
-
-    -- how far the keys were to go makes no difference where they halted
-    pub halted_within : (from mid to found : ℕ) (output report : Object (List ℕ)) (e : Halt F X) → IsRound {F = F} {X = X} os ks located from mid found output report (Err e) → IsRound {F = F} {X = X} os ks located from to found output report (Err e)
-    halted_within from mid to found output report e round = record {
-      answered = tt;
-      counted = tt;
-      halted = round.halted;
-      output_later = round.output_later;
-      calm = tt;
-      report_later = round.report_later;
-      cause = round.cause;
-      damaged = round.damaged;
-      grew = round.grew;
     }
 
     module _ (from mid to f0 f1 : ℕ) (a b b' c d d' : Option (List ℕ)) (k m n u v w : ℕ) (first : IsRound {F = F} {X = X} os ks located from mid f0 (object a b k m) (object c d u v) (Ok f1)) where

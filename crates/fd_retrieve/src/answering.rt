@@ -151,9 +151,9 @@ where
     requires count { length located.now ≡ length (expand request.now) }
     requires within { AreIn opened.now located.now }
     requires stock { IsStock opened.now stock.old }
-    requires range { (number < length located.now) × (found ≤ number) }
+    requires range { (number < length located.now) × (number < 2 ^ 32 - 1) × (found ≤ number) }
     ensures stock { IsStock opened.now stock.new }
-    ensures round { IsRound opened.now (expand request.now) located.now number (number + 1) found (object (K.taken output.old) (K.taken output.new) (K.faults output.old) (K.faults output.new)) (object (E.taken report.old) (E.taken report.new) (E.faults report.old) (E.faults report.new)) result }
+    ensures round { IsRound opened.now (expand request.now) located.now number (number + 1) found (sink_of K.Sink output) (sink_of E.Sink report) result }
 {
     let one = located[number as usize];
     match answer_one(alloc, request, number, opened, one, stock, output, report) {
@@ -184,7 +184,7 @@ where
     requires stock { IsStock opened.now stock.old }
     requires range { (from < to) × (to ≤ length located.now) × (found ≤ from) }
     ensures stock { IsStock opened.now stock.new }
-    ensures step { IsStep opened.now (expand request.now) located.now from to found (object (K.taken output.old) (K.taken output.new) (K.faults output.old) (K.faults output.new)) (object (E.taken report.old) (E.taken report.new) (E.faults report.old) (E.faults report.new)) result }
+    ensures step { IsStep opened.now (expand request.now) located.now from to found (sink_of K.Sink output) (sink_of E.Sink report) result }
 {
     joined.clear();
     let count = stock.gather(located, from as usize, to as usize, joined) as u32;

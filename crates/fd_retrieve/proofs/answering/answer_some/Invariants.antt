@@ -7,7 +7,7 @@ use Rattle.fd_retrieve.proofs.answering.answer_some.Given as goal
 
 abbrev pub invariant-steps : goal.invariant-steps
 invariant-steps g l = record {
-  round : IsRound {F = g.F} {X = g.X} l.opened (expand l.request) l.located l.from l.done l.fn.found
+  round : IsRound {F = g.row.F.Denot} {X = g.row.X.Denot} l.opened (expand l.request) l.located l.from l.done l.fn.found
       (object (g.K.Sink.taken l.fn.output) (g.K.Sink.taken l.output) (g.K.Sink.faults l.fn.output) (g.K.Sink.faults l.output))
       (object (g.E.Sink.taken l.fn.report) (g.E.Sink.taken l.report) (g.E.Sink.faults l.fn.report) (g.E.Sink.faults l.report))
       (Ok l.found);
