@@ -7,7 +7,6 @@ use fd_bytes::NoMemory;
 use fd_disk::{Renew, Store};
 use fd_disk_mem::MemStore;
 use fd_purge::{Purged, purge_in, wipe_in};
-use fd_stopped::{Stopped, Stops};
 use std::alloc::Global;
 
 /// What a call answered, and what was found after it.
@@ -100,39 +99,6 @@ fn stopped(alloc: Global, act: Act, calls: u64, choice: u64) -> Option<(Answer, 
     Some((answer, left_in(alloc, store.crash(alloc, choice))))
 }
 
-/// Makes the call over a store that passes so many calls on to this one, and gives this one back.
-fn done_until<F: Send + Drop, S: Store<F>>(
-    alloc: Global,
-    act: Act,
-    calls: u64,
-    store: S,
-) -> (Option<Answer>, S)
-where
-    S::Folder: Renew<F>,
-    requires { S.out store (codes "a=1") ≡ false }
-    ensures { S.out result.1 (codes "a=1") ≡ false }
-{
-    let Ok(stops) = Stops::new(alloc, calls) else {
-        return (None, store);
-    };
-    let mut stopped = Stopped::new(store, stops);
-    let answer = done(alloc, &mut stopped, act);
-    (Some(answer), stopped.into_inner())
-}
-
-/// The same as `stopped` over a store that stops, whose calls are counted otherwise: those that open a folder or a file too.
-fn stopped_over(alloc: Global, act: Act, calls: u64, choice: u64) -> Option<(Answer, Found)> {
-    let Ok(mut store) = MemStore::new(alloc, 8192, 64) else {
-        return None;
-    };
-    if !written(alloc, &mut store) {
-        return None;
-    }
-    let (answer, store) = done_until(alloc, act, calls, store);
-    let found = left_in(alloc, store.crash(alloc, choice));
-    Some((answer?, found))
-}
-
 #[test]
 fn a_masked_batch_is_dropped_once_and_all_is_wiped(rt: HostRuntime) {
     let kept = Found::Batches(1, Some(10));
@@ -161,26 +127,6 @@ fn is_allowed(act: Act, answer: Answer, found: Found) -> bool {
 
 /// The number of calls after which the fuse stops none.
 const ENOUGH: u64 = 24;
-
-/// The number of calls after which a store that stops has stopped none.
-const ALL: u64 = 48;
-
-#[test]
-fn a_store_that_stops_leaves_all_or_the_rest(rt: HostRuntime) {
-    for act in [Purge, Wipe] {
-        for calls in 0..=ALL {
-            for choice in 0..4 {
-                let told = stopped_over(rt.alloc(), act, calls, choice);
-                let is_right = told.is_some_and(|(answer, found)| {
-                    is_allowed(act, answer, found)
-                        && (calls > 0 || answer == Answer::Refused)
-                        && (calls < ALL || answer != Answer::Refused)
-                });
-                assert!(rt; is_right, "{act:?} {calls} {choice} {told:?}");
-            }
-        }
-    }
-}
 
 #[test]
 fn a_crash_leaves_all_or_the_rest(rt: HostRuntime) {
