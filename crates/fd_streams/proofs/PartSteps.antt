@@ -28,7 +28,7 @@ use Rattle.fd_outcome.proofs.Endings.{front_more, takes_both, takes_then_front}
 use Rattle.fd_outcome.proofs.Positions.{behind_both, fields_more, fields_nothing, fields_opened, fields_passed, fields_rejected, fields_unsplit, refused_at}
 use Rattle.fd_streams.specs.declared.listing.Halt.{Halt}
 use Rattle.fd_streams.specs.declared.listing.Halt.TheVariants as halts
-use Rattle.fd_streams.specs.Halted.{HaltedAs, IsRefused, is_unread}
+use Rattle.fd_streams.specs.Halted.{HaltedAs, IsRefused}
 use Rattle.fd_streams.specs.Parted.{AreWritten, HaltsParting, IsUnsplit, PartsAll, PartsOn, PartsOne, messages_of, parts_of, written_of}
 use Rattle.fd_streams.proofs.ListingSteps.{halted_behind}
 

@@ -1,5 +1,6 @@
 -- What a search for the last message that is wanted finds, and how far it is.
 use Rattle.std.specs.Prelude.{◌≡◌, ◌<◌, ◌+◌, ◌++◌, [], length, ℕ, List, Option, Some, None, Result, Ok, Err, true, false, Bool}
+use Rattle.fd_bytes.specs.Causes.{Rose}
 use Rattle.fd_sections.specs.Message.{Sections, message_octets}
 use Rattle.fd_sections.specs.Progress.{Progress}
 use Rattle.fd_sections.specs.Stream.{stream}
@@ -31,6 +32,16 @@ abbrev pub is_fault : {X : Type 0} → Stop X → Bool
 is_fault (stop.Fault fault) = true
 is_fault (stop.Refused refusal) = false
 is_fault stop.NoMemory = false
+
+-- a read failed only where the input's count of faults rose, and at every other answer the count is as before
+abbrev pub StopsInput : {X : Type 0} → Stop X → ℕ → ℕ → Type 0
+StopsInput (stop.Fault fault) before now = Rose before now
+StopsInput (stop.Refused refusal) before now = now ≡ before
+StopsInput stop.NoMemory before now = now ≡ before
+
+abbrev pub HasInputCause : {A X : Type 0} → Result A (Stop X) → ℕ → ℕ → Type 0
+HasInputCause (Ok done) before now = now ≡ before
+HasInputCause (Err e) before now = StopsInput e before now
 
 abbrev pub IsNoMemory : {X : Type 0} → Stop X → Type 0
 IsNoMemory (stop.Fault fault) = ⊥

@@ -1,5 +1,6 @@
 -- How far a listing is, and what it wrote where it halts.
-use Rattle.std.specs.Prelude.{◌≡◌, ◌≤◌, ◌+◌, ℕ, List, [], ◌++◌, Bool, true, false, Option, Some, None, IfSome, Result, Ok, Err}
+use Rattle.std.specs.Prelude.{◌≡◌, ◌≤◌, ◌+◌, ℕ, List, [], ◌++◌, Bool, Option, Some, None, IfSome, Result, Ok, Err}
+use Rattle.fd_bytes.specs.Causes.{Rose}
 use Rattle.fd_io.specs.Streams.{Takes, TakesFront}
 use Rattle.fd_sections.specs.Progress.{Progress}
 use Rattle.fd_sections.specs.Stream.{stream}
@@ -49,17 +50,29 @@ abbrev pub IsWritten : Result (List ℕ) Refusal → Option (List ℕ) → Optio
 IsWritten (Ok lines) a b = Takes a b lines
 IsWritten (Err refusal) a b = ⊥
 
-abbrev pub is_unread : {X : Type 0} → Halt X → Bool
-is_unread (halts.Unread fault) = true
-is_unread (halts.Unwritten fault) = false
-is_unread (halts.Refused refusal) = false
-is_unread halts.NoMemory = false
+-- ---- Why. The input counts i faults before and j now, the output k and l.
 
-abbrev pub is_unwritten : {X : Type 0} → Halt X → Bool
-is_unwritten (halts.Unread fault) = false
-is_unwritten (halts.Unwritten fault) = true
-is_unwritten (halts.Refused refusal) = false
-is_unwritten halts.NoMemory = false
+-- nothing was read, and a write failed only where the output's count rose
+abbrev pub StopsOutput : {X : Type 0} → Halt X → ℕ → ℕ → Type 0
+StopsOutput (halts.Unread fault) k l = ⊥
+StopsOutput (halts.Unwritten fault) k l = Rose k l
+StopsOutput (halts.Refused refusal) k l = l ≡ k
+StopsOutput halts.NoMemory k l = l ≡ k
+
+abbrev pub HasOutputCause : {A X : Type 0} → Result A (Halt X) → ℕ → ℕ → Type 0
+HasOutputCause (Ok done) k l = l ≡ k
+HasOutputCause (Err halt) k l = StopsOutput halt k l
+
+-- a read failed only where the input's count rose, a write only where the output's did; each count that isn't said to rise is as before
+abbrev pub Stops : {X : Type 0} → Halt X → ℕ → ℕ → ℕ → ℕ → Type 0
+Stops (halts.Unread fault) i j k l = Rose i j × (l ≡ k)
+Stops (halts.Unwritten fault) i j k l = (j ≡ i) × Rose k l
+Stops (halts.Refused refusal) i j k l = (j ≡ i) × (l ≡ k)
+Stops halts.NoMemory i j k l = (j ≡ i) × (l ≡ k)
+
+abbrev pub HasCauses : {A X : Type 0} → Result A (Halt X) → ℕ → ℕ → ℕ → ℕ → Type 0
+HasCauses (Ok done) i j k l = (j ≡ i) × (l ≡ k)
+HasCauses (Err halt) i j k l = Stops halt i j k l
 
 -- ---- Going over the messages
 

@@ -1,12 +1,11 @@
 // From a stream to the lines of its messages.
-ghost use Rattle.std.specs.Prelude.{◌≡◌, ◌≤◌, [], Some, Ok, IfSome, IfOk, IfErr, OnOk, true, false};
-ghost use Rattle.fd_bytes.specs.Causes.{Rose};
+ghost use Rattle.std.specs.Prelude.{◌≡◌, ◌≤◌, [], Some, Ok, IfSome, IfOk, IfErr, OnOk};
 ghost use Rattle.fd_io.specs.Streams.{Takes};
 ghost use Rattle.fd_sections.specs.Parts.{sections_of};
 ghost use Rattle.fd_packing.specs.Field.{field_of};
 ghost use Rattle.fd_listing.specs.Describe.{describe_text};
 ghost use Rattle.fd_outcome.specs.Listed.{field_lines, message_lines, alone, listed};
-ghost use Rattle.fd_streams.specs.Halted.{AreFew, HaltedAs, Halted, IsWritten, ListedOne, ListedAll, Comes, is_unread, is_unwritten};
+ghost use Rattle.fd_streams.specs.Halted.{AreFew, Comes, Halted, HaltedAs, HasCauses, HasOutputCause, IsWritten, ListedAll, ListedOne};
 
 use fd_io::{Sink, Source};
 use fd_listing::{TextFault, ValuesFault, describe, values};
@@ -36,10 +35,7 @@ fn write_description<X, K: Sink<X>>(
 ) -> Result<(), Halt<X>>
     ensures whole { OnOk result (Takes (K.taken output.old) (K.taken output.new) (describe_text number (sections_of message.now))) }
     ensures halted { IfErr result (λ e. HaltedAs e (K.taken output.old) (K.taken output.new) (alone (Ok (describe_text number (sections_of message.now))))) }
-    ensures read { IfErr result (λ e. is_unread e ≡ false) }
-    ensures calm { OnOk result (K.faults output.new ≡ K.faults output.old) }
-    ensures quiet { IfErr result (λ e. is_unwritten e ≡ false → K.faults output.new ≡ K.faults output.old) }
-    ensures write { IfErr result (λ e. is_unwritten e ≡ true → Rose (K.faults output.old) (K.faults output.new)) }
+    ensures cause { HasOutputCause result (K.faults output.old) (K.faults output.new) }
 {
     match describe(alloc, number, message, output) {
         Ok(()) => Ok(()),
@@ -59,10 +55,7 @@ fn write_points<X, K: Sink<X>>(
     requires { IfSome decimals (λ d. d ≤ 30) }
     ensures whole { OnOk result (IsWritten (field_lines number decimals (field_of (sections_of message.now))) (K.taken output.old) (K.taken output.new)) }
     ensures halted { IfErr result (λ e. HaltedAs e (K.taken output.old) (K.taken output.new) (alone (field_lines number decimals (field_of (sections_of message.now))))) }
-    ensures read { IfErr result (λ e. is_unread e ≡ false) }
-    ensures calm { OnOk result (K.faults output.new ≡ K.faults output.old) }
-    ensures quiet { IfErr result (λ e. is_unwritten e ≡ false → K.faults output.new ≡ K.faults output.old) }
-    ensures write { IfErr result (λ e. is_unwritten e ≡ true → Rose (K.faults output.old) (K.faults output.new)) }
+    ensures cause { HasOutputCause result (K.faults output.old) (K.faults output.new) }
 {
     match values(alloc, number, message, decimals, output) {
         Ok(()) => Ok(()),
@@ -84,10 +77,7 @@ fn write_message<X, K: Sink<X>>(
     requires { AreFew listing }
     ensures whole { OnOk result (IsWritten (message_lines listing number (sections_of message.now)) (K.taken output.old) (K.taken output.new)) }
     ensures halted { IfErr result (λ e. HaltedAs e (K.taken output.old) (K.taken output.new) (alone (message_lines listing number (sections_of message.now)))) }
-    ensures read { IfErr result (λ e. is_unread e ≡ false) }
-    ensures calm { OnOk result (K.faults output.new ≡ K.faults output.old) }
-    ensures quiet { IfErr result (λ e. is_unwritten e ≡ false → K.faults output.new ≡ K.faults output.old) }
-    ensures write { IfErr result (λ e. is_unwritten e ≡ true → Rose (K.faults output.old) (K.faults output.new)) }
+    ensures cause { HasOutputCause result (K.faults output.old) (K.faults output.new) }
 {
     match listing {
         Listing::Descriptions => write_description(alloc, number, message, output),
@@ -105,10 +95,7 @@ fn list_message<X, K: Sink<X>>(
     requires { AreFew listing }
     ensures went { IfOk result (λ some. ListedOne listing some splitter.old splitter.new (K.taken output.old) (K.taken output.new)) }
     ensures halted { IfErr result (λ e. Halted listing e splitter.old (K.taken output.old) (K.taken output.new)) }
-    ensures read { IfErr result (λ e. is_unread e ≡ false) }
-    ensures calm { OnOk result (K.faults output.new ≡ K.faults output.old) }
-    ensures quiet { IfErr result (λ e. is_unwritten e ≡ false → K.faults output.new ≡ K.faults output.old) }
-    ensures write { IfErr result (λ e. is_unwritten e ≡ true → Rose (K.faults output.old) (K.faults output.new)) }
+    ensures cause { HasOutputCause result (K.faults output.old) (K.faults output.new) }
 {
     let number = splitter.given() + 1;
     match splitter.next() {
@@ -131,10 +118,7 @@ fn list_messages<X: Drop, K: Sink<X>>(
     requires { AreFew listing }
     ensures went { OnOk result (ListedAll listing splitter.old splitter.new (K.taken output.old) (K.taken output.new)) }
     ensures halted { IfErr result (λ e. Halted listing e splitter.old (K.taken output.old) (K.taken output.new)) }
-    ensures read { IfErr result (λ e. is_unread e ≡ false) }
-    ensures calm { OnOk result (K.faults output.new ≡ K.faults output.old) }
-    ensures quiet { IfErr result (λ e. is_unwritten e ≡ false → K.faults output.new ≡ K.faults output.old) }
-    ensures write { IfErr result (λ e. is_unwritten e ≡ true → Rose (K.faults output.old) (K.faults output.new)) }
+    ensures cause { HasOutputCause result (K.faults output.old) (K.faults output.new) }
 {
     'messages: loop {
         match list_message(alloc, listing, splitter, output) {
@@ -155,11 +139,7 @@ pub fn list<X: Drop, I: Source<X>, K: Sink<X>>(
     requires { AreFew listing }
     ensures answer { IfSome (I.left input.old) (λ octets. Comes result (K.taken output.old) (K.taken output.new) (listed listing octets)) }
     ensures to_end { IfSome (I.left input.old) (λ octets. OnOk result (I.left input.new ≡ Some [])) }
-    ensures calm { OnOk result ((I.faults input.new ≡ I.faults input.old) × (K.faults output.new ≡ K.faults output.old)) }
-    ensures read { IfErr result (λ e. is_unread e ≡ true → Rose (I.faults input.old) (I.faults input.new)) }
-    ensures read_quiet { IfErr result (λ e. is_unread e ≡ false → I.faults input.new ≡ I.faults input.old) }
-    ensures write { IfErr result (λ e. is_unwritten e ≡ true → Rose (K.faults output.old) (K.faults output.new)) }
-    ensures write_quiet { IfErr result (λ e. is_unwritten e ≡ false → K.faults output.new ≡ K.faults output.old) }
+    ensures cause { HasCauses result (I.faults input.old) (I.faults input.new) (K.faults output.old) (K.faults output.new) }
 {
     let Ok(mut splitter) = Splitter::new(alloc) else {
         return Err(Halt::NoMemory);

@@ -1,12 +1,11 @@
 // From a stream to its fields, each as a message of its own.
-ghost use Rattle.std.specs.Prelude.{◌≡◌, ◌≤◌, ◌<◌, ◌+◌, ◌^◌, ℕ, List, Option, [], length, Some, Ok, IfSome, IfOk, IfErr, OnOk, true, false};
-ghost use Rattle.fd_bytes.specs.Causes.{Rose};
+ghost use Rattle.std.specs.Prelude.{◌≡◌, ◌≤◌, ◌<◌, ◌+◌, ◌^◌, ℕ, List, Option, [], length, Some, Ok, IfSome, IfOk, IfErr, OnOk};
 ghost use Rattle.fd_io.specs.Streams.{Takes};
 ghost use Rattle.fd_split.specs.Reading.{Wrong, reading_fields};
 ghost use Rattle.fd_outcome.specs.Fields.{refusal_of_wrong};
 ghost use Rattle.fd_outcome.specs.Listed.{alone, ended};
 ghost use Rattle.fd_outcome.specs.Splitting.{split_of};
-ghost use Rattle.fd_streams.specs.Halted.{HaltedAs, is_unread, is_unwritten};
+ghost use Rattle.fd_streams.specs.Halted.{HaltedAs, HasCauses, HasOutputCause, StopsOutput};
 ghost use Rattle.fd_streams.specs.Parted.{AreWritten, HaltsParting, IsUnsplit, Parts, PartsAll, PartsOne, messages_of, parts_of};
 
 use crate::listing::Halt;
@@ -30,8 +29,7 @@ fn unsplit<X>(number: u64, fault: SplitFault) -> Halt<X>
     requires { 1 ≤ number }
     ensures halted { (a : Option (List ℕ)) (wrong : Wrong) → IsUnsplit wrong fault → HaltedAs result a a (ended (Some (refusal_of_wrong number wrong))) }
     ensures starved { fault ≡ SplitFault.NoMemory → result ≡ Halt.NoMemory }
-    ensures read { is_unread result ≡ false }
-    ensures written { is_unwritten result ≡ false }
+    ensures calm { (n : ℕ) → StopsOutput result n n }
 {
     match fault {
         SplitFault::Bad(bad) => Halt::Refused(refusal_of(BadAt { number, bad })),
@@ -48,10 +46,7 @@ fn write_fields<X, K: Sink<X>>(
 ) -> Result<(), Halt<X>>
     ensures whole { OnOk result (Takes (K.taken output.old) (K.taken output.new) (messages_of fields.now)) }
     ensures halted { IfErr result (λ e. HaltedAs e (K.taken output.old) (K.taken output.new) (alone (Ok (messages_of fields.now)))) }
-    ensures read { IfErr result (λ e. is_unread e ≡ false) }
-    ensures calm { OnOk result (K.faults output.new ≡ K.faults output.old) }
-    ensures quiet { IfErr result (λ e. is_unwritten e ≡ false → K.faults output.new ≡ K.faults output.old) }
-    ensures write { IfErr result (λ e. is_unwritten e ≡ true → Rose (K.faults output.old) (K.faults output.new)) }
+    ensures cause { HasOutputCause result (K.faults output.old) (K.faults output.new) }
 {
     for i in 0..fields.count() {
         let Ok(field) = fields.field(alloc, i) else {
@@ -75,10 +70,7 @@ fn write_parts<X, K: Sink<X>>(
     ensures whole { IfOk result (λ n. AreWritten n (reading_fields octets.now) (K.taken output.old) (K.taken output.new)) }
     ensures few { IfOk result (λ n. n ≤ length octets.now) }
     ensures halted { IfErr result (λ e. HaltedAs e (K.taken output.old) (K.taken output.new) (alone (parts_of number (reading_fields octets.now)))) }
-    ensures read { IfErr result (λ e. is_unread e ≡ false) }
-    ensures calm { OnOk result (K.faults output.new ≡ K.faults output.old) }
-    ensures quiet { IfErr result (λ e. is_unwritten e ≡ false → K.faults output.new ≡ K.faults output.old) }
-    ensures write { IfErr result (λ e. is_unwritten e ≡ true → Rose (K.faults output.old) (K.faults output.new)) }
+    ensures cause { HasOutputCause result (K.faults output.old) (K.faults output.new) }
 {
     let fields = match Fields::open(alloc, octets) {
         Ok(fields) => fields,
@@ -98,10 +90,7 @@ fn split_message<X, K: Sink<X>>(
 ) -> Result<Option<u32>, Halt<X>>
     ensures went { IfOk result (λ n. PartsOne n splitter.old splitter.new (K.taken output.old) (K.taken output.new)) }
     ensures halted { IfErr result (λ e. HaltsParting e splitter.old (K.taken output.old) (K.taken output.new)) }
-    ensures read { IfErr result (λ e. is_unread e ≡ false) }
-    ensures calm { OnOk result (K.faults output.new ≡ K.faults output.old) }
-    ensures quiet { IfErr result (λ e. is_unwritten e ≡ false → K.faults output.new ≡ K.faults output.old) }
-    ensures write { IfErr result (λ e. is_unwritten e ≡ true → Rose (K.faults output.old) (K.faults output.new)) }
+    ensures cause { HasOutputCause result (K.faults output.old) (K.faults output.new) }
 {
     let number = splitter.given() + 1;
     match splitter.next_frame() {
@@ -123,10 +112,7 @@ fn split_messages<X: Drop, K: Sink<X>>(
     requires { length splitter.old.rest < 2 ^ 63 }
     ensures went { IfOk result (λ n. PartsAll n splitter.old splitter.new (K.taken output.old) (K.taken output.new)) }
     ensures halted { IfErr result (λ e. HaltsParting e splitter.old (K.taken output.old) (K.taken output.new)) }
-    ensures read { IfErr result (λ e. is_unread e ≡ false) }
-    ensures calm { OnOk result (K.faults output.new ≡ K.faults output.old) }
-    ensures quiet { IfErr result (λ e. is_unwritten e ≡ false → K.faults output.new ≡ K.faults output.old) }
-    ensures write { IfErr result (λ e. is_unwritten e ≡ true → Rose (K.faults output.old) (K.faults output.new)) }
+    ensures cause { HasOutputCause result (K.faults output.old) (K.faults output.new) }
 {
     let mut count = 0u64;
     'messages: loop {
@@ -147,11 +133,7 @@ pub fn split_input<X: Drop, I: Source<X>, K: Sink<X>>(
 ) -> Result<Tally, Halt<X>>
     ensures answer { IfSome (I.left input.old) (λ octets. Parts result (K.taken output.old) (K.taken output.new) (split_of octets)) }
     ensures to_end { IfSome (I.left input.old) (λ octets. OnOk result (I.left input.new ≡ Some [])) }
-    ensures calm { OnOk result ((I.faults input.new ≡ I.faults input.old) × (K.faults output.new ≡ K.faults output.old)) }
-    ensures read { IfErr result (λ e. is_unread e ≡ true → Rose (I.faults input.old) (I.faults input.new)) }
-    ensures read_quiet { IfErr result (λ e. is_unread e ≡ false → I.faults input.new ≡ I.faults input.old) }
-    ensures write { IfErr result (λ e. is_unwritten e ≡ true → Rose (K.faults output.old) (K.faults output.new)) }
-    ensures write_quiet { IfErr result (λ e. is_unwritten e ≡ false → K.faults output.new ≡ K.faults output.old) }
+    ensures cause { HasCauses result (I.faults input.old) (I.faults input.new) (K.faults output.old) (K.faults output.new) }
 {
     let Ok(mut splitter) = Splitter::new(alloc) else {
         return Err(Halt::NoMemory);

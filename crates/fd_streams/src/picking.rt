@@ -1,9 +1,8 @@
 // From a stream to its last message that has the pairs.
-ghost use Rattle.std.specs.Prelude.{◌≡◌, ◌≤◌, [], IfOk, IfSome, IfErr, OnOk, OnErr, Some, true, false};
-ghost use Rattle.fd_bytes.specs.Causes.{Rose};
+ghost use Rattle.std.specs.Prelude.{◌≡◌, ◌≤◌, [], IfOk, IfSome, IfErr, OnOk, Some, false};
 ghost use Rattle.fd_key.specs.Pairs.{has_all};
 ghost use Rattle.fd_outcome.specs.Picking.{found};
-ghost use Rattle.fd_streams.specs.Found.{IsNoMemory, Answers, is_fault, Took, TookAll, Stopped};
+ghost use Rattle.fd_streams.specs.Found.{Answers, HasInputCause, IsNoMemory, Stopped, Took, TookAll, is_fault};
 ghost use Rattle.fd_key.specs.Keys.{key_of};
 ghost use Rattle.fd_sections.specs.Parts.{sections_of};
 
@@ -126,9 +125,7 @@ pub fn last_wanted<X: Drop, I: Source<X>>(
     requires { given.now ≡ [] }
     ensures answer { IfSome (I.left input.old) (λ octets. Answers result (found wanted.now octets)) }
     ensures to_end { IfSome (I.left input.old) (λ octets. OnOk result (I.left input.new ≡ Some [])) }
-    ensures calm { OnOk result (I.faults input.new ≡ I.faults input.old) }
-    ensures quiet { IfErr result (λ e. is_fault e ≡ false → I.faults input.new ≡ I.faults input.old) }
-    ensures cause { IfErr result (λ e. is_fault e ≡ true → Rose (I.faults input.old) (I.faults input.new)) }
+    ensures cause { HasInputCause result (I.faults input.old) (I.faults input.new) }
 {
     let mut splitter = Splitter::new(alloc)?;
     let mut last = Last {

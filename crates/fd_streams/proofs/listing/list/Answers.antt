@@ -1,6 +1,7 @@
 use Rattle.std.proofs.Common.{◌≡◌, ℕ, List, ◌<◌, length, take, refl, sym, ap, subst, ◌∙◌, arith, Option, length-take}
 use Rattle.std.proofs.lemmas.List.{take_at}
 use Rattle.fd_io.specs.Streams.{Gives}
+use Rattle.fd_streams.proofs.Causes.{both_before}
 use Rattle.fd_streams.proofs.Runs.{waiting_start, at_end}
 use Rattle.fd_streams.proofs.ListingRuns.{began, next_turn, fed_on, list_halted, list_cut, list_whole, list_truncated, list_past}
 use Rattle.fd_streams.proofs.listing.list.Goals as goal
@@ -64,6 +65,10 @@ returns-in-Err-list_messages-clause-answer g c =
     list_halted (g.I.Source.left c.args.input.now) (g.I.Source.left c.loop.input) (g.I.Source.left c.read_piece.new.input) c.args.listing c.loop.splitter c.feed.new.self (g.K.Sink.taken c.args.output.now) (g.K.Sink.taken c.loop.output) (g.K.Sink.taken c.list_messages.new.output) piece c.in-Err-list_messages.halt i.gone
     (omega (arith, i.fed, c.split_at.ensures.front_len, c.in-Ok-read_piece.ensures.within below)) gives c.in-Ok-feed.ensures.ok c.in-Err-list_messages.ensures.halted
 
+pub returns-in-Err-list_messages-clause-cause : goal.returns-in-Err-list_messages-clause-cause
+returns-in-Err-list_messages-clause-cause g c =
+    both_before c.in-Err-list_messages.halt _ _ _ _ _ (c.in-Ok-read_piece.ensures.calm ∙ c.loop.invariant.read) c.loop.invariant.calm c.in-Err-list_messages.ensures.cause
+
 pub loop-preserved : goal.loop-preserved
 loop-preserved g c =
     let i = c.loop.invariant in
@@ -79,5 +84,5 @@ loop-preserved g c =
       turns = omega (arith, i.turns, nonzero c.in-Ok-read_piece.n c.if-n-eq0.false);
       room = i.room;
       read = c.in-Ok-read_piece.ensures.calm ∙ i.read;
-      calm = c.in-Ok-list_messages.ensures.calm ∙ i.calm;
+      calm = c.in-Ok-list_messages.ensures.cause ∙ i.calm;
     }

@@ -1,6 +1,7 @@
 use Rattle.std.proofs.Common.{◌≡◌, ℕ, List, ◌+◌, ◌≤◌, ◌<◌, length, take, refl, sym, ap, subst, ◌∙◌, arith, Option, length-take}
 use Rattle.std.proofs.lemmas.List.{take_at}
 use Rattle.fd_io.specs.Streams.{Gives}
+use Rattle.fd_streams.proofs.Causes.{both_before}
 use Rattle.fd_streams.proofs.Runs.{waiting_start, at_end}
 use Rattle.fd_streams.proofs.PartRuns.{began, next_turn, fed_on, few_on, held_few, part_halted, part_cut, part_none, part_whole, part_truncated, part_past}
 use Rattle.fd_streams.proofs.parting.split_input.Goals as goal
@@ -68,6 +69,10 @@ returns-in-Err-split_messages-clause-answer g c =
     part_halted (g.I.Source.left c.args.input.now) (g.I.Source.left c.loop.input) (g.I.Source.left c.read_piece.new.input) c.loop.splitter c.feed.new.self c.loop.fields (g.K.Sink.taken c.args.output.now) (g.K.Sink.taken c.loop.output) (g.K.Sink.taken c.split_messages.new.output) piece c.in-Err-split_messages.halt i.gone
     (omega (arith, i.fed, c.split_at.ensures.front_len, c.in-Ok-read_piece.ensures.within below)) gives c.in-Ok-feed.ensures.ok c.in-Err-split_messages.ensures.halted
 
+pub returns-in-Err-split_messages-clause-cause : goal.returns-in-Err-split_messages-clause-cause
+returns-in-Err-split_messages-clause-cause g c =
+    both_before c.in-Err-split_messages.halt _ _ _ _ _ (c.in-Ok-read_piece.ensures.calm ∙ c.loop.invariant.read) c.loop.invariant.calm c.in-Err-split_messages.ensures.cause
+
 pub loop-preserved : goal.loop-preserved
 loop-preserved g c =
     let i = c.loop.invariant in
@@ -85,5 +90,5 @@ loop-preserved g c =
       turns = omega (arith, i.turns, nonzero c.in-Ok-read_piece.n c.if-n-eq0.false);
       room = i.room;
       read = c.in-Ok-read_piece.ensures.calm ∙ i.read;
-      calm = c.in-Ok-split_messages.ensures.calm ∙ i.calm;
+      calm = c.in-Ok-split_messages.ensures.cause ∙ i.calm;
     }

@@ -1,6 +1,7 @@
 use Rattle.std.proofs.Common.{◌≡◌, ℕ, List, ◌<◌, length, take, refl, sym, ap, subst, ◌∙◌, arith, Option, length-take}
 use Rattle.std.proofs.lemmas.List.{take_at}
 use Rattle.fd_io.specs.Streams.{Gives}
+use Rattle.fd_streams.proofs.Causes.{input_calm}
 use Rattle.fd_streams.proofs.Runs.{began, waiting_start, at_end, found_last, found_cut, found_past, found_stop, next_turn, fed_on}
 use Rattle.fd_streams.proofs.picking.last_wanted.Goals as goal
 
@@ -52,6 +53,10 @@ returns-in-Err-take_messages-clause-answer g c =
     let below : c.loop.total < 68719476736 = omega (arith, i.limit, c.if-total-eq-INPUT_LIMIT.false) in
     found_stop (g.I.Source.left c.args.input.now) (g.I.Source.left c.loop.input) (g.I.Source.left c.read_piece.new.input) c.args.wanted.now c.loop.splitter c.feed.new.self c.loop.last piece c.in-Err-take_messages.stop i.searched
     (omega (arith, i.fed, c.split_at.ensures.front_len, c.in-Ok.ensures.within below)) gives c.in_ok-feed.ensures.ok c.in-Err-take_messages.ensures.err
+
+pub returns-in-Err-take_messages-clause-cause : goal.returns-in-Err-take_messages-clause-cause
+returns-in-Err-take_messages-clause-cause g c =
+    input_calm c.in-Err-take_messages.stop _ _ c.in-Err-take_messages.ensures.no_fault (c.in-Ok.ensures.calm ∙ c.loop.invariant.calm)
 
 pub loop-preserved : goal.loop-preserved
 loop-preserved g c =
