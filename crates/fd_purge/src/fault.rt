@@ -1,3 +1,6 @@
+ghost use Rattle.fd_purge.specs.Causes.{IsOfFolder};
+
+use fd_disk::Down;
 use fd_segment::Damage;
 
 /// Why a dataset was not purged or wiped.
@@ -27,4 +30,15 @@ pub enum PurgeFault<F> {
     },
     /// Memory was refused.
     NoMemory,
+}
+
+impl<F> From<Down<F>> for PurgeFault<F> {
+    ghost from_gives = { λ _ e. IsOfFolder e };
+
+    fn from(down: Down<F>) -> PurgeFault<F> {
+        match down {
+            Down::Fault(fault) => PurgeFault::Disk(fault),
+            Down::NoMemory => PurgeFault::NoMemory,
+        }
+    }
 }

@@ -67,12 +67,11 @@ where
     ensures name { D.name folder.new ≡ D.name folder.old }
     ensures later { D.faults folder.old ≤ D.faults folder.new }
 {
-    let opened = match recover(alloc, folder, dataset) {
+    let Recovered { toc, segments } = match recover(alloc, folder, dataset) {
         Ok(Some(opened)) => opened,
         Ok(None) => return Ok(None),
         Err(fault) => return Err(of_opening(fault)),
     };
-    let Recovered { toc, segments } = opened;
     let sorted = sorted_out(alloc, toc.entries(), segments);
     let table = toc.into_table();
     match sorted {

@@ -10,7 +10,7 @@ ghost use Rattle.fd_purge.specs.Stored.{IsLeftFirmly};
 ghost use Rattle.fd_purge.specs.Purging.{HasWiped, IsDamagedIn, IsLeftByPurge, IsLeftByWipe, IsOver, IsPurged, read_of};
 
 use crate::{PurgeFault, Purged, purge, wipe};
-use fd_disk::{Down, Renew, Store};
+use fd_disk::{Renew, Store};
 use std::alloc::Global;
 
 /// Purges a dataset of a store, whose folder isn't out, and leaves every other. It answers what `purge` does of that folder.
@@ -35,11 +35,7 @@ where
     ensures out { (other : List ℕ) → S.out store.new other ≡ true → S.out store.old other ≡ true }
     ensures later { S.faults store.old ≤ S.faults store.new }
 {
-    let mut folder = match store.folder(alloc, dataset) {
-        Ok(folder) => folder,
-        Err(Down::Fault(fault)) => return Err(PurgeFault::Disk(fault)),
-        Err(Down::NoMemory) => return Err(PurgeFault::NoMemory),
-    };
+    let mut folder = store.folder(alloc, dataset)?;
     let purged = purge(alloc, &mut folder, dataset);
     store.give_folder(folder);
     purged
@@ -66,11 +62,7 @@ where
     ensures out { (other : List ℕ) → S.out store.new other ≡ true → S.out store.old other ≡ true }
     ensures later { S.faults store.old ≤ S.faults store.new }
 {
-    let mut folder = match store.folder(alloc, dataset) {
-        Ok(folder) => folder,
-        Err(Down::Fault(fault)) => return Err(PurgeFault::Disk(fault)),
-        Err(Down::NoMemory) => return Err(PurgeFault::NoMemory),
-    };
+    let mut folder = store.folder(alloc, dataset)?;
     let wiped = wipe(alloc, &mut folder, dataset);
     store.give_folder(folder);
     wiped

@@ -41,12 +41,11 @@ where
     ensures name { D.name folder.new ≡ D.name folder.old }
     ensures later { D.faults folder.old ≤ D.faults folder.new }
 {
-    let opened = match recover(alloc, folder, dataset) {
+    let Recovered { toc, segments: _ } = match recover(alloc, folder, dataset) {
         Ok(Some(opened)) => opened,
         Ok(None) => return Ok(None),
         Err(fault) => return Err(of_opening(fault)),
     };
-    let Recovered { toc, segments: _ } = opened;
     let copied = Vec::from_slice(alloc, toc.entries());
     let table = toc.into_table();
     let Ok(entries) = copied else {
