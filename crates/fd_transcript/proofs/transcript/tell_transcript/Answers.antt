@@ -1,8 +1,9 @@
 use Rattle.std.proofs.Common.{ℕ, List, subst, string_bytes}
 use Rattle.fd_io.specs.Streams.{TakesFront}
 use Rattle.fd_listing.specs.Sinks.{TakesAllBut}
-use Rattle.fd_transcript.proofs.Pieces.{last_broken}
-use Rattle.fd_transcript.proofs.Tellings.{text_whole}
+use Rattle.fd_transcript.specs.Starving.{TakesShort}
+use Rattle.fd_transcript.proofs.Pieces.{last_broken, none_taken, starved_so}
+use Rattle.fd_transcript.proofs.Tellings.{some_text, text_whole}
 use Rattle.fd_transcript.proofs.transcript.tell_transcript.Goals as goal
 
 pub returns-in-Err-tell_lanes-clause-front : goal.returns-in-Err-tell_lanes-clause-front
@@ -15,3 +16,14 @@ returns-clause-front g c =
     let whole = text_whole c.args.transcript.now.before c.lanes-lanes.result.now c.args.script.now.lanes c.args.transcript.now.lanes (string_bytes c.new-lines.result) (string_bytes c.push_front.new.lines) c.in-Ok.ensures c.new-lines.ensures.bytes c.lanes-lanes.ensures.lanes in
     let took = subst (λ (t : List ℕ). TakesAllBut (g.K.Sink.taken c.args.report.now) (g.K.Sink.taken c.tell_lanes.new.sink) t (string_bytes c.tell_lanes.new.lines)) whole c.in-Ok-tell_lanes.ensures.took in
     last_broken (g.K.Sink.taken c.args.report.now) (g.K.Sink.taken c.tell_lanes.new.sink) (g.K.Sink.taken c.write_text.new.sink) _ (string_bytes c.tell_lanes.new.lines) c.as_str.result.now c.write_text.result took c.as_str.ensures.value c.write_text.ensures.front
+
+pub returns-in-Err-clause-short : goal.returns-in-Err-clause-short
+returns-in-Err-clause-short g c = none_taken (g.K.Sink.taken c.args.report.now) _ (some_text c.args.transcript.now.before c.args.script.now.lanes c.args.transcript.now.lanes)
+
+pub returns-in-Err-tell_lanes-clause-short : goal.returns-in-Err-tell_lanes-clause-short
+returns-in-Err-tell_lanes-clause-short g c =
+    let whole = text_whole c.args.transcript.now.before c.lanes-lanes.result.now c.args.script.now.lanes c.args.transcript.now.lanes (string_bytes c.new-lines.result) (string_bytes c.push_front.new.lines) c.in-Ok.ensures c.new-lines.ensures.bytes c.lanes-lanes.ensures.lanes in
+    starved_so _ _ _ (λ short. subst (λ (t : List ℕ). TakesShort (g.K.Sink.taken c.args.report.now) (g.K.Sink.taken c.tell_lanes.new.sink) t) whole short) c.in-Err-tell_lanes.ensures.short
+
+pub returns-clause-short : goal.returns-clause-short
+returns-clause-short g c = starved_so _ ⊥ _ (λ none. absurd none) c.write_text.ensures.memory
