@@ -123,7 +123,9 @@ pub held_short : (a b c : Option (List ℕ)) (t l q r whole : List ℕ) → whol
 held_short a b c t l q r whole is first short = record {
   front = first.front ++ short.front;
   rest = short.rest ++ r;
-  split = (held_broken a b c t l q r whole is first (short.front, short.rest, short.split, short.took)).2;
+  split = is ∙ sym (append_assoc t q r)
+      ∙ ap (λ (z : List ℕ). z ++ r) (ap (λ (z : List ℕ). z ++ q) first.split ∙ append_assoc first.front l q ∙ ap (λ (z : List ℕ). first.front ++ z) short.split ∙ sym (append_assoc first.front short.front short.rest))
+      ∙ append_assoc (first.front ++ short.front) short.rest r;
   more = some_front short.rest r short.more;
   took = takes_more a b c first.front short.front first.took short.took;
 }
@@ -133,7 +135,7 @@ pub held_before : (a b : Option (List ℕ)) (t l r whole : List ℕ) → whole �
 held_before a b t l r whole is some first = record {
   front = first.front;
   rest = l ++ r;
-  split = (held_stopped a b t l r whole is first).2;
+  split = is ∙ ap (λ (z : List ℕ). z ++ r) first.split ∙ append_assoc first.front l r;
   more = some_back l r some;
   took = first.took;
 }
@@ -147,6 +149,17 @@ pub starved_so : {A X : Type 0} (r : Result A (TextFault X)) (P Q : Type 0) → 
 starved_so (Ok done) P Q to p = tt
 starved_so (Err (Write x)) P Q to p = tt
 starved_so (Err NoMemory) P Q to p = to p
+
+pub fault_so : {X : Type 0} (fault : TextFault X) (P Q : Type 0) → (P → Q) → OnStarved {A = Unit {0}} (Err fault) P → OnStarved {A = Unit {0}} (Err fault) Q
+fault_so (Write x) P Q to p = tt
+fault_so NoMemory P Q to p = to p
+
+-- memory didn't run out
+pub not_starved : {A X : Type 0} (r : Result A (TextFault X)) (Q : Type 0) → OnStarved r ⊥ → OnStarved r Q
+not_starved r Q none = starved_so r ⊥ Q (λ (x : ⊥). absurd x) none
+
+pub fault_not_starved : {X : Type 0} (fault : TextFault X) (Q : Type 0) → OnStarved {A = Unit {0}} (Err fault) ⊥ → OnStarved {A = Unit {0}} (Err fault) Q
+fault_not_starved fault Q none = fault_so fault ⊥ Q (λ (x : ⊥). absurd x) none
 
 pub front_longer : (a b : Option (List ℕ)) (t r whole : List ℕ) → whole ≡ t ++ r → TakesFront a b t → TakesFront a b whole
 front_longer a b t r whole is front = (front.0, front.1 ++ r, is ∙ ap (λ (z : List ℕ). z ++ r) front.2 ∙ append_assoc front.0 front.1 r, front.3)

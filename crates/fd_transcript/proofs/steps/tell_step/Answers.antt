@@ -2,7 +2,8 @@ use Rattle.std.proofs.Common.{rules, ◌≡◌, ◌∙◌, ◌++◌, ℕ, List, 
 use Rattle.std.specs.Prelude.{flat_map}
 use Rattle.fd_listing.specs.Sinks.{HasSinkCause}
 use Rattle.fd_transcript.specs.Lines.{answer_line, answers_of, step_line}
-use Rattle.fd_transcript.proofs.Pieces.{front_longer, none_taken, some_back, some_front, starved_so, two_broken, two_pieces, two_short}
+use Rattle.fd_transcript.specs.Starving.{TakesShort}
+use Rattle.fd_transcript.proofs.Pieces.{fault_not_starved, front_longer, none_taken, some_back, some_front, two_broken, two_pieces, two_short}
 use Rattle.fd_transcript.proofs.Tellings.{some_step}
 use Rattle.fd_transcript.proofs.steps.tell_step.Goals as goal
 
@@ -30,13 +31,13 @@ returns-clause-front g c =
 
 pub returns-in-Err-clause-short : goal.returns-in-Err-clause-short
 returns-in-Err-clause-short g c =
-    let told = record { lane = c.args.lane.now; number = c.args.number; step = c.args.step.now; end = c.args.end.now } in
-    let one = step_line told in
+    let one = step_line (record { lane = c.args.lane.now; number = c.args.number; step = c.args.step.now; end = c.args.end.now }) in
     let more = flat_map answer_line (answers_of c.args.end.now) in
-    none_taken (g.K.Sink.taken c.args.sink.now) (string_bytes c.args.lines.now ++ (one ++ more)) (some_back (string_bytes c.args.lines.now) (one ++ more) (some_front one more (some_step told)))
+    none_taken (g.K.Sink.taken c.args.sink.now) (string_bytes c.args.lines.now ++ (one ++ more)) (some_back (string_bytes c.args.lines.now) (one ++ more) (some_front one more (some_step (record { lane = c.args.lane.now; number = c.args.number; step = c.args.step.now; end = c.args.end.now }))))
 
 pub returns-in-Err-write_many-clause-short : goal.returns-in-Err-write_many-clause-short
-returns-in-Err-write_many-clause-short g c = starved_so _ ⊥ _ (λ none. absurd none) c.in-Err-write_many.ensures.memory
+returns-in-Err-write_many-clause-short g c =
+    fault_not_starved c.in-Err-write_many.fault (TakesShort (g.K.Sink.taken c.args.sink.now) (g.K.Sink.taken c.write_many.new.sink) (string_bytes c.args.lines.now ++ (step_line (record { lane = c.args.lane.now; number = c.args.number; step = c.args.step.now; end = c.args.end.now }) ++ flat_map answer_line (answers_of c.args.end.now)))) c.in-Err-write_many.ensures.memory
 
 pub returns-clause-short : goal.returns-clause-short
 returns-clause-short g c =
