@@ -1,13 +1,18 @@
 -- What is written of a session, by where it stopped.
-use Rattle.std.proofs.Common.{◌≡◌, ◌∙◌, ◌⊎◌, ℕ, List, [], ◌++◌, Option, Some, None, refl, sym, ap, subst, append_assoc, append-nil, inl, inr}
+use Rattle.std.proofs.Common.{◌≡◌, ◌∙◌, ◌⊎◌, ℕ, false, List, [], ◌++◌, Option, Some, None, refl, sym, ap, subst, append_assoc, append-nil, inl, inr}
 use Rattle.fd_bytes.specs.Causes.{Rose}
 use Rattle.fd_io.specs.Streams.{Takes, TakesFront}
 use Rattle.fd_outcome.specs.declared.status.Status.{Status}
-use Rattle.fd_outcome.specs.declared.status.Status.TheVariants.{NoMemory, OutputFault}
-use Rattle.fd_outcome.specs.Causes.{Telling}
+use Rattle.fd_outcome.specs.declared.status.Status.TheVariants.{Damaged, NoMemory, OutputFault}
+use Rattle.fd_segment.specs.declared.fault.Damage.{Damage}
+use Rattle.fd_lanes.specs.declared.end.End.{End}
+use Rattle.fd_outcome.specs.Causes.{BadFile, Telling, damaged_line}
 use Rattle.fd_outcome.specs.Ends.{no_memory, output_failed}
 use Rattle.fd_outcome.specs.Told.{Told, ToldOrNoMemory}
-use Rattle.fd_session.specs.Writes.{All, NoFound, NoText, Starved, Writes}
+use Rattle.fd_transcript.specs.Starving.{TakesShort}
+use Rattle.fd_session.specs.declared.closing.Kind.TheVariants as kinds
+use Rattle.fd_session.specs.Endings.{closing, first_damage, some_has}
+use Rattle.fd_session.specs.Writes.{All, MayStarve, NoFound, NoText, Starved, ToldClosing, Writes}
 
 takes_both : (c m d : Option (List ℕ)) (x y : List ℕ) → Takes c m x → Takes m d y → Takes c d (x ++ y)
 takes_both None m d x y t u = tt
@@ -42,19 +47,25 @@ module _ (found text : List ℕ) (end : Telling) (s : Status) (a b : Option (Lis
     from_there rose = subst (λ (x : ℕ). Rose x n) calm rose
 
     -- memory ran out behind this front of the transcript
-    starved_behind : (front rest : List ℕ) → text ≡ front ++ rest → Takes c mid front → Told NoMemory no_memory s mid d between n → Writes found text end s a b k l c d m n
-    starved_behind front rest is t told = elim told.told as (λ _. Writes found text end s a b k l c d m n) [
-      | inl x ↦ Starved (record { status = x.status; output = took; front = front; rest = rest; is = is; report = takes_both c mid d front no_memory t x.took })
-      | inr x ↦ NoText (record { status = x.status; output = took; report = inr (front, rest, is, front_both c mid d front no_memory t x.took); rose = from_there x.rose })
+    starved_behind : (front rest : List ℕ) → text ≡ front ++ rest → MayStarve end rest → Takes c mid front → Told NoMemory no_memory s mid d between n → Writes found text end s a b k l c d m n
+    starved_behind front rest is cause t told = elim told.told as (λ _. Writes found text end s a b k l c d m n) [
+      | inl x ↦ Starved (record { status = x.status; output = took; front = front; rest = rest; is = is; cause = cause; report = takes_both c mid d front no_memory t x.took })
+      | inr x ↦ NoText (record { status = x.status; output = took; report = inr (front, rest, is, cause, front_both c mid d front no_memory t x.took); rose = from_there x.rose })
     ]
 
-    pub starved : TakesFront c mid text → Told NoMemory no_memory s mid d between n → Writes found text end s a b k l c d m n
-    starved (front, rest, is, t) told = starved_behind front rest is t told
+    pub starved : TakesShort c mid text → Told NoMemory no_memory s mid d between n → Writes found text end s a b k l c d m n
+    starved short told = starved_behind short.front short.rest short.split (inl short.more) short.took told
 
     -- the transcript was written
-    pub closed : l ≡ k → Takes c mid text → ToldOrNoMemory end.status end.line s mid d between n → Writes found text end s a b k l c d m n
+    pub closed : l ≡ k → Takes c mid text → ToldClosing end s mid d between n → Writes found text end s a b k l c d m n
     closed quiet t (inl told) = elim told.told as (λ _. Writes found text end s a b k l c d m n) [
       | inl x ↦ All (record { status = x.status; calm = quiet; output = took; report = takes_both c mid d text end.line t x.took })
       | inr x ↦ NoText (record { status = x.status; output = took; report = inl (front_both c mid d text end.line t x.took); rose = from_there x.rose })
     ]
-    closed quiet t (inr told) = starved_behind text [] (sym (append-nil text)) t told
+    closed quiet t (inr (damaged, told)) = starved_behind text [] (sym (append-nil text)) (inr damaged) t told
+
+-- the line of a damage was told, or that memory ran out in its place
+pub damage_told : {F : Type 0} (dataset : List ℕ) (ends : List (List (End F))) (damage : Damage) (s : Status) (c d : Option (List ℕ)) (m n : ℕ) → some_has kinds.Starved ends ≡ false → first_damage ends ≡ Some damage
+    → ToldOrNoMemory Damaged (damaged_line dataset (BadFile damage)) s c d m n → ToldClosing (closing dataset ends) s c d m n
+damage_told dataset ends damage s c d m n fed is (inl told) = rw (fed, is) (inl told)
+damage_told dataset ends damage s c d m n fed is (inr told) = rw (fed, is) (inr (refl, told))

@@ -2,9 +2,8 @@
 ghost use Rattle.std.specs.Prelude.{◌≡◌};
 ghost use Rattle.fd_transcript.specs.Lines.{found_bytes};
 ghost use Rattle.fd_transcript.specs.Transcripts.{transcript_text};
-ghost use Rattle.fd_outcome.specs.Told.{ToldOrNoMemory};
 ghost use Rattle.fd_session.specs.Endings.{closing, count_faults, damage_of, ends_in, first_damage, is_fault, lane_damage, lane_faults, lane_has, one_if, some_has};
-ghost use Rattle.fd_session.specs.Writes.{HasCounted, Writes};
+ghost use Rattle.fd_session.specs.Writes.{HasCounted, ToldClosing, Writes};
 
 use fd_bytes::Items;
 use fd_disk::Store;
@@ -103,14 +102,14 @@ fn first_damage<F>(ends: &Ends<F>) -> Option<Damage>
     None
 }
 
-/// Writes the line of the status that the ends have.
+/// Writes the line of the status that the ends have. In place of the line of a damage it may be told that memory ran out.
 fn tell_closing<F, X: Drop, E: Sink<X>>(
     alloc: Global,
     dataset: &str,
     ends: &Ends<F>,
     report: &mut E,
 ) -> Status
-    ensures { ToldOrNoMemory (closing dataset.now ends.now).status (closing dataset.now ends.now).line result (E.taken report.old) (E.taken report.new) (E.faults report.old) (E.faults report.new) }
+    ensures { ToldClosing (closing dataset.now ends.now) result (E.taken report.old) (E.taken report.new) (E.faults report.old) (E.faults report.new) }
 {
     if some_has(ends, Kind::Starved) {
         return tell_no_memory(report);

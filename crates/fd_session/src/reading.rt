@@ -69,23 +69,23 @@ fn read_octets<X: Drop, I: Source<X>>(
     }
 }
 
-/// The script and the messages of these octets, behind which more come than an input may have, or none.
-fn parse(alloc: Global, octets: &[u8], past: bool) -> Result<Input, Unaccepted>
-    requires { length octets.now ≤ 68719476736 }
-    ensures input { IfOk result (λ r. (input : List ℕ) → octets.now ≡ take input_limit input → past ≡ nat_lt input_limit (length input) → IsInput input r.script r.messages) }
+/// The script and the messages of these octets, behind which more come than an input may have, or none. The octets are let
+/// go of before the messages are copied.
+fn parse(alloc: Global, octets: Vec<u8>, past: bool) -> Result<Input, Unaccepted>
+    requires { length octets.items ≤ 68719476736 }
+    ensures input { IfOk result (λ r. (input : List ℕ) → octets.items ≡ take input_limit input → past ≡ nat_lt input_limit (length input) → IsInput input r.script r.messages) }
     ensures short { IfOk result (λ r. length r.script.dataset ≤ 255) }
     ensures each { IfOk result (λ r. AreMessages r.messages) }
     ensures whole { OnOk result (past ≡ false) }
-    ensures refused { IfErr result (λ e. (input : List ℕ) → octets.now ≡ take input_limit input → past ≡ nat_lt input_limit (length input) → Says input e) }
+    ensures refused { IfErr result (λ e. (input : List ℕ) → octets.items ≡ take input_limit input → past ≡ nat_lt input_limit (length input) → Says input e) }
     ensures named { IfErr result IsNamed }
     ensures read { IfErr result (λ e. OnUnread e ⊥) }
 {
-    let (script, place) = match Script::read(alloc, octets) {
+    let (script, place) = match Script::read(alloc, &octets) {
         Ok(read) => read,
         Err(fault) => return Err(Unaccepted::Script(fault)),
     };
-    let (_, behind) = octets.split_at(place);
-    match split_stream(alloc, behind, past) {
+    match split_stream(alloc, octets, place, past) {
         Ok(messages) => Ok(Input { script, messages }),
         Err(Unsplit::Refused(refusal)) => Err(Unaccepted::Stream(refusal)),
         Err(Unsplit::NoMemory) => Err(Unaccepted::NoMemory),
@@ -105,7 +105,7 @@ pub fn read_input<X: Drop, I: Source<X>>(alloc: Global, input: &mut I) -> Result
     ensures cause { IfErr result (λ e. OnUnread e (Rose (I.faults input.old) (I.faults input.new))) }
 {
     match read_octets(alloc, input) {
-        Ok((octets, past)) => parse(alloc, &octets, past),
+        Ok((octets, past)) => parse(alloc, octets, past),
         Err(Unread::Fault(_)) => Err(Unaccepted::Unread),
         Err(Unread::NoMemory) => Err(Unaccepted::NoMemory),
     }

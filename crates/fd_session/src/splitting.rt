@@ -1,6 +1,7 @@
 // A stream that is in memory, split into its messages.
-ghost use Rattle.std.specs.Prelude.{◌≡◌, ◌<◌, ◌^◌, List, ℕ, Some, IfOk, IfErr, OnOk, length};
+ghost use Rattle.std.specs.Prelude.{◌≡◌, ◌≤◌, ◌<◌, ◌^◌, List, ℕ, Some, IfOk, IfErr, OnOk, drop, length};
 ghost use Rattle.fd_sections.specs.Stream.{stream};
+ghost use Rattle.fd_sections.specs.Splitting.{fed, start};
 ghost use Rattle.fd_session.specs.Inputs.{refusal_of};
 ghost use Rattle.fd_sections.specs.Joining.{IsWaiting};
 ghost use Rattle.fd_session.specs.Splits.{HasGiven, Measures};
@@ -94,17 +95,31 @@ fn ended(splitter: Splitter, past: bool, messages: Items<Bytes>) -> Result<Items
     }
 }
 
-/// The messages of the stream of these octets, behind which more come than an input may have, or none.
+/// A splitter to which the octets behind a place of these have come. These are let go of, so that no message is copied beside
+/// them.
+fn splitter_behind(alloc: Global, octets: Vec<u8>, place: usize) -> Result<Splitter, NoMemory>
+    requires place { place ≤ length octets.items }
+    requires few { length octets.items < 2 ^ 63 }
+    ensures { IfOk result (λ s. s ≡ fed start (drop place octets.items)) }
+{
+    let (_, behind) = octets.split_at(place);
+    let mut splitter = Splitter::new(alloc)?;
+    splitter.feed(behind)?;
+    Ok(splitter)
+}
+
+/// The messages of the stream behind a place of these octets, behind which more come than an input may have, or none.
 pub(crate) fn split_stream(
     alloc: Global,
-    octets: &[u8],
+    octets: Vec<u8>,
+    place: usize,
     past: bool,
 ) -> Result<Items<Bytes>, Unsplit>
-    requires { length octets.now < 2 ^ 63 }
-    ensures { IsSplit octets.now past result }
+    requires place { place ≤ length octets.items }
+    requires few { length octets.items < 2 ^ 63 }
+    ensures { IsSplit (drop place octets.items) past result }
 {
-    let mut splitter = Splitter::new(alloc)?;
-    splitter.feed(octets)?;
+    let mut splitter = splitter_behind(alloc, octets, place)?;
     let mut messages = Items::new(alloc);
     match take_all(alloc, &mut splitter, &mut messages) {
         Ok(()) => ended(splitter, past, messages),

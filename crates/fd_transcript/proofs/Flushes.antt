@@ -1,12 +1,12 @@
 -- The listed flushes, one after the other.
-use Rattle.std.proofs.Common.{◌≡◌, ◌∙◌, ◌≤◌, ◌+◌, ℕ, zero, suc, Bool, true, false, List, [], ◌∷◌, ◌++◌, length, slice_get, take, Option, Some, None, refl, sym, ap, ap₂, arith, append_assoc, append-nil, map}
-use Rattle.std.specs.Prelude.{flat_map, filter_map, cond, ◌==◌, if◌then◌else◌}
+use Rattle.std.proofs.Common.{◌≡◌, ◌∙◌, ◌≤◌, ◌+◌, ℕ, zero, suc, List, [], ◌∷◌, ◌++◌, length, slice_get, take, Option, Some, None, refl, sym, ap, ap₂, arith, append_assoc, append-nil, map}
+use Rattle.std.specs.Prelude.{flat_map, filter_map}
 use Rattle.std.specs.List.{cons_option}
 use Rattle.std.specs.Option.{option_to_list}
 use Rattle.std.proofs.lemmas.List.{length-append, take_all}
 use Rattle.std.proofs.lemmas.List.Elements.{filter_map-append}
-use Rattle.fd_transcript.specs.History.{Flushed, at_entry, flushed_from, flushed_if, flushed_text, in_order, numbers_behind}
-use Rattle.fd_transcript.proofs.Pieces.{flat_both, flat_twice, take_next}
+use Rattle.fd_transcript.specs.History.{Flushed, flushed_from}
+use Rattle.fd_transcript.proofs.Pieces.{take_next}
 
 pub flushed_both : (lane : List ℕ) (k : ℕ) (xs ys : List ℕ) → flushed_from lane k (xs ++ ys) ≡ flushed_from lane k xs ++ flushed_from lane (k + length xs) ys
 flushed_both lane k [] ys = ap (λ (n : ℕ). flushed_from lane n ys) (let e : k ≡ k + 0 = omega arith in e)
@@ -56,34 +56,9 @@ count_next h ends i x count next o at is before now =
 
 -- ---- the line of the history
 
-numbers_next : (b i : ℕ) → numbers_behind b (i + 1) ≡ numbers_behind b i ++ (b + i + 1) ∷ []
-numbers_next b zero = let e : b + 1 ≡ b + 0 + 1 = omega arith in ap (λ (n : ℕ). n ∷ []) e
-numbers_next b (suc i) =
-    let up : suc i + 1 ≡ suc (i + 1) = omega arith in
-    let e : b + 1 + i + 1 ≡ b + suc i + 1 = omega arith in
-    ap (numbers_behind b) up ∙ ap (λ (ns : List ℕ). (b + 1) ∷ ns) (numbers_next (b + 1) i ∙ ap (λ (n : ℕ). numbers_behind (b + 1) i ++ n ∷ []) e)
-
-pub entries_next : (flushes : List Flushed) (b i : ℕ) → flat_map (λ n. flat_map flushed_text (at_entry flushes n)) (numbers_behind b (i + 1)) ≡ flat_map (λ n. flat_map flushed_text (at_entry flushes n)) (numbers_behind b i) ++ flat_map flushed_text (at_entry flushes (b + i + 1))
-entries_next flushes b i =
-    ap (flat_map (λ n. flat_map flushed_text (at_entry flushes n))) (numbers_next b i)
-    ∙ flat_both (λ n. flat_map flushed_text (at_entry flushes n)) (numbers_behind b i) ((b + i + 1) ∷ [])
-    ∙ ap (λ (t : List ℕ). flat_map (λ n. flat_map flushed_text (at_entry flushes n)) (numbers_behind b i) ++ t) (append-nil (flat_map flushed_text (at_entry flushes (b + i + 1))))
-
-pub entries_all : (flushes : List Flushed) (b n : ℕ) → length flushes ≡ n → flat_map (λ n. flat_map flushed_text (at_entry flushes n)) (numbers_behind b n) ≡ flat_map flushed_text (in_order b flushes)
-entries_all flushes b n long = ap (λ (k : ℕ). flat_map (λ n. flat_map flushed_text (at_entry flushes n)) (numbers_behind b k)) (sym long) ∙ sym (flat_twice flushed_text (at_entry flushes) (numbers_behind b (length flushes)))
-
--- the flushes of an entry, one after the other
-entry_one : (b : Bool) (f : Flushed) (gs : List Flushed) (t : List ℕ) → t ≡ flat_map flushed_text gs → (if b then flushed_text f else []) ++ t ≡ flat_map flushed_text (cond b (f ∷ gs) gs)
-entry_one true f gs t is = ap (λ (u : List ℕ). flushed_text f ++ u) is
-entry_one false f gs t is = is
-
-pub entry_is : {A : Type 0} (view : A → Flushed) (xs : List A) (n : ℕ) → flat_map (λ x. flushed_if n (view x)) xs ≡ flat_map flushed_text (at_entry (map view xs) n)
-entry_is view [] n = refl
-entry_is view (x ∷ xs) n = entry_one ((view x).entry == n) (view x) (at_entry (map view xs) n) (flat_map (λ x. flushed_if n (view x)) xs) (entry_is view xs n)
-
-pub text_more : (new old q first h p more : List ℕ) → new ≡ old ++ q → old ≡ first ++ (h ++ p) → more ≡ p ++ q → new ≡ first ++ (h ++ more)
-text_more new old q first h p more is before next =
-    is ∙ ap (λ (t : List ℕ). t ++ q) before ∙ append_assoc first (h ++ p) q ∙ ap (λ (t : List ℕ). first ++ t) (append_assoc h p q ∙ ap (λ (t : List ℕ). h ++ t) (sym next))
+pub flat_view : {A B : Type 0} (f : B → List ℕ) (view : A → B) (xs : List A) → flat_map (λ x. f (view x)) xs ≡ flat_map f (map view xs)
+flat_view f view [] = refl
+flat_view f view (x ∷ xs) = ap (λ (t : List ℕ). f (view x) ++ t) (flat_view f view xs)
 
 -- ---- all lanes
 

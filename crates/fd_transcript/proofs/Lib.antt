@@ -1,3 +1,4 @@
 mod Pieces
 mod Flushes
+mod Entries
 mod Tellings

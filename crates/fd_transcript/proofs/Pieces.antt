@@ -1,14 +1,16 @@
 -- Texts that are made piece by piece, and written so.
-use Rattle.std.proofs.Common.{◌≡◌, ◌∙◌, ◌≤◌, ◌<◌, ◌+◌, ℕ, zero, suc, List, [], ◌∷◌, ◌++◌, length, slice_get, take, drop, Option, Some, Result, Ok, Err, OnOk, OnErr, refl, sym, ap, subst, arith, append_assoc, append-nil}
+use Rattle.std.proofs.Common.{◌≡◌, ◌≢◌, ◌∙◌, ◌≤◌, ◌<◌, ◌+◌, ℕ, zero, suc, List, [], ◌∷◌, ◌++◌, length, slice_get, take, drop, Option, Some, Result, Ok, Err, OnOk, OnErr, refl, sym, ap, subst, arith, append_assoc, append-nil}
 use Rattle.std.specs.Prelude.{flat_map, zip, min, slice_index_or}
 use Rattle.std.proofs.lemmas.List.{take_all}
 use Rattle.std.proofs.lemmas.Option.{slice_get_read}
 use Rattle.fd_bytes.specs.Causes.{Rose}
 use Rattle.fd_io.specs.Streams.{Takes, TakesFront}
+use Rattle.fd_listing.specs.Lines.{line}
 use Rattle.fd_listing.specs.declared.fault.TextFault.{TextFault}
 use Rattle.fd_listing.specs.declared.fault.TextFault.TheVariants.{Write, NoMemory}
 use Rattle.fd_listing.specs.Sinks.{HasSinkCause, TakesAllBut}
 use Rattle.fd_listing.proofs.Taking.{takes_more, takes_nothing}
+use Rattle.fd_transcript.specs.Starving.{OnStarved, TakesShort}
 
 -- ---- lists
 
@@ -50,6 +52,18 @@ zip_short [] ys n le = omega arith
 zip_short (x ∷ xs) [] n le = omega arith
 zip_short (x ∷ xs) (y ∷ ys) zero le = absurd (omega (arith, le))
 zip_short (x ∷ xs) (y ∷ ys) (suc n) le = let more = zip_short xs ys n (omega (arith, le)) in omega (arith, more)
+
+-- where a part isn't empty, the whole isn't
+pub some_front : (xs ys : List ℕ) → xs ≢ [] → xs ++ ys ≢ []
+some_front [] ys some is = some refl
+some_front (x ∷ xs) ys some is = absurd cc
+
+pub some_back : (xs ys : List ℕ) → ys ≢ [] → xs ++ ys ≢ []
+some_back [] ys some is = some is
+some_back (x ∷ xs) ys some is = absurd cc
+
+pub some_line : (text : List ℕ) → line text ≢ []
+some_line text = some_back text (10 ∷ []) (λ is. absurd cc)
 
 -- ---- pieces
 
@@ -104,6 +118,49 @@ held_broken a b c t l q r whole is first front = (
 pub held_stopped : (a b : Option (List ℕ)) (t l r whole : List ℕ) → whole ≡ t ++ r → TakesAllBut a b t l → TakesFront a b whole
 held_stopped a b t l r whole is first = (first.front, l ++ r, is ∙ ap (λ (z : List ℕ). z ++ r) first.split ∙ append_assoc first.front l r, first.took)
 
+-- memory ran out in what follows the lines that were held, and not all of it was taken
+pub held_short : (a b c : Option (List ℕ)) (t l q r whole : List ℕ) → whole ≡ t ++ (q ++ r) → TakesAllBut a b t l → TakesShort b c (l ++ q) → TakesShort a c whole
+held_short a b c t l q r whole is first short = record {
+  front = first.front ++ short.front;
+  rest = short.rest ++ r;
+  split = is ∙ sym (append_assoc t q r)
+      ∙ ap (λ (z : List ℕ). z ++ r) (ap (λ (z : List ℕ). z ++ q) first.split ∙ append_assoc first.front l q ∙ ap (λ (z : List ℕ). first.front ++ z) short.split ∙ sym (append_assoc first.front short.front short.rest))
+      ∙ append_assoc (first.front ++ short.front) short.rest r;
+  more = some_front short.rest r short.more;
+  took = takes_more a b c first.front short.front first.took short.took;
+}
+
+-- memory ran out before a piece that isn't empty was among the lines that are held
+pub held_before : (a b : Option (List ℕ)) (t l r whole : List ℕ) → whole ≡ t ++ r → r ≢ [] → TakesAllBut a b t l → TakesShort a b whole
+held_before a b t l r whole is some first = record {
+  front = first.front;
+  rest = l ++ r;
+  split = is ∙ ap (λ (z : List ℕ). z ++ r) first.split ∙ append_assoc first.front l r;
+  more = some_back l r some;
+  took = first.took;
+}
+
+-- nothing was taken of a text that isn't empty
+pub none_taken : (a : Option (List ℕ)) (text : List ℕ) → text ≢ [] → TakesShort a a text
+none_taken a text some = record { front = []; rest = text; split = refl; more = some; took = takes_nothing a }
+
+-- what follows where memory ran out
+pub starved_so : {A X : Type 0} (r : Result A (TextFault X)) (P Q : Type 0) → (P → Q) → OnStarved r P → OnStarved r Q
+starved_so (Ok done) P Q to p = tt
+starved_so (Err (Write x)) P Q to p = tt
+starved_so (Err NoMemory) P Q to p = to p
+
+pub fault_so : {X : Type 0} (fault : TextFault X) (P Q : Type 0) → (P → Q) → OnStarved {A = Unit {0}} (Err fault) P → OnStarved {A = Unit {0}} (Err fault) Q
+fault_so (Write x) P Q to p = tt
+fault_so NoMemory P Q to p = to p
+
+-- memory didn't run out
+pub not_starved : {A X : Type 0} (r : Result A (TextFault X)) (Q : Type 0) → OnStarved r ⊥ → OnStarved r Q
+not_starved r Q none = starved_so r ⊥ Q (λ (x : ⊥). absurd x) none
+
+pub fault_not_starved : {X : Type 0} (fault : TextFault X) (Q : Type 0) → OnStarved {A = Unit {0}} (Err fault) ⊥ → OnStarved {A = Unit {0}} (Err fault) Q
+fault_not_starved fault Q none = fault_so fault ⊥ Q (λ (x : ⊥). absurd x) none
+
 pub front_longer : (a b : Option (List ℕ)) (t r whole : List ℕ) → whole ≡ t ++ r → TakesFront a b t → TakesFront a b whole
 front_longer a b t r whole is front = (front.0, front.1 ++ r, is ∙ ap (λ (z : List ℕ). z ++ r) front.2 ∙ append_assoc front.0 front.1 r, front.3)
 
@@ -118,6 +175,12 @@ module _ {A : Type 0} (f : A → List ℕ) (xs : List A) (i : ℕ) (x : A) (at :
 
   pub held_fails : TakesFront b c (held ++ f x) → TakesFront a c (first ++ flat_map f xs)
   held_fails front = held_broken a b c (first ++ flat_map f (take i xs)) held (f x) (flat_map f (drop (suc i) xs)) (first ++ flat_map f xs) whole_is so_far front
+
+  pub held_fails_short : TakesShort b c (held ++ f x) → TakesShort a c (first ++ flat_map f xs)
+  held_fails_short short = held_short a b c (first ++ flat_map f (take i xs)) held (f x) (flat_map f (drop (suc i) xs)) (first ++ flat_map f xs) whole_is so_far short
+
+  pub held_starved_short : f x ≢ [] → TakesShort a b (first ++ flat_map f xs)
+  held_starved_short some = held_before a b (first ++ flat_map f (take i xs)) held (f x ++ flat_map f (drop (suc i) xs)) (first ++ flat_map f xs) whole_is (some_front (f x) (flat_map f (drop (suc i) xs)) some) so_far
 
   pub held_starved : TakesFront a b (first ++ flat_map f xs)
   held_starved = held_stopped a b (first ++ flat_map f (take i xs)) held (f x ++ flat_map f (drop (suc i) xs)) (first ++ flat_map f xs) whole_is so_far
@@ -149,6 +212,12 @@ module _ {X : Type 0} (a b c : Option (List ℕ)) (first one more : List ℕ) wh
   two_broken lines held (Err e) is before same now =
       held_broken a b c (first ++ one) held more [] (first ++ (one ++ more)) (sym (append_assoc first one more) ∙ ap (λ (t : List ℕ). (first ++ one) ++ t) (sym (append-nil more)))
       (subst (λ (t : List ℕ). TakesAllBut a b t held) is before) (subst (λ (t : List ℕ). TakesFront b c (held ++ t)) same now)
+
+  pub two_short : (lines held : List ℕ) {its : List ℕ} (r : Result (Unit {0}) (TextFault X)) → lines ≡ first ++ one → TakesAllBut a b lines held → its ≡ more → OnStarved r (TakesShort b c (held ++ its)) → OnStarved r (TakesShort a c (first ++ (one ++ more)))
+  two_short lines held {its = its} r is before same now =
+      starved_so r (TakesShort b c (held ++ its)) (TakesShort a c (first ++ (one ++ more)))
+      (λ short. held_short a b c (first ++ one) held more [] (first ++ (one ++ more)) (sym (append_assoc first one more) ∙ ap (λ (t : List ℕ). (first ++ one) ++ t) (sym (append-nil more)))
+      (subst (λ (t : List ℕ). TakesAllBut a b t held) is before) (subst (λ (t : List ℕ). TakesShort b c (held ++ t)) same short)) now
 
 -- the lines that were held last were written, or a front of them
 pub last_broken : {X : Type 0} (a b c : Option (List ℕ)) (t l its : List ℕ) (r : Result (Unit {0}) (TextFault X)) → TakesAllBut a b t l → its ≡ l → OnErr r (TakesFront b c its) → OnErr r (TakesFront a c t)

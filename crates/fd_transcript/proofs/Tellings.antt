@@ -1,12 +1,17 @@
 -- The steps of a lane, one after the other.
-use Rattle.std.proofs.Common.{◌≡◌, ◌∙◌, ◌≤◌, ◌+◌, ℕ, zero, suc, List, [], ◌∷◌, ◌++◌, length, append_assoc, slice_get, Some, ap, arith}
-use Rattle.std.specs.Prelude.{flat_map, min}
+use Rattle.std.proofs.Common.{◌≡◌, ◌≢◌, ◌∙◌, ◌≤◌, ◌+◌, ℕ, zero, suc, List, [], ◌∷◌, ◌++◌, length, append_assoc, slice_get, Some, ap, arith}
+use Rattle.std.specs.Prelude.{codes, flat_map, min}
+use Rattle.std.specs.Fmt.{decimal}
+use Rattle.fd_core.specs.declared.machine.Answer.{Answer}
+use Rattle.fd_core.specs.declared.machine.Answer.TheVariants.{Found, Miss}
 use Rattle.fd_script.specs.declared.script.Lane.{Lane}
 use Rattle.fd_script.specs.declared.script.Step.{Step}
 use Rattle.fd_lanes.specs.declared.end.End.{End}
-use Rattle.fd_transcript.specs.Lines.{all_told, step_lines, told_from}
+use Rattle.fd_listing.specs.Lines.{blank}
+use Rattle.fd_transcript.specs.Lines.{Told, all_told, answer_line, end_text, step_line, step_lines, told_from}
 use Rattle.fd_transcript.specs.History.{all_flushed, history_line, in_order}
 use Rattle.fd_transcript.specs.Transcripts.{before_line, transcript_text}
+use Rattle.fd_transcript.proofs.Pieces.{some_front, some_line}
 
 pub told_at : {F : Type 0} (lane : List ℕ) (k : ℕ) (ss : List Step) (es : List (End F)) (i n : ℕ) (s : Step) (e : End F) → slice_get ss i ≡ Some s → slice_get es i ≡ Some e → n ≡ k + i
     → slice_get (told_from lane k ss es) i ≡ Some (record { lane = lane; number = n; step = s; end = e })
@@ -34,3 +39,15 @@ text_whole b its lanes ends empty lines is none same =
     ap (λ (t : List ℕ). t ++ steps) (is ∙ ap (λ (t : List ℕ). t ++ (before_line b ++ history)) none)
     ∙ append_assoc (before_line b) history steps
     ∙ ap (λ (ls : List Lane). transcript_text b ls ends) same
+
+-- ---- no line is empty
+
+pub some_answer : (answer : Answer) → answer_line answer ≢ []
+some_answer (Found bytes) = some_line (codes "found " ++ decimal (length bytes))
+some_answer Miss = some_line (codes "miss")
+
+pub some_step : {F : Type 0} (t : Told F) → step_line t ≢ []
+some_step t = some_line (t.lane ++ blank (decimal t.number ++ blank (end_text t.step t.end)))
+
+pub some_text : {F : Type 0} (before : ℕ) (lanes : List Lane) (ends : List (List (End F))) → transcript_text before lanes ends ≢ []
+some_text before lanes ends = some_front (before_line before) (history_line (in_order before (all_flushed lanes ends)) ++ flat_map step_lines (all_told lanes ends)) (some_line (codes "before " ++ decimal before))

@@ -1,5 +1,5 @@
 -- The listed flushes of a session in the order of the table.
-use Rattle.std.specs.Prelude.{ℕ, zero, suc, ◌+◌, ◌==◌, List, [], ◌∷◌, ◌++◌, length, codes, filter, filter_map, flat_map, zip, string_bytes, Option, Some, None, if◌then◌else◌}
+use Rattle.std.specs.Prelude.{ℕ, zero, suc, ◌+◌, ◌==◌, Bool, ◌&&◌, nat_le, nat_lt, List, [], ◌∷◌, ◌++◌, length, codes, filter, filter_map, flat_map, zip, string_bytes, Option, Some, None, if◌then◌else◌}
 use Rattle.std.specs.Fmt.{decimal}
 use Rattle.fd_listing.specs.Lines.{blank, line}
 use Rattle.fd_script.specs.declared.script.Lane.{Lane}
@@ -59,6 +59,10 @@ flushed_text f = blank (f.lane ++ 46 ∷ decimal f.number)
 abbrev pub history_line : List Flushed → List ℕ
 history_line history = line (codes "history" ++ flat_map flushed_text history)
 
--- the text of a flush, if it is of this entry
-abbrev pub flushed_if : ℕ → Flushed → List ℕ
-flushed_if n f = if f.entry == n then flushed_text f else []
+-- the number is behind the first of these, and not behind the second
+abbrev pub is_within : ℕ → ℕ → ℕ → Bool
+is_within before last n = nat_lt before n && nat_le n last
+
+-- the text of a flush, if the number of its entry is so
+abbrev pub flushed_within : ℕ → ℕ → Flushed → List ℕ
+flushed_within before last f = if is_within before last f.entry then flushed_text f else []

@@ -1,4 +1,5 @@
 pub mod Lines
 pub mod History
 pub mod Seen
+pub mod Starving
 pub mod Transcripts

@@ -1,8 +1,9 @@
 // The listed flushes in the order of the table.
-ghost use Rattle.std.specs.Prelude.{◌≡◌, ◌<◌, ◌+◌, ◌-◌, ◌^◌, ◌++◌, IfOk, OnOk, filter_map, flat_map, length, map, string_bytes};
+ghost use Rattle.std.specs.Prelude.{◌≡◌, ◌<◌, ◌+◌, ◌-◌, ◌^◌, ◌++◌, ℕ, IfOk, OnOk, filter_map, flat_map, length, map, string_bytes};
+ghost use Rattle.std.specs.List.Sorted.{IsNonDecreasingBy};
 ghost use Rattle.std.specs.Option.{option_to_list};
-ghost use Rattle.fd_transcript.specs.History.{all_flushed, at_entry, entry_of, flushed_from, flushed_if, flushed_text, history_line, in_order};
-ghost use Rattle.fd_transcript.specs.Seen.{seen_flush};
+ghost use Rattle.fd_transcript.specs.History.{all_flushed, at_entry, entry_of, flushed_from, flushed_within, history_line, in_order};
+ghost use Rattle.fd_transcript.specs.Seen.{entry_number, seen_flush};
 
 use fd_bytes::{Items, NoMemory};
 use fd_lanes::{End, Ends};
@@ -82,11 +83,27 @@ pub(crate) fn all_listed<'a, F>(
     Ok(listed)
 }
 
-/// Appends a flush, if it is of this entry.
-fn push_if(line: &mut String, flush: &Listed<'_>, entry: u64) -> Result<(), NoMemory>
-    ensures { OnOk result (string_bytes line.new ≡ string_bytes line.old ++ flushed_if entry (seen_flush flush.now)) }
+/// Puts flushes in the order of their entries. Those of one entry stay in their order.
+fn sort_listed(listed: &mut Vec<Listed<'_>>) -> Result<(), NoMemory>
+    ensures sorted { OnOk result (IsNonDecreasingBy entry_number listed.new.items) }
+    ensures same { OnOk result ((n : ℕ) → at_entry (map seen_flush listed.new.items) n ≡ at_entry (map seen_flush listed.old.items) n) }
+    ensures many { OnOk result (length listed.new.items ≡ length listed.old.items) }
 {
-    if u64::from(flush.entry) == entry {
+    listed.sort_by_key(|flush| flush.entry)?;
+    Ok(())
+}
+
+/// Appends a flush, if the number of its entry is behind the first of these and not behind the second.
+fn push_if(
+    line: &mut String,
+    flush: &Listed<'_>,
+    before: u64,
+    last: u64,
+) -> Result<(), NoMemory>
+    ensures { OnOk result (string_bytes line.new ≡ string_bytes line.old ++ flushed_within before last (seen_flush flush.now)) }
+{
+    let entry = u64::from(flush.entry);
+    if before < entry && entry <= last {
         let name = flush.lane;
         let number = flush.number;
         write!(line, " {name}.{number}")?;
@@ -94,28 +111,34 @@ fn push_if(line: &mut String, flush: &Listed<'_>, entry: u64) -> Result<(), NoMe
     Ok(())
 }
 
-/// Appends the flushes of an entry.
-fn push_entry(line: &mut String, listed: &[Listed<'_>], entry: u64) -> Result<(), NoMemory>
-    ensures { OnOk result (string_bytes line.new ≡ string_bytes line.old ++ flat_map flushed_text (at_entry (map seen_flush listed.now) entry)) }
+/// Appends the flushes for which this is so.
+fn push_within(
+    line: &mut String,
+    listed: &[Listed<'_>],
+    before: u64,
+    last: u64,
+) -> Result<(), NoMemory>
+    ensures { OnOk result (string_bytes line.new ≡ string_bytes line.old ++ flat_map (flushed_within before last) (map seen_flush listed.now)) }
 {
     for flush in listed {
-        push_if(line, flush, entry)?;
+        push_if(line, flush, before, last)?;
     }
     Ok(())
 }
 
-/// Appends the line of the history.
+/// Appends the line of the history. The flushes are put in the order of their entries.
 pub(crate) fn push_history(
     line: &mut String,
     before: u32,
-    listed: &[Listed<'_>],
+    listed: &mut Vec<Listed<'_>>,
 ) -> Result<(), NoMemory>
-    ensures { OnOk result (string_bytes line.new ≡ string_bytes line.old ++ history_line (in_order before (map seen_flush listed.now))) }
+    ensures { OnOk result (string_bytes line.new ≡ string_bytes line.old ++ history_line (in_order before (map seen_flush listed.old.items))) }
 {
     line.push_str("history")?;
-    for i in 0..listed.len() {
-        push_entry(line, listed, u64::from(before) + i as u64 + 1)?;
-    }
+    sort_listed(listed)?;
+    let first = u64::from(before);
+    let last = first + listed.len() as u64;
+    push_within(line, listed, first, last)?;
     line.push('\n')?;
     Ok(())
 }

@@ -3,6 +3,7 @@ ghost use Rattle.std.specs.Prelude.{◌≡◌, ◌++◌, OnErr, OnOk, flat_map, 
 ghost use Rattle.fd_io.specs.Streams.{TakesFront};
 ghost use Rattle.fd_listing.specs.Sinks.{HasSinkCause, TakesAllBut};
 ghost use Rattle.fd_transcript.specs.Lines.{all_told, answer_line, answers_of, end_text, step_line, step_lines, told_from, word};
+ghost use Rattle.fd_transcript.specs.Starving.{OnStarved, TakesShort};
 
 use crate::writing::write_many;
 use fd_bytes::{Items, NoMemory};
@@ -90,6 +91,7 @@ fn tell_answers<X, K: Sink<X>>(
 ) -> Result<(), TextFault<X>>
     ensures took { OnOk result (TakesAllBut (K.taken sink.old) (K.taken sink.new) (string_bytes lines.old ++ flat_map answer_line answers.now) (string_bytes lines.new)) }
     ensures front { OnErr result (TakesFront (K.taken sink.old) (K.taken sink.new) (string_bytes lines.old ++ flat_map answer_line answers.now)) }
+    ensures short { OnStarved result (TakesShort (K.taken sink.old) (K.taken sink.new) (string_bytes lines.old ++ flat_map answer_line answers.now)) }
     ensures cause { HasSinkCause result (K.faults sink.old) (K.faults sink.new) }
 {
     for answer in answers {
@@ -116,6 +118,7 @@ fn tell_step<F, X, K: Sink<X>>(
 ) -> Result<(), TextFault<X>>
     ensures took { OnOk result (TakesAllBut (K.taken sink.old) (K.taken sink.new) (string_bytes lines.old ++ step_lines (record { lane = lane.now; number = number; step = step.now; end = end.now })) (string_bytes lines.new)) }
     ensures front { OnErr result (TakesFront (K.taken sink.old) (K.taken sink.new) (string_bytes lines.old ++ step_lines (record { lane = lane.now; number = number; step = step.now; end = end.now }))) }
+    ensures short { OnStarved result (TakesShort (K.taken sink.old) (K.taken sink.new) (string_bytes lines.old ++ step_lines (record { lane = lane.now; number = number; step = step.now; end = end.now }))) }
     ensures cause { HasSinkCause result (K.faults sink.old) (K.faults sink.new) }
 {
     match push_step(lines, lane, number, step, end) {
@@ -138,6 +141,7 @@ fn tell_lane<F, X, K: Sink<X>>(
 ) -> Result<(), TextFault<X>>
     ensures took { OnOk result (TakesAllBut (K.taken sink.old) (K.taken sink.new) (string_bytes lines.old ++ flat_map step_lines (told_from (string_bytes lane.now.name) 1 lane.now.steps ends.now)) (string_bytes lines.new)) }
     ensures front { OnErr result (TakesFront (K.taken sink.old) (K.taken sink.new) (string_bytes lines.old ++ flat_map step_lines (told_from (string_bytes lane.now.name) 1 lane.now.steps ends.now))) }
+    ensures short { OnStarved result (TakesShort (K.taken sink.old) (K.taken sink.new) (string_bytes lines.old ++ flat_map step_lines (told_from (string_bytes lane.now.name) 1 lane.now.steps ends.now))) }
     ensures cause { HasSinkCause result (K.faults sink.old) (K.faults sink.new) }
 {
     let name = lane.name.as_str();
@@ -162,6 +166,7 @@ pub(crate) fn tell_lanes<F, X, K: Sink<X>>(
 ) -> Result<(), TextFault<X>>
     ensures took { OnOk result (TakesAllBut (K.taken sink.old) (K.taken sink.new) (string_bytes lines.old ++ flat_map step_lines (all_told lanes.now ends.now)) (string_bytes lines.new)) }
     ensures front { OnErr result (TakesFront (K.taken sink.old) (K.taken sink.new) (string_bytes lines.old ++ flat_map step_lines (all_told lanes.now ends.now))) }
+    ensures short { OnStarved result (TakesShort (K.taken sink.old) (K.taken sink.new) (string_bytes lines.old ++ flat_map step_lines (all_told lanes.now ends.now))) }
     ensures cause { HasSinkCause result (K.faults sink.old) (K.faults sink.new) }
 {
     let count = lanes.len().min(ends.len());

@@ -3,6 +3,7 @@ ghost use Rattle.std.specs.Prelude.{◌≡◌, ◌++◌, OnErr, OnOk, string_byt
 ghost use Rattle.fd_io.specs.Streams.{Takes, TakesFront};
 ghost use Rattle.fd_listing.specs.Sinks.{HasSinkCause};
 ghost use Rattle.fd_transcript.specs.History.{all_flushed, history_line, in_order};
+ghost use Rattle.fd_transcript.specs.Starving.{OnStarved, TakesShort};
 ghost use Rattle.fd_transcript.specs.Transcripts.{before_line, transcript_text};
 
 use crate::history::{all_listed, push_history};
@@ -25,9 +26,9 @@ fn push_front<F>(
     ensures { OnOk result (string_bytes lines.new ≡ string_bytes lines.old ++ (before_line transcript.now.before ++ history_line (in_order transcript.now.before (all_flushed lanes.now transcript.now.lanes)))) }
 {
     let before = transcript.before;
-    let listed = all_listed(alloc, lanes, &transcript.lanes)?;
+    let mut listed = all_listed(alloc, lanes, &transcript.lanes)?;
     write!(lines, "before {before}\n")?;
-    push_history(lines, before, &listed)
+    push_history(lines, before, &mut listed)
 }
 
 /// Writes the transcript of a session's script: `before` and the number of entries that the table had; `history` and, in the
@@ -35,7 +36,8 @@ fn push_front<F>(
 /// flushes; and then for each lane and each of its steps the lane's name, the step's number and how it ended, and for a get
 /// a line for each of its keys.
 ///
-/// `Write` comes only where the sink's count of faults rose. After a refusal a front of the text was taken.
+/// `Write` comes only where the sink's count of faults rose. After a refusal a front of the text was taken, and where
+/// memory ran out, not all of it.
 pub fn tell_transcript<F, X, K: Sink<X>>(
     alloc: Global,
     script: &Script,
@@ -44,6 +46,7 @@ pub fn tell_transcript<F, X, K: Sink<X>>(
 ) -> Result<(), TextFault<X>>
     ensures took { OnOk result (Takes (K.taken report.old) (K.taken report.new) (transcript_text transcript.now.before script.now.lanes transcript.now.lanes)) }
     ensures front { OnErr result (TakesFront (K.taken report.old) (K.taken report.new) (transcript_text transcript.now.before script.now.lanes transcript.now.lanes)) }
+    ensures short { OnStarved result (TakesShort (K.taken report.old) (K.taken report.new) (transcript_text transcript.now.before script.now.lanes transcript.now.lanes)) }
     ensures cause { HasSinkCause result (K.faults report.old) (K.faults report.new) }
 {
     let lanes = script.lanes();

@@ -2,6 +2,7 @@
 ghost use Rattle.std.specs.Prelude.{◌≤◌, OnErr, OnOk, string_bytes};
 ghost use Rattle.fd_io.specs.Streams.{Takes, TakesFront};
 ghost use Rattle.fd_listing.specs.Sinks.{HasSinkCause, TakesAllBut};
+ghost use Rattle.fd_transcript.specs.Starving.{OnStarved};
 
 use fd_io::{Sink, write_all};
 use fd_listing::TextFault;
@@ -9,12 +10,13 @@ use fd_listing::TextFault;
 /// How many bytes of lines are held before they are written.
 const MOST_HELD: usize = 65_536;
 
-/// Writes a text.
+/// Writes a text. It asks for no memory.
 pub(crate) fn write_text<X, K: Sink<X>>(sink: &mut K, text: &str) -> Result<(), TextFault<X>>
     ensures took { OnOk result (Takes (K.taken sink.old) (K.taken sink.new) text.now) }
     ensures front { OnErr result (TakesFront (K.taken sink.old) (K.taken sink.new) text.now) }
     ensures count { K.faults sink.old ≤ K.faults sink.new }
     ensures cause { HasSinkCause result (K.faults sink.old) (K.faults sink.new) }
+    ensures memory { OnStarved result ⊥ }
 {
     match write_all(sink, text.as_bytes()) {
         Ok(()) => Ok(()),
@@ -22,7 +24,7 @@ pub(crate) fn write_text<X, K: Sink<X>>(sink: &mut K, text: &str) -> Result<(), 
     }
 }
 
-/// Writes the lines that are held once there are many, and lets go of them.
+/// Writes the lines that are held once there are many, and lets go of them. It asks for no memory.
 pub(crate) fn write_many<X, K: Sink<X>>(
     lines: &mut String,
     sink: &mut K,
@@ -31,6 +33,7 @@ pub(crate) fn write_many<X, K: Sink<X>>(
     ensures front { OnErr result (TakesFront (K.taken sink.old) (K.taken sink.new) (string_bytes lines.old)) }
     ensures count { K.faults sink.old ≤ K.faults sink.new }
     ensures cause { HasSinkCause result (K.faults sink.old) (K.faults sink.new) }
+    ensures memory { OnStarved result ⊥ }
 {
     if lines.len() < MOST_HELD {
         return Ok(());

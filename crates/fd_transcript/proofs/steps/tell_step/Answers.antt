@@ -2,7 +2,9 @@ use Rattle.std.proofs.Common.{rules, ◌≡◌, ◌∙◌, ◌++◌, ℕ, List, 
 use Rattle.std.specs.Prelude.{flat_map}
 use Rattle.fd_listing.specs.Sinks.{HasSinkCause}
 use Rattle.fd_transcript.specs.Lines.{answer_line, answers_of, step_line}
-use Rattle.fd_transcript.proofs.Pieces.{front_longer, two_pieces, two_broken}
+use Rattle.fd_transcript.specs.Starving.{TakesShort}
+use Rattle.fd_transcript.proofs.Pieces.{fault_not_starved, front_longer, none_taken, some_back, some_front, two_broken, two_pieces, two_short}
+use Rattle.fd_transcript.proofs.Tellings.{some_step}
 use Rattle.fd_transcript.proofs.steps.tell_step.Goals as goal
 
 pub returns-in-Err-write_many-clause-front : goal.returns-in-Err-write_many-clause-front
@@ -26,6 +28,23 @@ returns-clause-front g c =
     let pushed : string_bytes c.push_step.new.lines ≡ string_bytes c.args.lines.now ++ one = search rules in
     two_broken (g.K.Sink.taken c.args.sink.now) (g.K.Sink.taken c.write_many.new.sink) (g.K.Sink.taken c.tell_answers.new.sink) (string_bytes c.args.lines.now) one (flat_map answer_line (answers_of c.args.end.now)) (string_bytes c.push_step.new.lines) (string_bytes c.write_many.new.lines) c.tell_answers.result pushed c.in-Ok-write_many.ensures.took
     (ap (flat_map answer_line) c.answers_of.ensures) c.tell_answers.ensures.front
+
+pub returns-in-Err-clause-short : goal.returns-in-Err-clause-short
+returns-in-Err-clause-short g c =
+    let one = step_line (record { lane = c.args.lane.now; number = c.args.number; step = c.args.step.now; end = c.args.end.now }) in
+    let more = flat_map answer_line (answers_of c.args.end.now) in
+    none_taken (g.K.Sink.taken c.args.sink.now) (string_bytes c.args.lines.now ++ (one ++ more)) (some_back (string_bytes c.args.lines.now) (one ++ more) (some_front one more (some_step (record { lane = c.args.lane.now; number = c.args.number; step = c.args.step.now; end = c.args.end.now }))))
+
+pub returns-in-Err-write_many-clause-short : goal.returns-in-Err-write_many-clause-short
+returns-in-Err-write_many-clause-short g c =
+    fault_not_starved c.in-Err-write_many.fault (TakesShort (g.K.Sink.taken c.args.sink.now) (g.K.Sink.taken c.write_many.new.sink) (string_bytes c.args.lines.now ++ (step_line (record { lane = c.args.lane.now; number = c.args.number; step = c.args.step.now; end = c.args.end.now }) ++ flat_map answer_line (answers_of c.args.end.now)))) c.in-Err-write_many.ensures.memory
+
+pub returns-clause-short : goal.returns-clause-short
+returns-clause-short g c =
+    let one = step_line (record { lane = c.args.lane.now; number = c.args.number; step = c.args.step.now; end = c.args.end.now }) in
+    let pushed : string_bytes c.push_step.new.lines ≡ string_bytes c.args.lines.now ++ one = search rules in
+    two_short (g.K.Sink.taken c.args.sink.now) (g.K.Sink.taken c.write_many.new.sink) (g.K.Sink.taken c.tell_answers.new.sink) (string_bytes c.args.lines.now) one (flat_map answer_line (answers_of c.args.end.now)) (string_bytes c.push_step.new.lines) (string_bytes c.write_many.new.lines) c.tell_answers.result pushed c.in-Ok-write_many.ensures.took
+    (ap (flat_map answer_line) c.answers_of.ensures) c.tell_answers.ensures.short
 
 pub returns-clause-cause : goal.returns-clause-cause
 returns-clause-cause g c = subst (λ (n : ℕ). HasSinkCause c.tell_answers.result n (g.K.Sink.faults c.tell_answers.new.sink)) c.in-Ok-write_many.ensures.cause c.tell_answers.ensures.cause

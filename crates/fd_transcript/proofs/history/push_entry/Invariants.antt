@@ -1,8 +1,0 @@
-use Rattle.std.proofs.Common.{◌≡◌, ◌++◌, string_bytes, take}
-use Rattle.std.specs.Prelude.{flat_map}
-use Rattle.fd_transcript.specs.History.{flushed_if}
-use Rattle.fd_transcript.specs.Seen.{seen_flush}
-use Rattle.fd_transcript.proofs.history.push_entry.Given as goal
-
-abbrev pub invariant-loop-flush : goal.invariant-loop-flush
-invariant-loop-flush l = string_bytes l.line ≡ string_bytes l.fn.line ++ flat_map (λ x. flushed_if l.entry (seen_flush x)) (take l.flush-index l.listed)
