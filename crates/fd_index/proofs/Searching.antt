@@ -1,6 +1,6 @@
 -- Looking a key up by halving, among records whose keys rise.
-use Rattle.std.proofs.Common.{◌≡◌, ℕ, ◌+◌, ◌-◌, ◌/◌, ◌<◌, ◌≤◌, cond, List, [], ◌∷◌, length, map, Some, None, option_map, slice_get, get_or, Less, Greater, Equal, refl, sym, ap, ◌∙◌, subst, eq-or-lt_of_le, ⊎_elim, arith}
-use Rattle.std.specs.Ordering.{nat_cmp, ordering_reverse}
+use Rattle.std.proofs.Common.{◌≡◌, ℕ, ◌+◌, ◌-◌, ◌/◌, ◌<◌, ◌≤◌, true, cond, List, [], ◌∷◌, length, map, Some, None, option_map, slice_get, get_or, Ordering, Less, Greater, Equal, refl, sym, ap, ◌∙◌, subst, eq-or-lt_of_le, ⊎_elim, arith}
+use Rattle.std.specs.Ordering.{is_gt, is_lt, nat_cmp, ordering_reverse}
 use Rattle.std.specs.Cmp.Lexicographic.{slice_cmp}
 use Rattle.std.specs.List.Sorted.{IsStrictlySortedBy}
 use Rattle.std.specs.Map.{lookup, keys_of}
@@ -110,6 +110,31 @@ found key rs m r rising is equal =
 pub gone : (key : List ℕ) (rs : List Record) (low high : ℕ) → Rising rs → Between key (pairs_of rs) low high → high ≤ low → None ≡ place_of key rs
 gone key rs low high rising b le =
     sym (place_is key rs ∙ lookup_at_gap nat_list_cmp_total key (pairs_of rs) low (pairs_rise rs rising) b.below (λ e h. b.above low e le h))
+
+-- ---- A key that stands outside of all of them
+
+less_by : (o : Ordering) → is_lt o ≡ true → o ≡ Less
+less_by Less h = refl
+less_by Equal h = absurd (cc h)
+less_by Greater h = absurd (cc h)
+
+greater_by : (o : Ordering) → is_gt o ≡ true → o ≡ Greater
+greater_by Less h = absurd (cc h)
+greater_by Equal h = absurd (cc h)
+greater_by Greater h = refl
+
+-- a key before that of the first record has no place
+pub gone_before : (key : List ℕ) (rs : List Record) (r : Record) → Rising rs → slice_get (pairs_of rs) 0 ≡ Some (pair_of r) → is_lt (slice_cmp nat_cmp key r.key) ≡ true → place_of key rs ≡ None
+gone_before key rs r rising is before =
+    let n : ℕ = length (pairs_of rs) in
+    let within : 0 < n = slice_get_within (pairs_of rs) 0 (pair_of r) is in
+    sym (gone key rs 0 0 rising (lower key rs 0 n 0 r rising (at_first key (pairs_of rs) n refl) (omega arith) within is (less_by (slice_cmp nat_cmp key r.key) before)) (omega arith))
+
+-- and so has one behind that of the last
+pub gone_behind : (key : List ℕ) (rs : List Record) (m : ℕ) (r : Record) → Rising rs → m + 1 ≡ length (pairs_of rs) → slice_get (pairs_of rs) m ≡ Some (pair_of r) → is_gt (slice_cmp nat_cmp key r.key) ≡ true → place_of key rs ≡ None
+gone_behind key rs m r rising last is behind =
+    let n : ℕ = length (pairs_of rs) in
+    sym (gone key rs (m + 1) n rising (higher key rs 0 n m r rising (at_first key (pairs_of rs) n refl) (omega arith) (omega (arith, last)) is (greater_by (slice_cmp nat_cmp key r.key) behind)) (omega (arith, last)))
 
 -- ---- The records that are kept in memory
 

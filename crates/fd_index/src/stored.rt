@@ -1,4 +1,4 @@
-ghost use Rattle.std.specs.Prelude.{◌≡◌};
+ghost use Rattle.std.specs.Prelude.{◌≡◌, true, None};
 ghost use Rattle.fd_index.specs.Records.{Rising, place_of};
 ghost use Rattle.fd_index.specs.StoredRecords.{records_of};
 
@@ -12,11 +12,30 @@ pub(crate) struct Stored {
     pub(crate) len: u64,
 }
 
+/// Tells that the key comes before that of the first record, or behind that of the last one.
+fn is_outside(records: &[Stored], key: &[u8]) -> bool
+    requires { Rising (records_of records.now) }
+    ensures { result ≡ true → place_of key.now (records_of records.now) ≡ None }
+{
+    if records.is_empty() {
+        return true;
+    }
+    let first = &records[0];
+    if key.cmp(first.key.as_slice()).is_lt() {
+        return true;
+    }
+    let last = &records[records.len() - 1];
+    key.cmp(last.key.as_slice()).is_gt()
+}
+
 /// The place and the length of the key's field, by halving.
 pub(crate) fn place_in(records: &[Stored], key: &[u8]) -> Option<(u64, u64)>
     requires { Rising (records_of records.now) }
     ensures { result ≡ place_of key.now (records_of records.now) }
 {
+    if is_outside(records, key) {
+        return None;
+    }
     let mut low = 0;
     let mut high = records.len();
     while low < high {
