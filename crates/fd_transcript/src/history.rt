@@ -94,12 +94,7 @@ fn sort_listed(listed: &mut Vec<Listed<'_>>) -> Result<(), NoMemory>
 }
 
 /// Appends a flush, if the number of its entry is behind the first of these and not behind the second.
-fn push_if(
-    line: &mut String,
-    flush: &Listed<'_>,
-    before: u64,
-    last: u64,
-) -> Result<(), NoMemory>
+fn push_if(line: &mut String, flush: &Listed<'_>, before: u64, last: u64) -> Result<(), NoMemory>
     ensures { OnOk result (string_bytes line.new ≡ string_bytes line.old ++ flushed_within before last (seen_flush flush.now)) }
 {
     let entry = u64::from(flush.entry);
