@@ -26,9 +26,11 @@ returns-in_err-write_many-clause-front g c =
     let more = rest_more deref_pair c.loop-index.index-iterator c.next.new.self c.next.result (c.in-Some.index, c.in-Some.names) c.in-Some.is c.next.ensures.steps in
     let text = axes_lines c.args.dataset.now (seen_axes c.args.axes.now.entries) in
     let held : string_bytes c.push_names.new.lines ≡ string_bytes c.loop-index.lines ++ names_lines c.args.dataset.now (string_bytes c.in-Some.index.now) (seen_names c.in-Some.names.now.entries) = search rules in
+    let front : TakesFront (g.K.Sink.taken c.args.sink.now) (g.K.Sink.taken c.write_many.new.sink) text =
     broken (g.K.Sink.taken c.args.sink.now) (g.K.Sink.taken c.loop-index.sink) (g.K.Sink.taken c.write_many.new.sink) text (string_bytes c.push_names.new.lines) _
     (index_held (g.K.Sink.taken c.args.sink.now) (g.K.Sink.taken c.loop-index.sink) text (string_bytes c.loop-index.lines) (string_bytes c.push_names.new.lines) c.args.dataset.now (c.in-Some.index.now, c.in-Some.names.now) c.next.new.self c.loop-index.index-iterator more held c.loop-index.invariant.text)
-    c.in_err-write_many.ensures.front
+    c.in_err-write_many.ensures.front in
+    search rules
 
 pub returns-clause-took : goal.returns-clause-took
 returns-clause-took g c =

@@ -27,9 +27,11 @@ returns-in_err-write_many-clause-front g c =
     let more = rest_more deref_pair c.loop-texts.texts-iterator c.next.new.self c.next.result (c.in-Some.texts, c.in-Some.newest) c.in-Some.is c.next.ensures.steps in
     let text = shown_lines c.args.dataset.now (map kept c.args.rows.now.entries) in
     let held : string_bytes c.push_row.new.lines ≡ string_bytes c.loop-texts.lines ++ shown_line c.args.dataset.now (kept (c.in-Some.texts.now, c.in-Some.newest.now)) = search rules in
+    let front : TakesFront (g.K.Sink.taken c.args.sink.now) (g.K.Sink.taken c.write_many.new.sink) text =
     broken (g.K.Sink.taken c.args.sink.now) (g.K.Sink.taken c.loop-texts.sink) (g.K.Sink.taken c.write_many.new.sink) text (string_bytes c.push_row.new.lines) _
     (row_held (g.K.Sink.taken c.args.sink.now) (g.K.Sink.taken c.loop-texts.sink) text (string_bytes c.loop-texts.lines) (string_bytes c.push_row.new.lines) c.args.dataset.now (c.in-Some.texts.now, c.in-Some.newest.now) c.next.new.self c.loop-texts.texts-iterator more held c.loop-texts.invariant.text)
-    c.in_err-write_many.ensures.front
+    c.in_err-write_many.ensures.front in
+    search rules
 
 pub returns-clause-took : goal.returns-clause-took
 returns-clause-took g c =

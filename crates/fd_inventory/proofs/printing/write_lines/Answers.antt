@@ -29,9 +29,11 @@ returns-in_err-write_many-clause-front g c =
     let ts = c.args.texts.now in
     let more : drop i ts ≡ c.text-item.result ∷ drop (i + 1) ts = drop_more ts i c.text-item.result (omega (arith, c.loop-text-test.true)) ∙ ap (λ s. s ∷ drop (i + 1) ts) (sym c.text-item.is) in
     let held : string_bytes c.push_line.new.lines ≡ string_bytes c.loop-text.lines ++ line (string_bytes c.text-item.result) = search rules in
+    let front : TakesFront (g.K.Sink.taken c.args.sink.now) (g.K.Sink.taken c.write_many.new.sink) (text_lines (texts ts)) =
     broken (g.K.Sink.taken c.args.sink.now) (g.K.Sink.taken c.loop-text.sink) (g.K.Sink.taken c.write_many.new.sink) (text_lines (texts ts)) (string_bytes c.push_line.new.lines) _
     (text_held (g.K.Sink.taken c.args.sink.now) (g.K.Sink.taken c.loop-text.sink) (text_lines (texts ts)) (string_bytes c.loop-text.lines) (string_bytes c.push_line.new.lines) (drop i ts) (drop (i + 1) ts) c.text-item.result more held c.loop-text.invariant.text)
-    c.in_err-write_many.ensures.front
+    c.in_err-write_many.ensures.front in
+    search rules
 
 pub returns-clause-took : goal.returns-clause-took
 returns-clause-took g c =

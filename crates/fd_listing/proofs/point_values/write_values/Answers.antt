@@ -1,4 +1,4 @@
-use Rattle.std.proofs.Common.{length, ◌≡◌, ◌∙◌, List, Option, suc, ap, subst, string_bytes, arith}
+use Rattle.std.proofs.Common.{rules, length, ◌≡◌, ◌∙◌, List, Option, suc, ap, subst, string_bytes, arith}
 use Rattle.std.proofs.lemmas.Result.{on_err_weaker, on_ok_weaker}
 use Rattle.fd_io.specs.Streams.{Takes, TakesFront}
 use Rattle.fd_listing.specs.Sinks.{HasSinkCause}
@@ -11,9 +11,11 @@ use Rattle.fd_listing.proofs.point_values.write_values.Goals as goal
 pub returns-in_err-write_many-clause-front : goal.returns-in_err-write_many-clause-front
 returns-in_err-write_many-clause-front g c =
     let text = values_text c.args.number c.args.decimals (values_of c.args.field.now) in
+    let front : TakesFront (g.K.Sink.taken c.args.sink.now) (g.K.Sink.taken c.write_many.new.sink) text =
     broken (g.K.Sink.taken c.args.sink.now) (g.K.Sink.taken c.points.sink) (g.K.Sink.taken c.write_many.new.sink) text (string_bytes c.push_point.new.lines) _
     (line_held (g.K.Sink.taken c.args.sink.now) (g.K.Sink.taken c.points.sink) text (string_bytes c.points.lines) (string_bytes c.push_point.new.lines) c.args.number c.args.decimals c.points.point c.in-Some.value c.next.new.self c.points.points c.in-Some.ensures.steps c.in_ok-push_point.ensures c.points.invariant.text)
-    c.in_err-write_many.ensures.front
+    c.in_err-write_many.ensures.front in
+    search rules
 
 pub points-preserved : goal.points-preserved
 points-preserved g c =
