@@ -101,12 +101,7 @@ fn is_within(before: u64, last: u64, number: u64) -> bool
 }
 
 /// Appends a flush, if the number of its entry is so.
-fn push_if(
-    line: &mut String,
-    flush: &Listed<'_>,
-    before: u64,
-    last: u64,
-) -> Result<(), NoMemory>
+fn push_if(line: &mut String, flush: &Listed<'_>, before: u64, last: u64) -> Result<(), NoMemory>
     ensures { OnOk result (string_bytes line.new ≡ string_bytes line.old ++ flushed_within before last (seen_flush flush.now)) }
 {
     if is_within(before, last, u64::from(flush.entry)) {
