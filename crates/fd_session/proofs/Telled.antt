@@ -1,17 +1,13 @@
 -- What is written of a session, by where it stopped.
-use Rattle.std.proofs.Common.{◌≡◌, ◌∙◌, ◌⊎◌, ℕ, false, List, [], ◌++◌, Option, Some, None, refl, sym, ap, subst, append_assoc, append-nil, inl, inr}
+use Rattle.std.proofs.Common.{◌≡◌, ◌∙◌, ◌⊎◌, ℕ, List, [], ◌++◌, Option, Some, None, refl, sym, ap, subst, append_assoc, append-nil, inl, inr}
 use Rattle.fd_bytes.specs.Causes.{Rose}
 use Rattle.fd_io.specs.Streams.{Takes, TakesFront}
 use Rattle.fd_outcome.specs.declared.status.Status.{Status}
 use Rattle.fd_outcome.specs.declared.status.Status.TheVariants.{Damaged, NoMemory, OutputFault}
-use Rattle.fd_segment.specs.declared.fault.Damage.{Damage}
-use Rattle.fd_lanes.specs.declared.end.End.{End}
-use Rattle.fd_outcome.specs.Causes.{BadFile, Telling, damaged_line}
+use Rattle.fd_outcome.specs.Causes.{Telling}
 use Rattle.fd_outcome.specs.Ends.{no_memory, output_failed}
 use Rattle.fd_outcome.specs.Told.{Told, ToldOrNoMemory}
 use Rattle.fd_transcript.specs.Starving.{TakesShort}
-use Rattle.fd_session.specs.declared.closing.Kind.TheVariants as kinds
-use Rattle.fd_session.specs.Endings.{closing, first_damage, some_has}
 use Rattle.fd_session.specs.Writes.{All, MayStarve, NoFound, NoText, Starved, ToldClosing, Writes}
 
 takes_both : (c m d : Option (List ℕ)) (x y : List ℕ) → Takes c m x → Takes m d y → Takes c d (x ++ y)
@@ -65,7 +61,6 @@ module _ (found text : List ℕ) (end : Telling) (s : Status) (a b : Option (Lis
     closed quiet t (inr (damaged, told)) = starved_behind text [] (sym (append-nil text)) (inr damaged) t told
 
 -- the line of a damage was told, or that memory ran out in its place
-pub damage_told : {F : Type 0} (dataset : List ℕ) (ends : List (List (End F))) (damage : Damage) (s : Status) (c d : Option (List ℕ)) (m n : ℕ) → some_has kinds.Starved ends ≡ false → first_damage ends ≡ Some damage
-    → ToldOrNoMemory Damaged (damaged_line dataset (BadFile damage)) s c d m n → ToldClosing (closing dataset ends) s c d m n
-damage_told dataset ends damage s c d m n fed is (inl told) = rw (fed, is) (inl told)
-damage_told dataset ends damage s c d m n fed is (inr told) = rw (fed, is) (inr (refl, told))
+pub damage_told : (line : List ℕ) (s : Status) (c d : Option (List ℕ)) (m n : ℕ) → ToldOrNoMemory Damaged line s c d m n → ToldClosing (record { status = Damaged; line = line }) s c d m n
+damage_told line s c d m n (inl told) = inl told
+damage_told line s c d m n (inr told) = inr (refl, told)

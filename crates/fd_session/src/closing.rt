@@ -2,6 +2,7 @@
 ghost use Rattle.std.specs.Prelude.{◌≡◌};
 ghost use Rattle.fd_transcript.specs.Lines.{found_bytes};
 ghost use Rattle.fd_transcript.specs.Transcripts.{transcript_text};
+ghost use Rattle.fd_outcome.specs.Causes.{BadFile, damaged_line};
 ghost use Rattle.fd_session.specs.Endings.{closing, count_faults, damage_of, ends_in, first_damage, is_fault, lane_damage, lane_faults, lane_has, one_if, some_has};
 ghost use Rattle.fd_session.specs.Writes.{HasCounted, ToldClosing, Writes};
 
@@ -102,6 +103,18 @@ fn first_damage<F>(ends: &Ends<F>) -> Option<Damage>
     None
 }
 
+/// Writes the line of a damage. It is made up, so it may be told that memory ran out in its place.
+fn tell_damage<X: Drop, E: Sink<X>>(
+    alloc: Global,
+    report: &mut E,
+    dataset: &str,
+    damage: Damage,
+) -> Status
+    ensures { ToldClosing (record { status = Status.Damaged; line = damaged_line dataset.now (BadFile damage) }) result (E.taken report.old) (E.taken report.new) (E.faults report.old) (E.faults report.new) }
+{
+    tell_broken(alloc, report, dataset, Broken::File(damage))
+}
+
 /// Writes the line of the status that the ends have. In place of the line of a damage it may be told that memory ran out.
 fn tell_closing<F, X: Drop, E: Sink<X>>(
     alloc: Global,
@@ -115,7 +128,7 @@ fn tell_closing<F, X: Drop, E: Sink<X>>(
         return tell_no_memory(report);
     }
     if let Some(damage) = first_damage(ends) {
-        return tell_broken(alloc, report, dataset, Broken::File(damage));
+        return tell_damage(alloc, report, dataset, damage);
     }
     if some_has(ends, Kind::Fault) {
         return tell_disk_failed(report);

@@ -92,7 +92,7 @@ module _ {A : Type 0} (key : A → ℕ) where
       go false false false e f h rest = rest
 
   -- number by number they are what lies between
-  pub in_turn : (b n : ℕ) (xs : List A) → Rises xs → flat_map (λ m. of_entry m xs) (numbers_behind b n) ≡ between b (b + n) xs
+  in_turn : (b n : ℕ) (xs : List A) → Rises xs → flat_map (λ m. of_entry m xs) (numbers_behind b n) ≡ between b (b + n) xs
   in_turn b zero xs up = sym (none_between b (b + zero) xs (omega arith))
   in_turn b (suc n) xs up = ap (λ (ys : List A). of_entry (b + 1) xs ++ ys) (in_turn (b + 1) n xs up) ∙ next_first b n xs up
 

@@ -2,7 +2,7 @@
 ghost use Rattle.std.specs.Prelude.{◌≡◌, ◌<◌, ◌+◌, ◌-◌, ◌^◌, ◌++◌, ℕ, IfOk, OnOk, filter_map, flat_map, length, map, string_bytes};
 ghost use Rattle.std.specs.List.Sorted.{IsNonDecreasingBy};
 ghost use Rattle.std.specs.Option.{option_to_list};
-ghost use Rattle.fd_transcript.specs.History.{all_flushed, at_entry, entry_of, flushed_from, flushed_within, history_line, in_order};
+ghost use Rattle.fd_transcript.specs.History.{all_flushed, at_entry, entry_of, flushed_from, flushed_within, history_line, in_order, is_within};
 ghost use Rattle.fd_transcript.specs.Seen.{entry_number, seen_flush};
 
 use fd_bytes::{Items, NoMemory};
@@ -84,21 +84,27 @@ pub(crate) fn all_listed<'a, F>(
 }
 
 /// Puts flushes in the order of their entries. Those of one entry stay in their order.
-fn sort_listed(listed: &mut Vec<Listed<'_>>) -> Result<(), NoMemory>
-    ensures sorted { OnOk result (IsNonDecreasingBy entry_number listed.new.items) }
-    ensures same { OnOk result ((n : ℕ) → at_entry (map seen_flush listed.new.items) n ≡ at_entry (map seen_flush listed.old.items) n) }
-    ensures many { OnOk result (length listed.new.items ≡ length listed.old.items) }
+fn sort_listed(alloc: Global, listed: &mut [Listed<'_>]) -> Result<(), NoMemory>
+    ensures sorted { OnOk result (IsNonDecreasingBy entry_number listed.new) }
+    ensures same { OnOk result ((n : ℕ) → at_entry (map seen_flush listed.new) n ≡ at_entry (map seen_flush listed.old) n) }
+    ensures many { OnOk result (length listed.new ≡ length listed.old) }
 {
-    listed.sort_by_key(|flush| flush.entry)?;
+    listed.sort_by_key(alloc, |flush| flush.entry)?;
     Ok(())
 }
 
-/// Appends a flush, if the number of its entry is behind the first of these and not behind the second.
+/// Tells that a number is behind the first of these and not behind the second.
+fn is_within(before: u64, last: u64, number: u64) -> bool
+    ensures { result ≡ is_within before last number }
+{
+    before < number && number <= last
+}
+
+/// Appends a flush, if the number of its entry is so.
 fn push_if(line: &mut String, flush: &Listed<'_>, before: u64, last: u64) -> Result<(), NoMemory>
     ensures { OnOk result (string_bytes line.new ≡ string_bytes line.old ++ flushed_within before last (seen_flush flush.now)) }
 {
-    let entry = u64::from(flush.entry);
-    if before < entry && entry <= last {
+    if is_within(before, last, u64::from(flush.entry)) {
         let name = flush.lane;
         let number = flush.number;
         write!(line, " {name}.{number}")?;
@@ -106,7 +112,7 @@ fn push_if(line: &mut String, flush: &Listed<'_>, before: u64, last: u64) -> Res
     Ok(())
 }
 
-/// Appends the flushes for which this is so.
+/// Appends the flushes the numbers of whose entries are so.
 fn push_within(
     line: &mut String,
     listed: &[Listed<'_>],
@@ -123,17 +129,17 @@ fn push_within(
 
 /// Appends the line of the history. The flushes are put in the order of their entries.
 pub(crate) fn push_history(
+    alloc: Global,
     line: &mut String,
     before: u32,
-    listed: &mut Vec<Listed<'_>>,
+    listed: &mut [Listed<'_>],
 ) -> Result<(), NoMemory>
-    ensures { OnOk result (string_bytes line.new ≡ string_bytes line.old ++ history_line (in_order before (map seen_flush listed.old.items))) }
+    ensures { OnOk result (string_bytes line.new ≡ string_bytes line.old ++ history_line (in_order before (map seen_flush listed.old))) }
 {
     line.push_str("history")?;
-    sort_listed(listed)?;
+    sort_listed(alloc, listed)?;
     let first = u64::from(before);
-    let last = first + listed.len() as u64;
-    push_within(line, listed, first, last)?;
+    push_within(line, listed, first, first + listed.len() as u64)?;
     line.push('\n')?;
     Ok(())
 }

@@ -28,7 +28,7 @@ fn push_front<F>(
     let before = transcript.before;
     let mut listed = all_listed(alloc, lanes, &transcript.lanes)?;
     write!(lines, "before {before}\n")?;
-    push_history(lines, before, &mut listed)
+    push_history(alloc, lines, before, &mut listed)
 }
 
 /// Writes the transcript of a session's script: `before` and the number of entries that the table had; `history` and, in the

@@ -8,15 +8,14 @@ use Rattle.fd_transcript.proofs.history.push_history.Goals as goal
 
 pub returns : goal.returns
 returns c =
-    let old = c.args.listed.now.items in
-    let new = c.sort_listed.new.listed.items in
+    let old = c.args.listed.now in
+    let new = c.sort_listed.new.listed in
     let b = c.args.before in
-    let last = c.from-first.result + length new in
     let up = rises_map seen_flush (λ (f : Flushed). f.entry) new (rises_of entry_number new c.in_ok-sort_listed.ensures.sorted) in
-    let many : last ≡ b + length (map seen_flush old) = omega (arith, length-map old seen_flush, c.in_ok-sort_listed.ensures.many, c.from-first.ensures) in
-    let text = history_is (map seen_flush old) (map seen_flush new) b last up c.in_ok-sort_listed.ensures.same many in
+    let many : b + length new ≡ b + length (map seen_flush old) = omega (arith, length-map old seen_flush, c.in_ok-sort_listed.ensures.many) in
+    let text = history_is (map seen_flush old) (map seen_flush new) b (b + length new) up c.in_ok-sort_listed.ensures.same many in
     let begun : string_bytes c.push_str.new.self ≡ string_bytes c.args.line.now ++ codes "history" = search rules in
-    let pushed : string_bytes c.push_within.new.line ≡ string_bytes c.push_str.new.self ++ flat_map (flushed_within b last) (map seen_flush new) = search rules in
+    let pushed = c.in_ok-push_within.ensures ∙ ap (λ (n : ℕ). string_bytes c.push_str.new.self ++ flat_map (flushed_within n (n + length new)) (map seen_flush new)) c.from-first.ensures in
     let ended : string_bytes c.push.new.self ≡ string_bytes c.push_within.new.line ++ 10 ∷ [] = search rules in
     ended
     ∙ ap (λ (t : List ℕ). t ++ 10 ∷ []) (pushed ∙ ap₂ (λ (s : List ℕ) (t : List ℕ). s ++ t) begun text ∙ append_assoc (string_bytes c.args.line.now) (codes "history") (flat_map flushed_text (in_order b (map seen_flush old))))
