@@ -19,7 +19,7 @@ use Rattle.fd_core.proofs.Keeping.{id_is}
 use Rattle.fd_core.proofs.Steps.{in_other}
 use Rattle.fd_core.proofs.Reached.{done, place_is, place_put, reached_seq, up_and}
 
-fails : (s : World) (w : ℕ) (p : Phase) → s.down ≡ false → (writer_of s w).phase ≡ p → can_fail p ≡ true → after s (Fail w) ≡ failed s (writer_of s w) p
+pub fails : (s : World) (w : ℕ) (p : Phase) → s.down ≡ false → (writer_of s w).phase ≡ p → can_fail p ≡ true → after s (Fail w) ≡ failed s (writer_of s w) p
 fails s w p up is may = done s (Fail w) (up_and s.down (can_fail (writer_of s w).phase) up (ap can_fail is ∙ may)) ∙ ap (failed s (writer_of s w)) is
 
 moved_put : (s : World) (w i : ℕ) (ws : List Writer) (q : Phase) → IsPlace s.writers w i → ((x : Writer) → slice_get s.writers i ≡ Some x → ws ≡ slice_set s.writers i (in_other x q)) → ws ≡ put_writer s.writers (in_other (writer_of s w) q)

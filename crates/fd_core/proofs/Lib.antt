@@ -18,3 +18,4 @@ mod FailSteps
 mod PutSteps
 mod CrashSteps
 mod OpenSteps
+mod CallSteps

@@ -2,3 +2,4 @@ pub mod World
 pub mod Machine
 pub mod Took
 pub mod Laws
+pub mod Calls

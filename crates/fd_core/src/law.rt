@@ -1,3 +1,4 @@
+ghost use Rattle.fd_core.specs.Calls.{EveryCallIsAStep};
 ghost use Rattle.fd_core.specs.Laws.{FetchesNewest, LeavesImages, OnlyGrows, OnlyPostLists, OnlyReopens, OverEveryRun, PostsItsPairs, SeesOnlyListed, SurvivesCrash};
 
 /// What holds over every interleaving of the steps, at each step: a fetch answers the newest bytes of its key among the
@@ -13,4 +14,11 @@ pub fn every_run()
     ensures crash { OverEveryRun SurvivesCrash }
     ensures images { OverEveryRun LeavesImages }
     ensures down { OverEveryRun OnlyReopens }
+{}
+
+/// Each call of the disk that a writer makes is the step that stands for it, wherever that is possible. A write or a sync that
+/// ends well does to its file what the step does. Behind one that failed a crash leaves what it may leave behind the step
+/// `Fail`: also where the write did nothing, since what a crash may leave of the untouched file is among that.
+pub fn every_call()
+    ensures { EveryCallIsAStep }
 {}

@@ -21,7 +21,7 @@ mod writers;
 
 pub use dispatch::step;
 pub use files::Files;
-pub use law::every_run;
+pub use law::{every_call, every_run};
 pub use machine::{Answer, NamedFile, Phase, Seen, Step, Took, Writer};
 pub use state::State;
 pub use writers::Writers;
