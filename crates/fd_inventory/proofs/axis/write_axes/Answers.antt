@@ -4,7 +4,7 @@ use Rattle.std.proofs.lemmas.Map.Iter.{rest_more, rest_all}
 use Rattle.std.proofs.lemmas.Result.{on_err_weaker, on_ok_weaker}
 use Rattle.fd_io.specs.Streams.{Takes, TakesFront}
 use Rattle.fd_listing.specs.Sinks.{HasSinkCause}
-use Rattle.fd_listing.proofs.Taking.{broken, held_written}
+use Rattle.fd_listing.proofs.Taking.{broken, held_written, stopped}
 use Rattle.fd_inventory.specs.Axes.{axes_lines, names_lines, seen_axes, seen_names}
 use Rattle.fd_inventory.proofs.AxisLines.{axes_written, index_held}
 use Rattle.fd_inventory.proofs.axis.write_axes.Goals as goal
@@ -20,6 +20,13 @@ loop-index-preserved g c =
           c.in_ok-write_many.ensures.took;
       calm = c.in_ok-write_many.ensures.cause ∙ c.loop-index.invariant.calm;
     }
+
+pub returns-in_err-push_names-clause-front : goal.returns-in_err-push_names-clause-front
+returns-in_err-push_names-clause-front g c =
+    let text = axes_lines c.args.dataset.now (seen_axes c.args.axes.now.entries) in
+    let front : TakesFront (g.K.Sink.taken c.args.sink.now) (g.K.Sink.taken c.loop-index.sink) text =
+    stopped (g.K.Sink.taken c.args.sink.now) (g.K.Sink.taken c.loop-index.sink) text _ c.loop-index.invariant.text in
+    search rules
 
 pub returns-in_err-write_many-clause-front : goal.returns-in_err-write_many-clause-front
 returns-in_err-write_many-clause-front g c =
