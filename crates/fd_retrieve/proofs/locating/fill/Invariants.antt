@@ -1,5 +1,5 @@
 use Rattle.fd_retrieve.specs.Located.{IsFilled}
 use Rattle.fd_retrieve.proofs.locating.fill.Given as goal
 
-abbrev pub invariant-loop-j : goal.invariant-loop-j
-invariant-loop-j l = IsFilled l.number l.keys l.found l.j l.fn.located l.located
+abbrev pub invariant-loop-i : goal.invariant-loop-i
+invariant-loop-i l = IsFilled l.number l.numbers l.positions l.found l.i l.fn.located l.located
