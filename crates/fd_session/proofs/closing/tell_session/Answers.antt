@@ -1,11 +1,15 @@
-use Rattle.std.proofs.Common.{ℕ, List, subst}
+use Rattle.std.proofs.Common.{ℕ, List, refl, subst}
 use Rattle.fd_session.specs.Endings.{closing}
 use Rattle.fd_session.specs.Writes.{ToldClosing}
-use Rattle.fd_session.proofs.Telled.{closed, no_found, starved}
+use Rattle.fd_session.proofs.Telled.{closed, no_found, no_text, starved}
 use Rattle.fd_session.proofs.closing.tell_session.Goals as goal
 
 pub returns-in-Err : goal.returns-in-Err
 returns-in-Err g c = no_found _ _ _ _ _ _ _ _ _ _ _ _ c.in-Err.ensures.front c.in-Err.ensures.cause c.tell_output_failed.ensures
+
+pub returns-in-Err-Write : goal.returns-in-Err-Write
+returns-in-Err-Write g c =
+    no_text _ _ _ _ _ _ _ _ _ _ _ _ c.in-Ok.ensures.took c.in-Err-Write.ensures.front (rw c.in-Err-Write.field-0-is at c.in-Err-Write.ensures.cause) refl
 
 pub returns-in-Err-NoMemory : goal.returns-in-Err-NoMemory
 returns-in-Err-NoMemory g c =
