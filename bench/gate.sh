@@ -46,11 +46,11 @@ def below(pid, parent):
     return False
 
 
-# A run of the prover with `--test` proves tests, one that checks a copy tries an edit, any other proves a crate.
-def kind_of(words):
+# A run of the prover with `--test` proves tests, one in a copy of a crate tries an edit, any other proves a crate.
+def kind_of(pid, words):
     if "--test" in words:
         return "tests"
-    return "edits" if "check" in words[1:2] else "proof"
+    return "edits" if "/rt-edit-" in os.readlink(f"/proc/{pid}/cwd") else "proof"
 
 
 def alive():
@@ -96,13 +96,14 @@ while alive() and not stopped:
             if not words[0].endswith("/rattle") or not below(pid, parent):
                 continue
             fields = open(f"/proc/{pid}/stat").read().rsplit(")", 1)[1].split()
+            kind = kind_of(pid, words)
         except OSError:
             continue
         named = re.search(r"--crate-name (\S+)", " ".join(words))
         spent = (int(fields[11]) + int(fields[12])) / tick
-        seen[(pid, fields[19])] = (named.group(1) if named else "?", kind_of(words), spent)
-        if is_look and named and kind_of(words) != "edits":
-            look_into(pid, named.group(1), kind_of(words))
+        seen[(pid, fields[19])] = (named.group(1) if named else "?", kind, spent)
+        if is_look and named and kind != "edits":
+            look_into(pid, named.group(1), kind)
     time.sleep(0.5)
 
 spent = collections.defaultdict(lambda: collections.Counter())
