@@ -1,5 +1,7 @@
 -- Where the newest bytes of a request's keys stand, among the datasets that are open.
-use Rattle.std.specs.Prelude.{◌≡◌, ◌<◌, ◌≤◌, ℕ, List, length, take, drop, Option, Some, None, false, IfSome, slice_get, slice_index_or, option_map}
+use Rattle.std.specs.Prelude.{◌≡◌, ◌<◌, ◌≤◌, ℕ, List, [], length, take, drop, Option, Some, None, Vec, false, IfSome, slice_get, slice_index_or, option_map}
+use Rattle.std.specs.Option.{option_map_or}
+use Rattle.std.specs.declared.alloc.Global.{Global}
 use Rattle.fd_entries.specs.declared.batch.Pair.{Pair}
 use Rattle.fd_entries.specs.Batches.{newest}
 use Rattle.fd_key.specs.Pairs as keys
@@ -68,23 +70,44 @@ pub record AreNumbersOf (os : List Open) (places : List Place) (numbers : List (
   pub long : length numbers ≡ length places
   pub each : (k : ℕ) (p : Place) (d : Option ℕ) → k < length places → IsNumberOf os (seen_place (slice_index_or places k p)).dataset (slice_index_or numbers k d)
 
--- Each of the first places, so many, whose dataset has the number stands in the group, where the list of positions says.
-pub record IsGroup (number : ℕ) (places : List Place) (numbers : List (Option ℕ)) (count : ℕ) (group : List Place) (positions : List ℕ) : Type 0 where
-  pub long : length positions ≡ count
-  pub within : (k : ℕ) (d : Option ℕ) → k < count → slice_index_or numbers k d ≡ Some number → slice_index_or positions k 0 < length group
-  pub each : (k : ℕ) (p : Place) (d : Option ℕ) → k < count → slice_index_or numbers k d ≡ Some number
-      → (q : Place) × (slice_get group (slice_index_or positions k 0) ≡ Some q) × (seen_place q ≡ seen_place (slice_index_or places k p))
+-- the keys of the group with this number
+abbrev pub keys_in : List (Vec ℕ Global) → ℕ → List ℕ
+keys_in groups n = option_map_or (λ (g : Vec ℕ Global). g.items) (slice_get groups n) []
+
+-- each key is one of the first, so many
+abbrev pub AreWithin : ℕ → List ℕ → Type 0
+AreWithin count keys = (j k : ℕ) → slice_get keys j ≡ Some k → k < count
+
+-- These are those of the first keys, so many, whose dataset has the number.
+pub record IsGroup (numbers : List (Option ℕ)) (count number : ℕ) (keys : List ℕ) : Type 0 where
+  pub there : (k : ℕ) (d : Option ℕ) → k < count → slice_index_or numbers k d ≡ Some number → (j : ℕ) × (slice_get keys j ≡ Some k)
+  pub within : AreWithin count keys
+  pub own : (j k : ℕ) (d : Option ℕ) → slice_get keys j ≡ Some k → slice_index_or numbers k d ≡ Some number
+
+-- the same of each group
+abbrev pub AreGroups : List (Option ℕ) → ℕ → List (Vec ℕ Global) → Type 0
+AreGroups numbers count groups = (n : ℕ) → IsGroup numbers count n (keys_in groups n)
+
+-- The keys were dealt to their datasets.
+pub record AreDealt (os : List Open) (places : List Place) (ns : List (Option ℕ)) (gs : List (Vec ℕ Global)) : Type 0 where
+  pub numbers : AreNumbersOf os places ns
+  pub groups : AreGroups ns (length places) gs
+  pub long : length gs ≡ length os
+
+-- The places of the first keys, so many, in their order.
+pub record ArePlacesOf (places : List Place) (keys : List ℕ) (count : ℕ) (group : List Place) : Type 0 where
+  pub long : length group ≡ count
+  pub each : (j k : ℕ) (p : Place) → j < count → slice_get keys j ≡ Some k → (q : Place) × (slice_get group j ≡ Some q) × (seen_place q ≡ seen_place (slice_index_or places k p))
 
 abbrev pub located_in : ℕ → Option Spot → Option Located
 located_in number spot = option_map (λ s. record { number = number; spot = s }) spot
 
--- Each of the first keys, so many, whose dataset has the number is where it was found, and the others are where they were.
-pub record IsFilled (number : ℕ) (numbers : List (Option ℕ)) (positions : List ℕ) (found : List (Option Spot)) (count : ℕ) (before after : List (Option Located)) : Type 0 where
+-- Each of the first keys, so many, is where it was found, and those that aren't among the keys are where they were.
+pub record IsFilled (number : ℕ) (keys : List ℕ) (found : List (Option Spot)) (count : ℕ) (before after : List (Option Located)) : Type 0 where
   pub long : length after ≡ length before
-  pub own : (k : ℕ) (d : Option ℕ) (e : Option Located) → k < count → slice_index_or numbers k d ≡ Some number
-      → (s : Option Spot) × (slice_get found (slice_index_or positions k 0) ≡ Some s) × (slice_index_or after k e ≡ located_in number s)
-  pub others : (k : ℕ) (d : Option ℕ) (e : Option Located) → k < length before → (slice_index_or numbers k d ≡ Some number → ⊥) → slice_index_or after k e ≡ slice_index_or before k e
-  pub later : (k : ℕ) (e : Option Located) → count ≤ k → k < length before → slice_index_or after k e ≡ slice_index_or before k e
+  pub own : (j k : ℕ) (e : Option Located) → j < count → slice_get keys j ≡ Some k
+      → (i : ℕ) × (s : Option Spot) × (slice_get keys i ≡ Some k) × (slice_get found i ≡ Some s) × (slice_index_or after k e ≡ located_in number s)
+  pub others : (k : ℕ) (e : Option Located) → k < length before → ((j : ℕ) → slice_get keys j ≡ Some k → ⊥) → slice_index_or after k e ≡ slice_index_or before k e
 
 -- what is known of a key once the first datasets, so many, were searched
 abbrev pub IsLocatedBy : List Open → ℕ → Texts → Option ℕ → Option Located → Type 0

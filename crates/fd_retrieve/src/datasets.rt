@@ -1,10 +1,9 @@
 // The datasets that were opened, in which fields are found.
-ghost use Rattle.std.specs.Prelude.{◌≡◌, ◌≤◌, ◌<◌, List, ℕ, Option, Some, false, IfOk, IfErr, IfSome, OnOk, MatchOption};
+ghost use Rattle.std.specs.Prelude.{◌≡◌, ◌≤◌, ◌<◌, List, ℕ, Option, Some, IfOk, IfErr, IfSome, OnOk};
 ghost use Rattle.fd_bytes.specs.Causes.{Rose};
 ghost use Rattle.fd_retriever.specs.Answers.{IsAnswer, OnDamaged, OnWrite, TookFront};
 ghost use Rattle.fd_ahead.specs.Reading.{IsStock};
-ghost use Rattle.fd_outcome.specs.Asking.{is_among};
-ghost use Rattle.fd_retrieve.specs.Open.{IsDamagedAt, IsFirstNamed, names_of};
+ghost use Rattle.fd_retrieve.specs.Open.{IsDamagedAt};
 ghost use Rattle.fd_retrieve.specs.Located.{IsAt, IsIn};
 
 use fd_ahead::{Located, Opened, ReadStock};
@@ -40,16 +39,4 @@ where
         Ok(()) => Ok(Got::Found(len)),
         Err(fault) => Err(fault),
     }
-}
-
-/// The number of the first dataset with this text.
-pub(crate) fn number_of<F: Send, Z: Sealed<F>>(opened: &[Opened<F, Z>], name: &str) -> Option<usize>
-    ensures { MatchOption result (is_among (names_of opened.now) name.now ≡ false) (λ n. IsFirstNamed opened.now name.now n) }
-{
-    for i in 0..opened.len() {
-        if opened[i].is(name) {
-            return Some(i);
-        }
-    }
-    None
 }
