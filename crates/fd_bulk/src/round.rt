@@ -176,10 +176,10 @@ where
     serve(
         rt,
         alloc,
-        &|parcels: &[Parcel], i: usize, job: &mut WorkerJob<F, T, H>|
-            requires { (i < 8) × CanShare H.kept datasets.now i parcels.now job.old }
-            ensures { Shared H.kept datasets.entry.now i parcels.now job.old job.new }
-        { run_share(rt, alloc, gate, datasets, parcels, i, job) },
+        &|messages: &[Parcel], i: usize, job: &mut WorkerJob<F, T, H>|
+            requires { (i < 8) × CanShare H.kept datasets.now i messages.now job.old }
+            ensures { Shared H.kept datasets.entry.now i messages.now job.old job.new }
+        { run_share(rt, alloc, gate, datasets, messages, i, job) },
         parcels,
         jobs,
     );
@@ -225,10 +225,10 @@ where
     serve_beside(
         rt,
         alloc,
-        &|parcels: &[Parcel], i: usize, job: &mut WorkerJob<F, T, H>|
-            requires { (i < 8) × CanShare H.kept datasets.now i parcels.now job.old }
-            ensures { Shared H.kept datasets.entry.now i parcels.now job.old job.new }
-        { run_share(rt, alloc, gate, datasets, parcels, i, job) },
+        &|messages: &[Parcel], i: usize, job: &mut WorkerJob<F, T, H>|
+            requires { (i < 8) × CanShare H.kept datasets.now i messages.now job.old }
+            ensures { Shared H.kept datasets.entry.now i messages.now job.old job.new }
+        { run_share(rt, alloc, gate, datasets, messages, i, job) },
         parcels,
         jobs,
         &mut read,
