@@ -27,7 +27,7 @@ module _ {F P T : Type 0} (g : Shared F (Bor (List P) × (ℕ × (MutBor T × Un
 
   -- f may be called with these items at each place of xs
   abbrev pub AcceptsAll : List T → Type 0
-  AcceptsAll xs = (i : ℕ) (b : Bor (List P)) (p : MutBor T) → i < length xs → b.now ≡ items → p.now ≡ slice_index_or xs i p.now → g.pre f (b, (i, (p, tt)))
+  AcceptsAll xs = (i : ℕ) (x : T) → i < length xs → x ≡ slice_index_or xs i x → AcceptsShown i x
 
   -- Each job was changed by a call with these items, and none was added.
   pub record AreShown (old new : List T) : Type 0 where

@@ -102,8 +102,8 @@ fn change_all_shown<R: Threads + Sync, P: Sync, J: Send, F: Fn(&[P], usize, &mut
 
 // Lets go of what isn't needed any more of items.
 fn let_go_all<P: Item>(alloc: Global, items: &mut [P]) {
-    for i in 0..items.len() {
-        items[i].let_go(alloc);
+    for item in items.iter_mut() {
+        item.let_go(alloc);
     }
 }
 
@@ -120,7 +120,7 @@ pub fn serve<R: Threads + Sync, P: Item + Send + Sync, J: Send, F: Fn(&[P], usiz
     ensures changed { AreShown F.Fn each.now items.old jobs.old jobs.new }
 {
     prepare_all(rt, jobs.len(), items);
-    change_all_shown(rt, each, items, jobs);
+    change_all_shown(rt, each, &*items, jobs);
     let_go_all(alloc, items);
 }
 
@@ -132,14 +132,7 @@ pub fn serve_beside<
     F: Fn(&[P], usize, &mut J) + Sync,
     B,
     G: FnMut() -> B,
->(
-    rt: &R,
-    alloc: Global,
-    each: &F,
-    items: &mut [P],
-    jobs: &mut [J],
-    call: &mut G,
-) -> B
+>(rt: &R, alloc: Global, each: &F, items: &mut [P], jobs: &mut [J], call: &mut G) -> B
     requires accepts { AcceptsAll F.Fn each.now items.old jobs.old }
     requires call { G.pre call.old }
     ensures changed { AreShown F.Fn each.now items.old jobs.old jobs.new }

@@ -6,8 +6,9 @@ use Rattle.fd_bulk.specs.Sharing.{CanShare, Shared}
 use Rattle.fd_bulk.proofs.round.run_rounds.Goals as goal
 
 pub serve-requires-clause-accepts : goal.serve-requires-clause-accepts
-serve-requires-clause-accepts g c κs within = λ i s p lt shows is.
-    let own = subst (λ j. CanShare g.H.Shelf.kept c.args.datasets.now i c.args.parcels.now j) (sym is) (c.requires.can i p.now lt) in
+serve-requires-clause-accepts g c κs within = λ i x lt is s p shows same.
+    let there = subst (λ j. CanShare g.H.Shelf.kept c.args.datasets.now i c.args.parcels.now j) (sym is) (c.requires.can i x lt) in
+    let own = subst (λ j. CanShare g.H.Shelf.kept c.args.datasets.now i c.args.parcels.now j) (sym same) there in
     let can = subst (λ ps. CanShare g.H.Shelf.kept c.args.datasets.now i ps p.now) (sym shows) own in
     let inside : i < 8 = omega (arith, lt, c.requires.few) in
     let b = c.type_bounds in
