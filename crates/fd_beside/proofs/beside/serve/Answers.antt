@@ -1,4 +1,4 @@
-use Rattle.std.proofs.Common.{◌≡◌, sym, subst}
+use Rattle.std.proofs.Common.{sym, subst}
 use Rattle.fd_beside.specs.Beside.{AcceptsAll, AreShown}
 use Rattle.fd_beside.proofs.beside.serve.Goals as goal
 
