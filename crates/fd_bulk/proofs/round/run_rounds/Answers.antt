@@ -16,7 +16,7 @@ serve-requires-clause-accepts g c κs within = λ i x lt is s p shows same.
 
 pub returns-clause-shared : goal.returns-clause-shared
 returns-clause-shared g c = λ i e lt.
-    let r = (c.serve.ensures.each i e lt).1 in
+    let r = (c.serve.ensures.changed.each i e lt).1 in
     let left = subst (λ y. Shared g.H.Shelf.kept c.args.datasets.now i r.shown.now r.argument.now y) r.left r.call in
     let job = subst (λ x. Shared g.H.Shelf.kept c.args.datasets.now i r.shown.now x (get_or c.serve.new.jobs i e)) r.argument_is left in
     subst (λ ps. Shared g.H.Shelf.kept c.args.datasets.now i ps (get_or c.args.jobs.now i e) (get_or c.serve.new.jobs i e)) r.shown_is job
