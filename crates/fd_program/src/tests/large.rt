@@ -32,8 +32,8 @@ const MANY: &[Part] = &[
     Part::Generated(0, 3000),
 ];
 
-/// The eighth round of the first and of the second worker waits until both have come so far; and that of the third and the seventh read of
-/// the input, which more than fill what is read ahead, wait for one another.
+/// The eighth round of the first and of the second worker waits until both have come so far; and that of the third and the ninth read of
+/// the input, before which came more than is read ahead, wait for one another.
 const MEETING: &[Hold] = &[
     Hold {
         lane: 1,
@@ -48,11 +48,11 @@ const MEETING: &[Hold] = &[
     Hold {
         lane: 3,
         step: 8,
-        until: 7,
+        until: 9,
     },
     Hold {
         lane: 0,
-        step: 7,
+        step: 9,
         until: 8,
     },
 ];
