@@ -119,7 +119,7 @@ impl Key {
         Ok(())
     }
 
-    /// The same with a value that isn't spelled yet, which is written behind the others. After `NoMemory` the key is empty.
+    /// The same with a value that isn't spelled yet, which is written behind the others. After `NoMemory` the key is as it was, or empty.
     pub(crate) fn spell(&mut self, name: &str, value: &Value) -> Result<(), NoMemory>
         requires room { length self.old < 2 ^ 32 - 1 }
         requires fits { length name.now ≤ 16 }
