@@ -172,3 +172,7 @@ put_kept before value es k s old room name u v start end =
       each = each_put (IsEntry (before ++ value)) es k s stays (record { cut = cut; name = name }) (λ (e : Entry) (i : IsEntry (before ++ value) e). record { cut = cut; name = i.name });
       few = omega (arith, longer es k s, room);
     }
+
+-- no values stand in the empty text
+pub none_kept : AreKept [] []
+none_kept = record { each = All-nil (IsEntry []); few = omega arith }

@@ -3,9 +3,11 @@ ghost use Rattle.std.specs.Option.{option_copied};
 ghost use Rattle.fd_spelling.specs.Names.{is_name, is_value};
 ghost use Rattle.fd_key.specs.Pairs.{with_pair, text_of, key_text, pair_text};
 ghost use Rattle.fd_key.specs.Given.{are_reserved};
+ghost use Rattle.fd_key.specs.Values.{value_text};
 
 use crate::given::Given;
 use crate::span::{Span, in_place, value_at};
+use crate::value::{Value, push_value};
 use arrayvec::ArrayString;
 use fd_bytes::NoMemory;
 use indexmap::IndexMap;
@@ -112,6 +114,27 @@ impl Key {
     {
         let start = self.values.len();
         self.values.push_str(text)?;
+        let end = self.values.len();
+        self.spans.insert(in_place(name), Span { start, end })?;
+        Ok(())
+    }
+
+    /// The same with a value that isn't spelled yet, which is written behind the others. After `NoMemory` the key is as it was, or empty.
+    pub(crate) fn spell(&mut self, name: &str, value: &Value) -> Result<(), NoMemory>
+        requires room { length self.old < 2 ^ 32 - 1 }
+        requires fits { length name.now ≤ 16 }
+        ensures ok { OnOk result (self.new ≡ with_pair self.old name.now (value_text value.now)) }
+        ensures short { OnOk result (length (key_text self.new) ≤ length (key_text self.old) + length name.now + length (value_text value.now) + 2) }
+    {
+        let start = self.values.len();
+        match push_value(&mut self.values, value) {
+            Ok(()) => {}
+            Err(refused) => {
+                self.values.clear();
+                self.spans.clear();
+                return Err(refused);
+            }
+        }
         let end = self.values.len();
         self.spans.insert(in_place(name), Span { start, end })?;
         Ok(())
