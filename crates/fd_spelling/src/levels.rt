@@ -12,6 +12,7 @@ ghost use Rattle.fd_spelling.specs.Canonical.{GivesText};
 use crate::fault::ValueFault;
 use crate::names::push_bytes;
 use crate::numerals::{cut, is_numeral, number_up_to};
+use crate::values::push_number;
 use arrayvec::ArrayString;
 use fd_bytes::NoMemory;
 use itoa::Buffer;
@@ -22,12 +23,12 @@ use std::alloc::Global;
 pub fn push_levtype(out: &mut String, first: u8, second: u8) -> Result<(), NoMemory>
     ensures { OnOk result (string_bytes out.new ≡ string_bytes out.old ++ levtype_text first second) }
 {
+    push_number(out, u32::from(first))?;
     if second == 255 {
-        write!(out, "{first}")?;
-    } else {
-        write!(out, "{first}-{second}")?;
+        return Ok(());
     }
-    Ok(())
+    out.push('-')?;
+    push_number(out, u32::from(second))
 }
 
 /// The type of the first surface, and that of the second unless it is missing.

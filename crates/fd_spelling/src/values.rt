@@ -13,6 +13,7 @@ use crate::numerals::{cut, number_up_to};
 use crate::stats::stat_spelling;
 use crate::steps::step_spelling;
 use fd_bytes::NoMemory;
+use itoa::Buffer;
 use std::alloc::Global;
 
 /// A number in decimal digits.
@@ -41,7 +42,7 @@ fn number_spelling(alloc: Global, text: &[u8], most: u32) -> Result<String, Valu
 pub fn push_number(out: &mut String, number: u32) -> Result<(), NoMemory>
     ensures { OnOk result (string_bytes out.new ≡ string_bytes out.old ++ decimal number) }
 {
-    write!(out, "{number}")?;
+    out.push_str(Buffer::new().format(number))?;
     Ok(())
 }
 
@@ -49,8 +50,11 @@ pub fn push_number(out: &mut String, number: u32) -> Result<(), NoMemory>
 pub fn push_param(out: &mut String, d: u8, c: u8, n: u8) -> Result<(), NoMemory>
     ensures { OnOk result (string_bytes out.new ≡ string_bytes out.old ++ param_text d c n) }
 {
-    write!(out, "{d}.{c}.{n}")?;
-    Ok(())
+    push_number(out, u32::from(d))?;
+    out.push('.')?;
+    push_number(out, u32::from(c))?;
+    out.push('.')?;
+    push_number(out, u32::from(n))
 }
 
 /// The text `d.c.n` of a parameter: its discipline, category and number.
