@@ -15,7 +15,6 @@ ghost use Rattle.fd_inventory.specs.Written.{HasLinesCause};
 ghost use Rattle.fd_outcome.specs.Rows.{Row, axes_text, order, put, values_text, with_text};
 
 use crate::fault::{LinesFault, lines_fault};
-use crate::listing::{write_many, write_text};
 use crate::rows::{Rows, rows_of};
 use crate::stored_key::add_text;
 use fd_bytes::NoMemory;
@@ -23,7 +22,7 @@ use fd_dataset::Snapshot;
 use fd_disk::Sealed;
 use fd_io::Sink;
 use fd_key::Key;
-use fd_listing::TextFault;
+use fd_listing::{TextFault, write_many, write_text};
 use fd_request::Partial;
 use std::alloc::Global;
 use std::collections::BTreeMap;
@@ -202,19 +201,10 @@ fn write_axes<X, K: Sink<X>>(
 {
     let mut lines = String::new(alloc);
     for (index, names) in axes {
-        match push_names(&mut lines, dataset, index.as_str(), names) {
-            Ok(()) => {}
-            Err(NoMemory) => return Err(TextFault::NoMemory),
-        }
-        match write_many(&mut lines, sink) {
-            Ok(()) => {}
-            Err(fault) => return Err(fault),
-        }
+        push_names(&mut lines, dataset, index.as_str(), names)?;
+        write_many(&mut lines, sink)?;
     }
-    match write_text(sink, lines.as_str()) {
-        Ok(()) => Ok(()),
-        Err(fault) => Err(fault),
-    }
+    write_text(sink, lines.as_str())
 }
 
 /// Writes the lines of `axes` for a dataset: for each index text of the keys that the partial request asks for, and for each

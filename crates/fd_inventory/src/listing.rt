@@ -3,7 +3,7 @@ ghost use Rattle.std.specs.Prelude.{◌≡◌, ◌≤◌, ◌++◌, List, IfErr,
 ghost use Rattle.fd_entries.specs.declared.batch.Pair.{Pair};
 ghost use Rattle.fd_dataset.specs.Listed.{listing};
 ghost use Rattle.fd_io.specs.Streams.{Takes, TakesFront};
-ghost use Rattle.fd_listing.specs.Sinks.{HasSinkCause, TakesAllBut};
+ghost use Rattle.fd_listing.specs.Sinks.{HasSinkCause};
 ghost use Rattle.fd_inventory.specs.Indexes.{IsAmongBad, OnLines, Tells};
 ghost use Rattle.fd_inventory.specs.Recorded.{TakesBy};
 ghost use Rattle.fd_inventory.specs.Shown.{kept};
@@ -15,13 +15,10 @@ use crate::rows::{Newest, Rows, rows_of};
 use fd_bytes::NoMemory;
 use fd_dataset::Snapshot;
 use fd_disk::Sealed;
-use fd_io::{Sink, write_all};
-use fd_listing::TextFault;
+use fd_io::Sink;
+use fd_listing::{TextFault, write_many, write_text};
 use fd_request::Partial;
 use std::alloc::Global;
-
-/// How many bytes of lines are held before they are written.
-const MOST_HELD: usize = 65_536;
 
 /// Appends the line of a row.
 fn push_row(
@@ -38,38 +35,6 @@ fn push_row(
     Ok(())
 }
 
-/// Writes a text.
-pub(crate) fn write_text<X, K: Sink<X>>(sink: &mut K, text: &str) -> Result<(), TextFault<X>>
-    ensures took { OnOk result (Takes (K.taken sink.old) (K.taken sink.new) text.now) }
-    ensures front { OnErr result (TakesFront (K.taken sink.old) (K.taken sink.new) text.now) }
-    ensures cause { HasSinkCause result (K.faults sink.old) (K.faults sink.new) }
-{
-    match write_all(sink, text.as_bytes()) {
-        Ok(()) => Ok(()),
-        Err(fault) => Err(TextFault::Write(fault)),
-    }
-}
-
-/// Writes the lines that are held once there are many, and lets go of them.
-pub(crate) fn write_many<X, K: Sink<X>>(
-    lines: &mut String,
-    sink: &mut K,
-) -> Result<(), TextFault<X>>
-    ensures took { OnOk result (TakesAllBut (K.taken sink.old) (K.taken sink.new) (string_bytes lines.old) (string_bytes lines.new)) }
-    ensures front { OnErr result (TakesFront (K.taken sink.old) (K.taken sink.new) (string_bytes lines.old)) }
-    ensures cause { HasSinkCause result (K.faults sink.old) (K.faults sink.new) }
-{
-    if lines.len() < MOST_HELD {
-        return Ok(());
-    }
-    match write_text(sink, lines.as_str()) {
-        Ok(()) => {}
-        Err(fault) => return Err(fault),
-    }
-    lines.clear();
-    Ok(())
-}
-
 /// Writes the lines of rows, many at a time.
 fn write_rows<X, K: Sink<X>>(
     alloc: Global,
@@ -83,25 +48,16 @@ fn write_rows<X, K: Sink<X>>(
 {
     let mut lines = String::new(alloc);
     for (texts, newest) in rows {
-        match push_row(
+        push_row(
             &mut lines,
             dataset,
             texts.0.as_str(),
             texts.1.as_str(),
             newest,
-        ) {
-            Ok(()) => {}
-            Err(NoMemory) => return Err(TextFault::NoMemory),
-        }
-        match write_many(&mut lines, sink) {
-            Ok(()) => {}
-            Err(fault) => return Err(fault),
-        }
+        )?;
+        write_many(&mut lines, sink)?;
     }
-    match write_text(sink, lines.as_str()) {
-        Ok(()) => Ok(()),
-        Err(fault) => Err(fault),
-    }
+    write_text(sink, lines.as_str())
 }
 
 /// Writes the lines of `list` for a dataset: `DATASET INDEX DATUM LENGTH NUMBER` for each of its keys that the partial

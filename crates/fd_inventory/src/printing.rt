@@ -6,10 +6,9 @@ ghost use Rattle.fd_listing.specs.Sinks.{HasSinkCause};
 ghost use Rattle.fd_schema.specs.Seen as schemas;
 ghost use Rattle.fd_inventory.specs.Written.{text_lines};
 
-use crate::listing::{write_many, write_text};
 use fd_bytes::NoMemory;
 use fd_io::Sink;
-use fd_listing::TextFault;
+use fd_listing::{TextFault, write_many, write_text};
 use std::alloc::Global;
 
 /// Appends a text as a line.
@@ -35,17 +34,8 @@ pub fn write_lines<X, K: Sink<X>>(
 {
     let mut lines = String::new(alloc);
     for text in texts {
-        match push_line(&mut lines, text.as_str()) {
-            Ok(()) => {}
-            Err(NoMemory) => return Err(TextFault::NoMemory),
-        }
-        match write_many(&mut lines, sink) {
-            Ok(()) => {}
-            Err(fault) => return Err(fault),
-        }
+        push_line(&mut lines, text.as_str())?;
+        write_many(&mut lines, sink)?;
     }
-    match write_text(sink, lines.as_str()) {
-        Ok(()) => Ok(()),
-        Err(fault) => Err(fault),
-    }
+    write_text(sink, lines.as_str())
 }

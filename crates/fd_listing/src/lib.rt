@@ -10,4 +10,5 @@ mod product;
 
 pub use description::describe;
 pub use fault::{TextFault, ValuesFault};
+pub use lines::{write_many, write_text};
 pub use point_values::values;

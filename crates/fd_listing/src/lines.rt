@@ -1,9 +1,13 @@
-ghost use Rattle.std.specs.Prelude.{◌≤◌, OnOk, OnErr};
+// Lines that are held until there are many.
+ghost use Rattle.std.specs.Prelude.{◌≤◌, OnOk, OnErr, string_bytes};
 ghost use Rattle.fd_io.specs.Streams.{Takes, TakesFront};
-ghost use Rattle.fd_listing.specs.Sinks.{HasSinkCause};
+ghost use Rattle.fd_listing.specs.Sinks.{HasSinkCause, TakesAllBut};
 
 use crate::fault::TextFault;
 use fd_io::{Sink, write_all};
+
+/// How many bytes of lines are held before they are written.
+const MOST_HELD: usize = 65_536;
 
 /// Writes a text.
 pub fn write_text<X, K: Sink<X>>(sink: &mut K, text: &str) -> Result<(), TextFault<X>>
@@ -16,4 +20,22 @@ pub fn write_text<X, K: Sink<X>>(sink: &mut K, text: &str) -> Result<(), TextFau
         Ok(()) => Ok(()),
         Err(fault) => Err(TextFault::Write(fault)),
     }
+}
+
+/// Writes the lines that are held once there are many, and lets go of them.
+pub fn write_many<X, K: Sink<X>>(lines: &mut String, sink: &mut K) -> Result<(), TextFault<X>>
+    ensures took { OnOk result (TakesAllBut (K.taken sink.old) (K.taken sink.new) (string_bytes lines.old) (string_bytes lines.new)) }
+    ensures front { OnErr result (TakesFront (K.taken sink.old) (K.taken sink.new) (string_bytes lines.old)) }
+    ensures count { K.faults sink.old ≤ K.faults sink.new }
+    ensures cause { HasSinkCause result (K.faults sink.old) (K.faults sink.new) }
+{
+    if lines.len() < MOST_HELD {
+        return Ok(());
+    }
+    match write_text(sink, lines.as_str()) {
+        Ok(()) => {}
+        Err(fault) => return Err(fault),
+    }
+    lines.clear();
+    Ok(())
 }

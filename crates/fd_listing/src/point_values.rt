@@ -3,11 +3,11 @@ ghost use Rattle.fd_sections.specs.Parts.{sections_of};
 ghost use Rattle.fd_packing.specs.Field.{field_of};
 ghost use Rattle.fd_packing.specs.Value.{values_of};
 ghost use Rattle.fd_io.specs.Streams.{Takes, TakesFront};
-ghost use Rattle.fd_listing.specs.Sinks.{HasSinkCause, HasValuesCause, TakesAllBut};
+ghost use Rattle.fd_listing.specs.Sinks.{HasSinkCause, HasValuesCause};
 ghost use Rattle.fd_listing.specs.Values.{number_text, value_text, value_line, values_text, message_values, most_points, AnswersField, HoldsNoWant};
 
 use crate::fault::{TextFault, ValuesFault};
-use crate::lines::write_text;
+use crate::lines::{write_many, write_text};
 use fd_bytes::NoMemory;
 use fd_io::Sink;
 use fd_packing::Field;
@@ -17,9 +17,6 @@ use std::alloc::Global;
 
 /// How many points a field may have.
 const MOST_POINTS: u64 = 134_217_728;
-
-/// How many bytes of lines are held before they are written.
-const MOST_HELD: usize = 65_536;
 
 /// The text of a value.
 fn number_text(alloc: Global, value: &Scaled, decimals: Option<u8>) -> Result<String, NoMemory>
@@ -75,24 +72,6 @@ fn push_point(
     push_line(lines, number, point, text.as_str())
 }
 
-/// Writes the lines that are held once there are many, and lets go of them.
-fn write_many<X, K: Sink<X>>(lines: &mut String, sink: &mut K) -> Result<(), TextFault<X>>
-    ensures took { OnOk result (TakesAllBut (K.taken sink.old) (K.taken sink.new) (string_bytes lines.old) (string_bytes lines.new)) }
-    ensures front { OnErr result (TakesFront (K.taken sink.old) (K.taken sink.new) (string_bytes lines.old)) }
-    ensures count { K.faults sink.old ≤ K.faults sink.new }
-    ensures cause { HasSinkCause result (K.faults sink.old) (K.faults sink.new) }
-{
-    if lines.len() < MOST_HELD {
-        return Ok(());
-    }
-    match write_text(sink, lines.as_str()) {
-        Ok(()) => {}
-        Err(fault) => return Err(fault),
-    }
-    lines.clear();
-    Ok(())
-}
-
 /// Writes the lines of all points, many at a time.
 fn write_values<X, K: Sink<X>>(
     alloc: Global,
@@ -112,20 +91,11 @@ fn write_values<X, K: Sink<X>>(
     let mut points = field.values();
     let mut point = 0;
     'points: while let Some(value) = points.next() {
-        match push_point(alloc, &mut lines, number, point, value, decimals) {
-            Ok(()) => {}
-            Err(NoMemory) => return Err(TextFault::NoMemory),
-        }
-        match write_many(&mut lines, sink) {
-            Ok(()) => {}
-            Err(fault) => return Err(fault),
-        }
+        push_point(alloc, &mut lines, number, point, value, decimals)?;
+        write_many(&mut lines, sink)?;
         point += 1;
     }
-    match write_text(sink, lines.as_str()) {
-        Ok(()) => Ok(()),
-        Err(fault) => Err(fault),
-    }
+    write_text(sink, lines.as_str())
 }
 
 /// Writes the values of a message, a line `MESSAGE POINT VALUE` for each point of its grid: the number of the message,
