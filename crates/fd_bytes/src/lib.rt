@@ -7,5 +7,5 @@ mod memory;
 mod numbers;
 
 pub use list::{Bytes, Items};
-pub use memory::NoMemory;
+pub use memory::{NoMemory, Starved};
 pub use numbers::{be_u16, be_u32, be_u64, is_missing, signed, unsigned_of};

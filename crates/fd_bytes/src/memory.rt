@@ -15,3 +15,12 @@ impl<T: Drop> From<AllocFailed<T>> for NoMemory {
         NoMemory
     }
 }
+
+/// What a call answers where memory was refused. An answer of one's own takes each of them by one `From`.
+pub trait Starved: Drop {}
+
+impl Starved for NoMemory {}
+
+impl Starved for AllocError {}
+
+impl<T: Drop> Starved for AllocFailed<T> {}

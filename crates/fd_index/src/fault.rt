@@ -1,8 +1,7 @@
 ghost use Rattle.std.specs.Prelude.{◌≡◌};
 ghost use Rattle.fd_index.specs.declared.fault.IndexFault.TheVariants as faults;
 
-use fd_bytes::NoMemory;
-use std::alloc::{AllocError, AllocFailed};
+use fd_bytes::Starved;
 
 /// A key that a builder doesn't hold has no room in it.
 #[derive(Clone, Copy, Debug, PartialEq, Eq)]
@@ -23,26 +22,10 @@ pub enum IndexFault {
     NoMemory,
 }
 
-impl From<NoMemory> for IndexFault {
+impl<N: Starved> From<N> for IndexFault {
     ghost from_gives = { λ _ e. e ≡ faults.NoMemory };
 
-    fn from(_: NoMemory) -> IndexFault {
-        IndexFault::NoMemory
-    }
-}
-
-impl From<AllocError> for IndexFault {
-    ghost from_gives = { λ _ e. e ≡ faults.NoMemory };
-
-    fn from(_: AllocError) -> IndexFault {
-        IndexFault::NoMemory
-    }
-}
-
-impl<T: Drop> From<AllocFailed<T>> for IndexFault {
-    ghost from_gives = { λ _ e. e ≡ faults.NoMemory };
-
-    fn from(_: AllocFailed<T>) -> IndexFault {
+    fn from(_: N) -> IndexFault {
         IndexFault::NoMemory
     }
 }

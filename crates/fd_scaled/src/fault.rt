@@ -1,7 +1,6 @@
 ghost use Rattle.std.specs.Prelude.{◌≡◌};
 
-use fd_bytes::NoMemory;
-use std::alloc::AllocError;
+use fd_bytes::Starved;
 
 /// Why a number has no decimal text.
 #[derive(Clone, Copy, Debug, PartialEq, Eq)]
@@ -12,22 +11,12 @@ pub enum DecimalFault {
     NoMemory,
 }
 
-impl From<AllocError> for DecimalFault {
+impl<N: Starved> From<N> for DecimalFault {
     ghost use Rattle.fd_scaled.specs.declared.fault.DecimalFault.TheVariants.{NoMemory};
 
     ghost from_gives = { λ _ e. e ≡ NoMemory };
 
-    fn from(_: AllocError) -> DecimalFault {
-        DecimalFault::NoMemory
-    }
-}
-
-impl From<NoMemory> for DecimalFault {
-    ghost use Rattle.fd_scaled.specs.declared.fault.DecimalFault.TheVariants.{NoMemory};
-
-    ghost from_gives = { λ _ e. e ≡ NoMemory };
-
-    fn from(_: NoMemory) -> DecimalFault {
+    fn from(_: N) -> DecimalFault {
         DecimalFault::NoMemory
     }
 }

@@ -3,7 +3,7 @@ ghost use Rattle.fd_schema.specs.declared.fault.Refusal.TheVariants as refusals;
 ghost use Rattle.fd_schema.specs.declared.fault.SchemaFault.TheVariants as schema_faults;
 ghost use Rattle.fd_schema.specs.declared.fault.PlaceFault.TheVariants as place_faults;
 
-use std::alloc::{AllocError, AllocFailed};
+use fd_bytes::Starved;
 use std::error::Error;
 use std::fmt;
 
@@ -74,26 +74,10 @@ pub(crate) enum Refusal {
     NoMemory,
 }
 
-impl From<fd_bytes::NoMemory> for Refusal {
+impl<N: Starved> From<N> for Refusal {
     ghost from_gives = { λ _ e. e ≡ refusals.NoMemory };
 
-    fn from(_: fd_bytes::NoMemory) -> Refusal {
-        Refusal::NoMemory
-    }
-}
-
-impl From<AllocError> for Refusal {
-    ghost from_gives = { λ _ e. e ≡ refusals.NoMemory };
-
-    fn from(_: AllocError) -> Refusal {
-        Refusal::NoMemory
-    }
-}
-
-impl<T: Drop> From<AllocFailed<T>> for Refusal {
-    ghost from_gives = { λ _ e. e ≡ refusals.NoMemory };
-
-    fn from(_: AllocFailed<T>) -> Refusal {
+    fn from(_: N) -> Refusal {
         Refusal::NoMemory
     }
 }

@@ -1,9 +1,9 @@
 ghost use Rattle.std.specs.Prelude.{◌≡◌};
 ghost use Rattle.fd_script.specs.declared.fault.Refusal.TheVariants as refusals;
 
+use fd_bytes::Starved;
 use fd_key::GivenFault;
 use fd_request::RequestFault;
-use std::alloc::{AllocError, AllocFailed};
 use std::error::Error;
 use std::fmt;
 
@@ -48,26 +48,10 @@ pub(crate) enum Refusal {
     NoMemory,
 }
 
-impl From<fd_bytes::NoMemory> for Refusal {
+impl<N: Starved> From<N> for Refusal {
     ghost from_gives = { λ _ e. e ≡ refusals.NoMemory };
 
-    fn from(_: fd_bytes::NoMemory) -> Refusal {
-        Refusal::NoMemory
-    }
-}
-
-impl From<AllocError> for Refusal {
-    ghost from_gives = { λ _ e. e ≡ refusals.NoMemory };
-
-    fn from(_: AllocError) -> Refusal {
-        Refusal::NoMemory
-    }
-}
-
-impl<T: Drop> From<AllocFailed<T>> for Refusal {
-    ghost from_gives = { λ _ e. e ≡ refusals.NoMemory };
-
-    fn from(_: AllocFailed<T>) -> Refusal {
+    fn from(_: N) -> Refusal {
         Refusal::NoMemory
     }
 }
