@@ -114,10 +114,3 @@ module _ (result : Status) (has : Option Holdings) (sm sn : ℕ) (input : Option
 pub unasked_ends : (o : Option Command) (result : Status) (store : Object Holdings) (input : Object (List ℕ)) (a : Option (List ℕ)) (km km' : ℕ) (c d : Option (List ℕ)) (m n : ℕ) → o ≡ None → Told Words usage result c d m n
     → MatchOption o (EndsUnasked result (object a a km km') (object c d m n)) (λ command. Runs command result store input (object a a km km') (object c d m n))
 unasked_ends o result store input a km km' c d m n is told = rw is (unasked Words usage result a km km' c d m n (inl (refl, refl)) told)
-
-pub unasked_calm : (o : Option Command) (result : Status) (input output report : Object (List ℕ)) → o ≡ None → IfSome o (λ command. Calm command result input output report)
-unasked_calm o result input output report is = rw is tt
-
-pub asked_complete : (o : Option Command) (command : Command) (result : Status) (store : Object Holdings) (input output report : Object (List ℕ)) → o ≡ Some command → Ran command result store input output report
-    → ¬ (Failed input) → ¬ (Failed output) → ¬ (Failed report) → ¬ (Failed store) → IfSome o (λ command. Completes command result input.before store.before store.now)
-asked_complete o command result store input output report is r ni nk nr ns = rw is (completes command result store input output report r ni nk nr ns)
