@@ -6,7 +6,7 @@ ghost use Rattle.fd_segment.specs.Copying.{IsCopied, IsCopiedInPart, IsDigestedA
 ghost use Rattle.fd_segment.specs.Held.{Standing};
 ghost use Rattle.fd_retriever.specs.Answers.{OnDamaged, OnWrite, UnlessWrite, Unwritten};
 ghost use Rattle.fd_retriever.specs.Kept.{AreThose};
-ghost use Rattle.fd_ahead.specs.Places.{InSegment, IsIn, IsMetAt, Keeping, Keeps, Open};
+ghost use Rattle.fd_ahead.specs.Places.{InSegment, IsIn, IsMetAt, Keeping, Keeps};
 
 use crate::located::Located;
 use crate::opened::Opened;

@@ -12,7 +12,7 @@ ghost use Rattle.fd_archive.specs.Crashing.{OutlastsCrash};
 
 use crate::storing::store_all;
 use crate::telling::{tell_counts, tell_fault};
-use fd_disk::{Folder, Shelf, Store};
+use fd_disk::Store;
 use fd_io::{Gate, Sink, Source};
 use fd_key::Given;
 use fd_outcome::{Status, Unruled, stored_schema, tell, tell_disk_failed, tell_no_memory};

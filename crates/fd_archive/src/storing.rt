@@ -8,7 +8,7 @@ ghost use Rattle.fd_bulk.specs.Archived.{IsRead, OnDisk, OnInput};
 ghost use Rattle.fd_archive.specs.Kept.{InputKept};
 
 use fd_bulk::{Bulk, BulkFault, Opener, archive_all};
-use fd_disk::{Folder, Shelf, Store};
+use fd_disk::Store;
 use fd_io::{Gate, Source};
 use fd_key::Given;
 use fd_schema::Schema;

@@ -1,4 +1,4 @@
-ghost use Rattle.std.specs.Prelude.{◌≡◌, ◌≢◌, ◌≤◌, ◌<◌, ◌+◌, ◌-◌, ◌^◌, ◌↔◌, ◌++◌, [], ◌∷◌, List, true, false, length, Some, None, Err, IsSome, is_some, IsTrue, IfOk, IfErr, IfSome, OnOk, OnErr};
+ghost use Rattle.std.specs.Prelude.{◌≡◌, ◌≢◌, ◌≤◌, ◌<◌, ◌+◌, ◌-◌, ◌^◌, ◌↔◌, ◌++◌, [], ◌∷◌, List, true, false, length, None, Err, IsSome, is_some, IsTrue, IfOk, IfErr, IfSome, OnOk, OnErr};
 ghost use Rattle.fd_bytes.specs.Causes.{Rose};
 ghost use Rattle.fd_disk.specs.declared.folders.FileName.{FileName};
 ghost use Rattle.fd_disk.specs.Causes.{OnFault};

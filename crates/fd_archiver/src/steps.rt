@@ -1,5 +1,5 @@
 //! What a flush does before the listing: a next draft, the sealing, and the keeping of both files.
-ghost use Rattle.std.specs.Prelude.{◌≡◌, ◌≢◌, ◌≤◌, ◌<◌, ◌-◌, ◌^◌, ◌⊎◌, ◌↔◌, ◌++◌, [], List, true, false, length, Ok, Err, None, IsSome, Some, IfErr, OnOk, OnErr};
+ghost use Rattle.std.specs.Prelude.{◌≡◌, ◌≢◌, ◌≤◌, ◌<◌, ◌-◌, ◌^◌, ◌⊎◌, ◌↔◌, [], List, true, false, length, Ok, Err, None, IsSome, Some, IfErr, OnOk, OnErr};
 ghost use Rattle.fd_bytes.specs.Causes.{Rose};
 ghost use Rattle.fd_disk.specs.Causes.{OnFault};
 ghost use Rattle.fd_entries.specs.declared.batch.Pair.{Pair};

@@ -1,4 +1,3 @@
-ghost use Rattle.std.specs.Prelude.{◌≡◌};
 ghost use Rattle.std.specs.Fork.{AcceptsEach};
 ghost use denote.Param.Send.{IsSend, IsSync};
 ghost use Rattle.fd_beside.specs.Beside.{AreChanged};

@@ -1,7 +1,6 @@
 // A reader that reads ahead.
-ghost use Rattle.std.specs.Prelude.{◌≡◌, ◌≤◌, ◌-◌, ◌+◌, length, min, take, drop, vec_len, IfOk, IsTrue};
+ghost use Rattle.std.specs.Prelude.{◌≡◌, ◌≤◌, ◌-◌, ◌+◌, take, drop, vec_len, IfOk, IsTrue};
 ghost use Rattle.std.specs.Option.{ForSome};
-ghost use Rattle.fd_disk.specs.Reading.{ReadsBytes, ReadsCount, raised};
 
 use crate::copying::copied;
 use fd_bytes::NoMemory;

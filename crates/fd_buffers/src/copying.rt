@@ -1,5 +1,5 @@
 // Copies out of a buffer.
-ghost use Rattle.std.specs.Prelude.{◌≡◌, ◌-◌, ◌≤◌, ◌++◌, length, min, take, drop};
+ghost use Rattle.std.specs.Prelude.{◌≡◌, ◌-◌, ◌++◌, length, min, take, drop};
 
 // Copies what stands from a place on, as far as both go.
 pub(crate) fn copied(bytes: &[u8], at: usize, into: &mut [u8]) -> usize

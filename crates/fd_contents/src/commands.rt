@@ -18,7 +18,7 @@ ghost use Rattle.fd_contents.specs.Recorded.{CountsRecords, ListsRecords};
 use crate::datasets::{Halt, print};
 use crate::lines::Lines;
 use crate::reading::{partial, ruled};
-use fd_disk::{Folder, Sealed, Store};
+use fd_disk::Store;
 use fd_io::{Sink, Source};
 use fd_outcome::{Status, tell_output_failed};
 use fd_telling::tell_stop;

@@ -8,7 +8,7 @@ ghost use Rattle.fd_contents.specs.Cubing.{BeginsCubes, CubesRan};
 use crate::gathering::keys_asked;
 use crate::reading::partial;
 use crate::telling::tell_keys;
-use fd_disk::{Folder, Sealed, Store};
+use fd_disk::Store;
 use fd_io::{Sink, Source};
 use fd_outcome::Status;
 use fd_request::Partial;

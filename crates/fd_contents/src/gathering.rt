@@ -12,7 +12,7 @@ ghost use Rattle.fd_telling.specs.Stops.{OfDataset};
 ghost use Rattle.fd_contents.specs.Gathering.{FindsAll, FindsIn};
 
 use crate::datasets::{damaged, opened_at};
-use fd_disk::{Down, Folder, Sealed, Store};
+use fd_disk::{Down, Sealed, Store};
 use fd_inventory::{Found, found_in};
 use fd_request::Partial;
 use fd_retrieve::Opened;

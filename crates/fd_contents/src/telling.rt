@@ -1,11 +1,9 @@
 // What is told of the keys that were found: their cubes as lines, or why there are none.
 ghost use Rattle.std.specs.Prelude.{◌≡◌, ◌≤◌, ◌≢◌, IfOk, MatchOption, None, Some, length};
-ghost use Rattle.std.specs.List.{All, AllPairs, list_any};
-ghost use Rattle.fd_key.specs.Pairs.{Pair};
+ghost use Rattle.std.specs.List.{All, AllPairs};
 ghost use Rattle.fd_request.specs.Grammar.{is_range_word};
 ghost use Rattle.fd_schema.specs.Seen.{texts};
 ghost use Rattle.fd_cubes.specs.Cubes.{IsAskable};
-ghost use Rattle.fd_inventory.specs.Found.{IsNamed};
 ghost use Rattle.fd_outcome.specs.Causes as causes;
 ghost use Rattle.fd_outcome.specs.Causes.{telling};
 ghost use Rattle.fd_outcome.specs.Cubing.{first_ranged, is_ranged, keys_refusal};

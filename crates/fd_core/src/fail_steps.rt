@@ -1,4 +1,4 @@
-ghost use Rattle.std.specs.Prelude.{◌≡◌, ◌<◌, ◌^◌, ◌⊎◌, Some, None, false, IfOk, IsSome, IsNone, OnOk, OnErr};
+ghost use Rattle.std.specs.Prelude.{◌≡◌, ◌<◌, ◌^◌, ◌⊎◌, false, IfOk, IsSome, IsNone, OnOk, OnErr};
 ghost use Rattle.fd_entries.specs.Batches.{total};
 ghost use Rattle.fd_core.specs.Machine.{after, fields_name, writer_in, writer_of};
 ghost use Rattle.fd_core.specs.Took.{IsAt, took_of};

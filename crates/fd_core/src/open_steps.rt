@@ -1,4 +1,4 @@
-ghost use Rattle.std.specs.Prelude.{◌≡◌, ◌≤◌, ◌+◌, length, drop, map, [], IfOk, OnOk, OnErr};
+ghost use Rattle.std.specs.Prelude.{◌≡◌, map, IfOk, OnOk, OnErr};
 ghost use Rattle.fd_core.specs.Machine.{after, batch_in};
 ghost use Rattle.fd_core.specs.Took.{AllHeld, IsHeld, took_of};
 ghost use Rattle.fd_core.specs.declared.machine.Step.TheVariants.{Reopen};

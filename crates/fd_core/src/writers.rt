@@ -1,4 +1,4 @@
-ghost use Rattle.fd_core.specs.Machine.{filled, gone_to, put_writer, writer_in};
+ghost use Rattle.fd_core.specs.Machine.{filled, gone_to, writer_in};
 ghost use Rattle.fd_core.specs.Took.{IsPlace};
 ghost use Rattle.fd_entries.specs.declared.batch.Pair.{Pair};
 ghost use Rattle.fd_core.specs.declared.machine.Writer.{Writer};

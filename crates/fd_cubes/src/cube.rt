@@ -1,7 +1,5 @@
-ghost use Rattle.std.specs.Prelude.{◌≡◌, ◌≤◌, ◌++◌, ◌∷◌, [], IfOk, OnOk, Ok, List, length, string_bytes, codes};
-ghost use Rattle.std.specs.List.{All, AllByRecursion};
-ghost use Rattle.std.specs.List.Sorted.{IsPermutation};
-ghost use Rattle.fd_key.specs.Pairs.{key_text};
+ghost use Rattle.std.specs.Prelude.{◌≡◌, ◌≤◌, ◌++◌, ◌∷◌, IfOk, OnOk, Ok, List, length, string_bytes};
+ghost use Rattle.std.specs.List.{All};
 ghost use Rattle.fd_schema.specs.Seen.{texts};
 ghost use Rattle.fd_request.specs.Expansion.{expand};
 ghost use Rattle.fd_request.specs.Limits.{request_of};

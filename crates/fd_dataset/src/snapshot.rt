@@ -1,4 +1,4 @@
-ghost use Rattle.std.specs.Prelude.{◌≡◌, ◌≤◌, ◌<◌, ◌-◌, length, slice_get, IfOk, Some};
+ghost use Rattle.std.specs.Prelude.{◌≡◌, ◌≤◌, ◌-◌, length, slice_get, IfOk, Some};
 ghost use Rattle.fd_segment.specs.Shared.{AreOf, standings};
 
 use crate::parts::{Segments, Shown};

@@ -1,4 +1,4 @@
-ghost use Rattle.std.specs.Prelude.{◌≡◌, ◌≢◌, ◌⊎◌, ◌≤◌, ◌<◌, [], ◌∷◌, Bool, true, false, List, ℕ, Option, Some, None, length, IfOk, IfErr, OnOk, OnErr, IfSome, IsSome, MatchOption, is_some, option_map, string_bytes};
+ghost use Rattle.std.specs.Prelude.{◌≡◌, ◌≢◌, ◌⊎◌, ◌≤◌, ◌<◌, [], Bool, true, false, List, ℕ, Option, Some, None, length, IfOk, IfErr, OnOk, OnErr, IfSome, IsSome, MatchOption, is_some, option_map, string_bytes};
 ghost use Rattle.std.specs.Str.{bytes_eq};
 ghost use Rattle.std.specs.List.{list_any};
 ghost use Rattle.std.specs.List.Sorted.{IsStrictlySortedBy};

@@ -1,4 +1,4 @@
-ghost use Rattle.std.specs.Prelude.{◌≡◌, ◌≤◌, ◌<◌, ◌+◌, ◌-◌, ◌^◌, ◌⊎◌, [], ◌∷◌, Bool, true, false, List, ℕ, Option, Some, None, length, max, MatchResult, MatchOption, IfOk, IfErr, OnOk, OnErr, IfSome, option_map};
+ghost use Rattle.std.specs.Prelude.{◌≡◌, ◌≤◌, ◌<◌, ◌+◌, ◌^◌, Bool, true, false, List, ℕ, Option, Some, length, max, IfOk, OnOk, OnErr, option_map};
 ghost use Rattle.fd_disk.specs.declared.file.File.{File};
 ghost use Rattle.fd_disk.specs.declared.folders.FileName.{FileName};
 ghost use Rattle.fd_disk.specs.Images.{IsImage, IsAfterFailedWrite, written, synced, firm_file};

@@ -1,5 +1,5 @@
 // A crash while a dataset is out.
-ghost use Rattle.std.specs.Prelude.{◌≡◌, ◌<◌, [], List, ℕ, Option, true, false, is_some, option_map, string_bytes, vec_len, IfOk, IfSome, None, Some};
+ghost use Rattle.std.specs.Prelude.{◌≡◌, ◌<◌, [], Option, false, is_some, option_map, string_bytes, vec_len, IfOk, IfSome, Some};
 ghost use Rattle.fd_disk.specs.Folders.{Left, folder_at};
 ghost use Rattle.fd_disk.specs.Outstanding.{IsDatasetImage, IsStoreLeft, all_back, one_out};
 ghost use Rattle.fd_disk.specs.declared.file.File.{File};

@@ -1,5 +1,5 @@
 // The files that shelves kept, the newest first.
-ghost use Rattle.std.specs.Prelude.{◌≡◌, if◌then◌else◌, [], ◌∷◌, Bool, true, false, List, ℕ, Option, Some, None, OnOk, OnErr, IfOk, MatchOption, option_map};
+ghost use Rattle.std.specs.Prelude.{◌≡◌, if◌then◌else◌, ◌∷◌, true, false, Some, None, OnOk, OnErr, IfOk, MatchOption, option_map};
 ghost use Rattle.fd_disk.specs.Names.{same_name};
 ghost use Rattle.fd_disk_mem.specs.Drawers.{below, bytes_among, is_named, bytes_in};
 

@@ -1,7 +1,6 @@
 // The replacing of a file, as damage does it.
 ghost use Rattle.std.specs.Prelude.{◌≡◌, ◌≤◌, List, ℕ, length, option_map, IfOk, OnOk, OnErr};
 ghost use Rattle.fd_disk.specs.Images.{firm_file};
-ghost use Rattle.fd_disk.specs.declared.folders.FileName.{FileName};
 ghost use Rattle.fd_file_mem.specs.Calls.{file_of};
 ghost use Rattle.fd_disk_mem.specs.Planning.{fails_for, holdings};
 ghost use Rattle.fd_file_mem.specs.Plans.{table_text};

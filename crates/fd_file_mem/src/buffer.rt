@@ -1,5 +1,5 @@
 // Lists in room that was reserved for them.
-ghost use Rattle.std.specs.Prelude.{◌≡◌, ◌+◌, ◌-◌, ◌^◌, ◌<◌, ◌≤◌, [], ◌∷◌, ◌++◌, List, ℕ, ◌||◌, nat_le, length, take, drop, replicate, IfOk};
+ghost use Rattle.std.specs.Prelude.{◌≡◌, ◌+◌, ◌-◌, ◌^◌, ◌<◌, ◌≤◌, [], ◌∷◌, ◌++◌, ◌||◌, nat_le, length, take, drop, replicate, IfOk};
 ghost use Rattle.fd_disk.specs.Images.{overwritten, is_in};
 ghost use Rattle.fd_file_mem.specs.Left.{AreBytesLeft};
 ghost use Rattle.fd_file_mem.specs.Buffers.{Buffered};

@@ -130,7 +130,7 @@ impl MemDisk {
 impl Disk<MemFault> for MemDisk {
     ghost use Rattle.fd_file_mem.specs.Calls.{file_of, synced_by, extent_by};
     ghost use Rattle.fd_file_mem.specs.Past.{LeftSince, now_counts, only_now, reads_told, firm_told};
-    ghost use Rattle.std.specs.Prelude.{ℕ, Option, Some, length, false};
+    ghost use Rattle.std.specs.Prelude.{Some, length, false};
 
     type Sealed = MemSealed;
 

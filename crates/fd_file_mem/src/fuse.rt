@@ -1,5 +1,5 @@
 // A number of calls that all objects of a store share.
-ghost use Rattle.std.specs.Prelude.{◌≡◌, true, Option, Some, None, IfOk};
+ghost use Rattle.std.specs.Prelude.{◌≡◌, true, Some, None, IfOk};
 ghost use Rattle.fd_file_mem.specs.Plans.{is_set, is_spent};
 
 use std::alloc::{AllocError, Global};

@@ -1,5 +1,5 @@
 // What a crash leaves of loose bytes.
-ghost use Rattle.std.specs.Prelude.{◌≡◌, ◌||◌, Bool, nat_le};
+ghost use Rattle.std.specs.Prelude.{◌≡◌, ◌||◌, nat_le};
 ghost use Rattle.fd_disk.specs.Images.{is_in};
 ghost use Rattle.fd_file_mem.specs.Left.{IsByteLeft, AreBytesLeft, mixed};
 

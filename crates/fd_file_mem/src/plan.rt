@@ -1,5 +1,5 @@
 // Calls that are to fail.
-ghost use Rattle.std.specs.Prelude.{◌≡◌, ◌⊎◌, ◌++◌, [], ◌∷◌, ℕ, List, Option, Some, None, true, false, not, IfOk, OnOk, OnErr, string_bytes};
+ghost use Rattle.std.specs.Prelude.{◌≡◌, ◌++◌, [], ◌∷◌, ℕ, List, None, true, not, IfOk, OnOk, OnErr, string_bytes};
 ghost use Rattle.fd_disk.specs.Reading.{raised};
 ghost use Rattle.fd_file_mem.specs.Plans.{FailsByPlan, IsAnew, after_call, asked_for, asked_once, ending, fails_if, fails_of, file_text, is_due, is_planned, never_asked, same_op, table_text};
 

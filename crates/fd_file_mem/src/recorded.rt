@@ -1,5 +1,5 @@
 // A file in memory with the record of its calls, in room that was reserved for both.
-ghost use Rattle.std.specs.Prelude.{◌≡◌, ◌+◌, ◌*◌, ◌-◌, ◌^◌, ◌<◌, ◌≤◌, [], Bool, true, List, ℕ, length, min, IfOk};
+ghost use Rattle.std.specs.Prelude.{◌≡◌, ◌+◌, ◌*◌, ◌-◌, ◌^◌, ◌<◌, ◌≤◌, [], true, length, min, IfOk};
 ghost use Rattle.fd_disk.specs.Images.{IsImage};
 ghost use Rattle.fd_file_mem.specs.Calls.{Memory, Wrote, Failed, Synced, begun, file_of, fits, has_room, with_call};
 ghost use Rattle.fd_file_mem.specs.Left.{IsLeft};

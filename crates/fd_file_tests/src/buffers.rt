@@ -1,5 +1,5 @@
 // Buffers over files in memory, some of whose calls are planned to fail.
-ghost use Rattle.std.specs.Prelude.{◌≤◌, ◌<◌, ◌+◌, ◌^◌, length};
+ghost use Rattle.std.specs.Prelude.{◌<◌, ◌+◌, ◌^◌, length};
 
 use fd_buffers::{Ahead, Gathering};
 use fd_disk::{Disk, Reader, Sealed};

@@ -1,5 +1,4 @@
-ghost use Rattle.std.specs.Prelude.{◌≡◌, ◌==◌, ◌&&◌, nat_lt, ◌+◌, ◌-◌, ◌*◌, ◌<◌, ◌≤◌, ◌^◌, length, take, drop, IfOk};
-ghost use Rattle.std.specs.Int.{w16, w32, w64, from_be_bytes};
+ghost use Rattle.std.specs.Prelude.{◌≡◌, ◌==◌, ◌&&◌, nat_lt, ◌+◌, ◌*◌, ◌≤◌, ◌^◌, length, IfOk};
 ghost use Rattle.fd_index.specs.StoredRecords.{records_of};
 ghost use Rattle.fd_index.specs.Reading.{counts_of, index_at, is_above, key_len_at, number_2, number_4, number_8, page_at, pages_at, record_at, records_at, record_of, zeros_at};
 ghost use Rattle.fd_index.specs.Index.{Gives, PutsAll, PutsInto, PutsPage};

@@ -5,7 +5,7 @@ ghost use Rattle.fd_entries.specs.declared.batch.Pair.{Pair};
 ghost use Rattle.fd_dataset.specs.Listed.{listing};
 ghost use Rattle.fd_io.specs.Streams.{Takes, TakesFront};
 ghost use Rattle.fd_segment.specs.Causes.{OnDamaged};
-ghost use Rattle.fd_inventory.specs.Counted.{AreKeys, Kept, stats_line};
+ghost use Rattle.fd_inventory.specs.Counted.{AreKeys, stats_line};
 ghost use Rattle.fd_inventory.specs.Indexes.{IsAmongBad, OnLines, Tells};
 ghost use Rattle.fd_inventory.specs.Recorded.{ByRecords, TakesBy};
 ghost use Rattle.fd_inventory.specs.Shown.{AreLengths};

@@ -1,5 +1,5 @@
 // The rows of a dataset: for each of its keys that are asked for, where its newest field stands.
-ghost use Rattle.std.specs.Prelude.{◌≡◌, ◌≤◌, ◌+◌, ◌++◌, ◌∷◌, ◌-◌, [], true, List, ℕ, Some, IfOk, IfErr, OnOk, length, map};
+ghost use Rattle.std.specs.Prelude.{◌≡◌, ◌≤◌, ◌+◌, ◌++◌, ◌∷◌, true, List, Some, IfOk, IfErr, OnOk, length};
 ghost use Rattle.fd_entries.specs.declared.batch.Pair.{Pair};
 ghost use Rattle.fd_segment.specs.Causes.{IsBadIndex, OnDamaged};
 ghost use Rattle.fd_segment.specs.Held.{IsIndexOf};

@@ -1,6 +1,5 @@
-ghost use Rattle.std.specs.Prelude.{◌≡◌, ◌<◌, ◌≤◌, ◌+◌, ◌-◌, ◌^◌, ◌↔◌, ℕ, IsTrue, length, min, take, drop, [], ◌++◌, ◌⊎◌, Some, IsErr, IfOk, OnOk, OnErr, vec_len, vec_capacity};
+ghost use Rattle.std.specs.Prelude.{◌≡◌, ◌<◌, ◌≤◌, ◌+◌, ◌↔◌, IsTrue, length, min, take, [], ◌++◌, ◌⊎◌, Some, IsErr, IfOk, OnOk, OnErr, vec_len, vec_capacity};
 ghost use Rattle.fd_bytes.specs.Causes.{Rose};
-ghost use Rattle.fd_io.specs.Streams.{Gives, IsAtEnd, Takes};
 
 use crate::stream::{Sink, Source};
 use fd_bytes::NoMemory;

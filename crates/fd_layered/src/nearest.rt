@@ -1,5 +1,5 @@
 // Where the newest fields of a request's keys stand, each in the nearest of its datasets that has it.
-ghost use Rattle.std.specs.Prelude.{◌≡◌, ◌≤◌, List, ℕ, length, IfOk, IfErr};
+ghost use Rattle.std.specs.Prelude.{◌≡◌, ◌≤◌, IfOk, IfErr};
 ghost use Rattle.fd_retrieve.specs.Located.{OnLost};
 ghost use Rattle.fd_retrieve.specs.Open.{IsDamagedAt};
 ghost use Rattle.fd_layered.specs.Chains.{first_some, firsts};

@@ -1,5 +1,5 @@
 // The places of a request's keys, and those under layers.
-ghost use Rattle.std.specs.Prelude.{◌≡◌, ◌≤◌, ◌<◌, ◌+◌, ◌++◌, ◌∷◌, [], List, ℕ, Some, None, Ok, All, length, map, slice_get, IfOk, IfErr, OnOk, true, is_some};
+ghost use Rattle.std.specs.Prelude.{◌≡◌, ◌<◌, ◌+◌, ◌++◌, ◌∷◌, [], List, Some, Ok, length, map, slice_get, IfOk, IfErr, OnOk, true, is_some};
 ghost use Rattle.fd_key.specs.Pairs.{Pair};
 ghost use Rattle.fd_schema.specs.Reading.{seen_place};
 ghost use Rattle.fd_schema.specs.Rules.{Texts, place_from};

@@ -1,5 +1,5 @@
 // What stands ready before the first key is answered.
-ghost use Rattle.std.specs.Prelude.{◌≡◌, ◌≤◌, ◌+◌, [], List, ℕ, Some, Ok, false, length, map, IfOk, IfErr, IfSome, IsErr, OnOk};
+ghost use Rattle.std.specs.Prelude.{◌≡◌, ◌≤◌, [], List, ℕ, Some, Ok, false, length, map, IfOk, IfErr, IfSome, IsErr, OnOk};
 ghost use Rattle.fd_bytes.specs.Causes.{Rose};
 ghost use Rattle.fd_disk.specs.Folders.{WhereTold};
 ghost use Rattle.fd_request.specs.Expansion.{expand};

@@ -19,7 +19,7 @@ ghost use Rattle.fd_layered.specs.Ready.{IsReady, laid_with};
 
 use crate::nearest::locate_over;
 use crate::preparing::{Ready, prepared};
-use fd_disk::{Folder, Sealed, Store};
+use fd_disk::{Sealed, Store};
 use fd_io::{Gate, Sink, Source};
 use fd_outcome::Status;
 use fd_retrieve::answer_located;

@@ -1,4 +1,4 @@
-ghost use Rattle.std.specs.Prelude.{◌≡◌, ◌≢◌, ◌⊎◌, ◌≤◌, ◌<◌, ◌+◌, ◌||◌, [], List, ℕ, Option, Some, None, Ok, Err, All, Bool, true, false, is_some, length, slice_get, IfOk, IfErr, IfSome, IsSome, OnOk, OnErr, OnSome, MatchOption, string_bytes, vec_capacity, vec_len};
+ghost use Rattle.std.specs.Prelude.{◌≡◌, ◌≢◌, ◌⊎◌, ◌≤◌, ◌<◌, ◌+◌, ◌||◌, [], List, ℕ, Some, None, Ok, Err, All, true, false, is_some, length, slice_get, IfOk, IfErr, IfSome, IsSome, OnErr, OnSome, MatchOption, string_bytes, vec_capacity, vec_len};
 ghost use Rattle.fd_bytes.specs.Causes.{Rose};
 ghost use Rattle.fd_disk.specs.Causes.{OnFault};
 ghost use Rattle.fd_disk.specs.Folders.{SameBut, WhereTold, folder_at};
@@ -8,8 +8,8 @@ ghost use Rattle.fd_turn.specs.Passes.{IsOf};
 ghost use Rattle.fd_recovery.specs.Causes.{OnDamaged, OnDisk, OnNotATable};
 ghost use Rattle.fd_recovery.specs.Damages.{IsFirst, damages};
 ghost use Rattle.fd_recovery.specs.Recovered.{IsUndamaged, WithTable};
-ghost use Rattle.fd_library.specs.Answers.{FolderFailed, HoldsAs, IsOpened, IsWanted, TableBrokeIn, TooManyAt};
-ghost use Rattle.fd_library.specs.Calls.{Adds, AsksWriter, Changes, IsNewWriter, Leaves, Opens, ShelfFailed, TakesWriter};
+ghost use Rattle.fd_library.specs.Answers.{FolderFailed, IsWanted, TableBrokeIn, TooManyAt};
+ghost use Rattle.fd_library.specs.Calls.{AsksWriter, Changes, IsNewWriter, Leaves, Opens, ShelfFailed, TakesWriter};
 ghost use Rattle.fd_library.specs.Open.{IsWhole, OpenDataset, OutAre, among, names_of, seat_of};
 ghost use Rattle.fd_library.specs.Parts.{both};
 ghost use Rattle.fd_library.specs.Stores.{GivesBack, IsGivenBack, IsSettled, LooksInto, held_of, held_with};

@@ -1,4 +1,4 @@
-ghost use Rattle.std.specs.Prelude.{◌≡◌, ◌⊎◌, ◌≤◌, ◌*◌, ◌||◌, [], List, ℕ, Option, Some, None, Ok, Err, All, Bool, true, false, is_some, length, map, IfOk, IfErr, IfSome, OnOk, OnErr, MatchOption, option_map, string_bytes};
+ghost use Rattle.std.specs.Prelude.{◌≡◌, ◌⊎◌, ◌≤◌, ◌*◌, ◌||◌, [], List, ℕ, Some, None, Ok, Err, All, true, false, is_some, length, map, IfOk, IfErr, IfSome, OnOk, OnErr, MatchOption, option_map, string_bytes};
 ghost use Rattle.fd_bytes.specs.Causes.{Rose};
 ghost use Rattle.fd_disk.specs.Folders.{SameBut, WhereTold, folder_at, without_table};
 ghost use Rattle.fd_entries.specs.declared.table.Entry.{Entry};

@@ -1,7 +1,6 @@
 // The line of section 4.
-ghost use Rattle.std.specs.Prelude.{◌≡◌, ◌++◌, OnOk, length, string_bytes};
+ghost use Rattle.std.specs.Prelude.{◌≡◌, ◌++◌, OnOk, string_bytes};
 ghost use Rattle.fd_sections.specs.Parts.{sections_of};
-ghost use Rattle.fd_listing.specs.Numbers.{numbers_text};
 ghost use Rattle.fd_listing.specs.Products.{product_numbers, ensemble_numbers, ensemble_text, end_numbers, range_numbers, ranges_text, interval_text, any_text, product_line};
 
 use crate::numbers::{plain, push_numbers, signed, signed_if};

@@ -1,5 +1,5 @@
 //! What opens the datasets of a store, one by one, and gives them back.
-ghost use Rattle.std.specs.Prelude.{[], All, ◌≡◌, ◌⊎◌, ◌≤◌, ◌<◌, ◌+◌, ◌||◌, List, ℕ, Option, Some, None, true, false, is_some, length, slice_get, IfOk, IfErr, IfSome, IsSome, OnErr};
+ghost use Rattle.std.specs.Prelude.{[], All, ◌≡◌, ◌⊎◌, ◌≤◌, ◌<◌, ◌+◌, ◌||◌, List, ℕ, Some, None, true, false, is_some, length, slice_get, IfOk, IfErr, IfSome, IsSome, OnErr};
 ghost use Rattle.fd_bytes.specs.Causes.{Rose};
 ghost use Rattle.fd_disk.specs.Causes.{OnFault};
 ghost use Rattle.fd_disk.specs.Folders.{WhereTold, folder_at};
@@ -11,7 +11,7 @@ ghost use Rattle.fd_recovery.specs.Damages.{IsFirst, damages};
 ghost use Rattle.fd_recovery.specs.Recovered.{IsUndamaged, WithTable};
 ghost use Rattle.fd_library.specs.Answers.{FolderFailed, IsWanted, TableBrokeIn, TooManyAt};
 ghost use Rattle.fd_library.specs.Calls.{AsksWriter, Changes, IsNewWriter, Leaves, Opens, ShelfFailed, TakesWriter};
-ghost use Rattle.fd_library.specs.Open.{IsWhole, OpenDataset, OpenDatasets, OutAre, among, names_of, seat_of};
+ghost use Rattle.fd_library.specs.Open.{IsWhole, OpenDataset, OutAre, among, names_of, seat_of};
 ghost use Rattle.fd_library.specs.Stores.{GivesBack, IsSettled, held_of, held_with};
 ghost use Rattle.fd_opener.specs.Opening.{AreOpen};
 

@@ -1,5 +1,5 @@
 // The places of many keys at once, among layers.
-ghost use Rattle.std.specs.Prelude.{◌≡◌, ◌≤◌, ◌∷◌, ◌++◌, [], List, ℕ, Option, None, All, IsSome, map, length, IfOk, IfErr, IfSome, OnOk};
+ghost use Rattle.std.specs.Prelude.{◌≡◌, ◌≤◌, ◌∷◌, ◌++◌, [], List, Option, None, All, IsSome, map, length, IfOk, IfErr, IfSome, OnOk};
 ghost use Rattle.std.specs.List.{AllZip};
 ghost use Rattle.fd_entries.specs.declared.batch.Pair.{Pair};
 ghost use Rattle.fd_schema.specs.declared.place.Place.{Place};

@@ -1,4 +1,4 @@
-ghost use Rattle.std.specs.Prelude.{◌≡◌, ◌==◌, ◌+◌, ◌*◌, ◌<◌, ◌≤◌, ◌^◌, length, take, slice_index, IfSome};
+ghost use Rattle.std.specs.Prelude.{◌≡◌, ◌==◌, ◌*◌, ◌<◌, ◌≤◌, ◌^◌, length, take, slice_index, IfSome};
 ghost use Rattle.std.specs.Option.{option_copied};
 ghost use Rattle.fd_packing.specs.Bits.{bits_of};
 ghost use Rattle.fd_packing.specs.Value.{ones, has_value, place_of};

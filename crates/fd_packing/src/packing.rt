@@ -1,4 +1,4 @@
-ghost use Rattle.std.specs.Prelude.{◌≡◌, ◌<◌, ℕ, List, slice_index, ◌*◌, ◌-◌, ◌%◌, ◌^◌, ◌≤◌, ◌++◌, length, IfOk, position, nat_le, replicate};
+ghost use Rattle.std.specs.Prelude.{◌≡◌, ◌<◌, ℕ, slice_index, ◌*◌, ◌-◌, ◌%◌, ◌^◌, ◌≤◌, ◌++◌, length, IfOk, position, nat_le, replicate};
 ghost use Rattle.fd_packing.specs.Bits.{bits_of, number_at, packed};
 ghost use Rattle.fd_packing.specs.Pack.{FaultIs};
 

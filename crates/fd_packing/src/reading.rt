@@ -1,11 +1,11 @@
-ghost use Rattle.std.specs.Prelude.{◌≡◌, ◌+◌, ◌-◌, ◌*◌, ◌<◌, ◌≤◌, ◌^◌, length, IfOk, IfSome, unsigned_abs};
+ghost use Rattle.std.specs.Prelude.{◌≡◌, ◌-◌, ◌*◌, ◌<◌, ◌≤◌, ◌^◌, length, IfOk, IfSome, unsigned_abs};
 ghost use Rattle.std.specs.Option.{option_copied};
 ghost use Rattle.fd_bytes.specs.Numbers.{octets};
 ghost use Rattle.fd_sections.specs.Given.{Is};
 ghost use Rattle.fd_sections.specs.Parts.{sections_of};
-ghost use Rattle.fd_templates.specs.Simple.{simple_is, Fits};
+ghost use Rattle.fd_templates.specs.Simple.{Fits};
 ghost use Rattle.fd_packing.specs.Value.{NeedIs, IsNarrow, first_addend, second_addend};
-ghost use Rattle.fd_packing.specs.Field.{template_of, scaling_of, map_of, octets_at, field_of, octets_for};
+ghost use Rattle.fd_packing.specs.Field.{scaling_of, map_of, octets_at, field_of, octets_for};
 ghost use Rattle.fd_packing.specs.Parts.{packed_of, IsSound};
 
 use crate::fault::FieldFault;

@@ -1,4 +1,4 @@
-ghost use Rattle.std.specs.Prelude.{◌≡◌, ◌+◌, ◌-◌, ◌*◌, ◌<◌, ◌≤◌, ◌^◌, ◌-ℤ◌, ◌+ℤ◌, pos, neg_ℤ, unsigned_abs};
+ghost use Rattle.std.specs.Prelude.{◌≡◌, ◌+◌, ◌-◌, ◌<◌, ◌^◌, ◌-ℤ◌, ◌+ℤ◌, pos, unsigned_abs};
 ghost use Rattle.fd_packing.specs.Value.{common, lifted, signed, scaled_value, IsNarrow};
 
 use crate::ieee::Reference;

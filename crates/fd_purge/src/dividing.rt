@@ -1,6 +1,6 @@
 // The entries that are kept, and those that are dropped.
-ghost use Rattle.std.specs.Prelude.{◌≡◌, ◌≤◌, ◌<◌, ◌+◌, ◌++◌, ◌∷◌, [], ℕ, None, Some, IfOk, IfErr, OnOk, OnErr, length, if◌then◌else◌, nat_lt};
-ghost use Rattle.fd_entries.specs.Table.{AllFit, greatest_writer};
+ghost use Rattle.std.specs.Prelude.{◌≡◌, ◌≤◌, ◌<◌, ◌+◌, ◌++◌, ◌∷◌, [], None, Some, IfOk, IfErr, OnOk, length, if◌then◌else◌};
+ghost use Rattle.fd_entries.specs.Table.{AllFit};
 ghost use Rattle.fd_purge.specs.Dividing.{OnOver, next_over};
 ghost use Rattle.fd_purge.specs.Kept.{masked, unmasked};
 ghost use Rattle.fd_purge.specs.Purging.{first_over};

@@ -1,5 +1,5 @@
 // Which batches are masked by later ones.
-ghost use Rattle.std.specs.Prelude.{◌≡◌, ◌∷◌, Bool, List, ℕ, IfErr, IfOk, length};
+ghost use Rattle.std.specs.Prelude.{◌≡◌, ◌∷◌, List, ℕ, IfErr, IfOk, length};
 ghost use Rattle.fd_segment.specs.Causes.{IsBadIndex, OnDamaged};
 ghost use Rattle.fd_segment.specs.Shared.{standings};
 ghost use Rattle.fd_purge.specs.Kept.{is_masked, masks};

@@ -1,12 +1,7 @@
 // Purging.
-ghost use Rattle.std.specs.Prelude.{◌≡◌, ◌≤◌, ◌+◌, ◌++◌, ◌∷◌, ◌⊎◌, [], List, ℕ, None, Some, Ok, true, false, is_some, length, IfErr, IfOk, IfSome, MatchOption, OnErr, OnOk, option_map};
-ghost use Rattle.fd_bytes.specs.Causes.{Rose};
-ghost use Rattle.fd_disk.specs.Causes.{OnFault};
-ghost use Rattle.fd_entries.specs.declared.table.Entry.{Entry};
-ghost use Rattle.fd_entries.specs.Table.{AllFit, header, listed, slots_of};
-ghost use Rattle.fd_recovery.specs.Damages.{IsFirst, damages};
+ghost use Rattle.std.specs.Prelude.{◌≡◌, ◌≤◌, ◌+◌, List, ℕ, None, Some, true, false, is_some, length, IfErr, IfOk, IfSome, MatchOption, OnErr, OnOk, option_map};
+ghost use Rattle.fd_entries.specs.Table.{AllFit, listed};
 ghost use Rattle.fd_recovery.specs.Recovered.{WithTable, with_firm_table};
-ghost use Rattle.fd_segment.specs.Held.{Standing};
 ghost use Rattle.fd_segment.specs.Shared.{entries, standings};
 ghost use Rattle.fd_purge.specs.Causes.{IsOfFolder, OnDamaged, OnNotATable, OnWriters};
 ghost use Rattle.fd_disk.specs.Renewals.{GoesOn};
@@ -25,7 +20,6 @@ use fd_disk::{Down, Renew, Sealed};
 use fd_entries::Entry;
 use fd_recovery::{Recovered, recover};
 use fd_segment::Segment;
-use fd_toc::Toc;
 use std::alloc::Global;
 use std::sync::Arc;
 

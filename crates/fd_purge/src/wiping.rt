@@ -1,5 +1,5 @@
 // Wiping.
-ghost use Rattle.std.specs.Prelude.{◌≡◌, ◌≤◌, ◌⊎◌, List, ℕ, None, Some, Ok, Err, true, false, is_some, length, IfErr, IfOk, IfSome, MatchOption, OnErr, OnOk};
+ghost use Rattle.std.specs.Prelude.{◌≡◌, ◌≤◌, List, None, Ok, Err, true, false, is_some, IfErr, IfOk, IfSome, MatchOption, OnErr};
 ghost use Rattle.fd_entries.specs.declared.table.Entry.{Entry};
 ghost use Rattle.fd_entries.specs.Table.{listed};
 ghost use Rattle.fd_recovery.specs.Damages.{IsFirst, damages};

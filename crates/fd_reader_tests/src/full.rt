@@ -1,5 +1,5 @@
 //! A table of contents with 65,535 entries, which takes none more.
-ghost use Rattle.std.specs.Prelude.{◌≡◌, ◌≤◌, false, length, codes};
+ghost use Rattle.std.specs.Prelude.{◌≡◌, false, codes};
 
 use crate::stores::archived_in_memory;
 use crate::writing::{Key, Two, Went};

@@ -1,4 +1,4 @@
-ghost use Rattle.std.specs.Prelude.{◌≡◌, ◌⊎◌, ◌≤◌, [], List, ℕ, Option, Some, None, Ok, Err, is_some, false, IfOk, IfErr, IfSome, IsSome, OnOk, OnErr, option_map, map, length};
+ghost use Rattle.std.specs.Prelude.{◌≡◌, ◌⊎◌, ◌≤◌, [], List, ℕ, None, Ok, Err, is_some, false, IfOk, IfErr, IfSome, IsSome, OnOk, OnErr, option_map, map, length};
 ghost use Rattle.fd_bytes.specs.Causes.{Rose};
 ghost use Rattle.fd_disk.specs.Folders.{without_table};
 ghost use Rattle.fd_disk.specs.Images.{synced};

@@ -1,11 +1,11 @@
 // The ends of ranges, and the values behind them.
-ghost use Rattle.std.specs.Prelude.{◌≡◌, ◌<◌, ◌≤◌, ◌+◌, ◌-◌, ◌*◌, ◌^◌, ◌==◌, ℕ, ℤ, pos, neg_ℤ, ◌+ℤ◌, ◌-ℤ◌, ◌≤ℤ◌, true, IsTrue, IfOk, IfSome, Some, None, Option, option_map, length, string_bytes, if◌then◌else◌};
+ghost use Rattle.std.specs.Prelude.{◌≡◌, ◌<◌, ◌≤◌, ◌-◌, ◌^◌, ℤ, pos, neg_ℤ, ◌-ℤ◌, ◌≤ℤ◌, IsTrue, IfOk, IfSome, option_map, string_bytes};
 ghost use Rattle.std.specs.Fmt.{signed_decimal};
-ghost use Rattle.fd_spelling.specs.Names.{is_value, meaning_of};
+ghost use Rattle.fd_spelling.specs.Names.{is_value};
 ghost use Rattle.fd_spelling.specs.Civil.{is_date};
 ghost use Rattle.fd_request.specs.Ranges.{whole, signed_whole, hour_of, day_if, day_of, end_in, end_of, place, same_kind, distance, distance_if, text_behind, step_of};
 ghost use Rattle.fd_request.specs.Ranges.{Number, OnDay};
-ghost use Rattle.fd_request.specs.Seen.{seen_day, seen_date, seen_end, Fits, most};
+ghost use Rattle.fd_request.specs.Seen.{seen_day, seen_end, Fits};
 
 use crate::day::Day;
 use fd_bytes::NoMemory;

@@ -1,10 +1,10 @@
 // The limits of requests.
-ghost use Rattle.std.specs.Prelude.{◌≡◌, ◌<◌, ◌≤◌, ◌+◌, ◌*◌, [], Some, None, true, IfOk, IfErr, length, codes, option_map};
+ghost use Rattle.std.specs.Prelude.{◌≡◌, ◌≤◌, Some, None, IfOk, IfErr, length};
 ghost use Rattle.fd_request.specs.Expansion.{expand};
 ghost use Rattle.fd_request.specs.Limits.{too_many, longest_text, longest_key, within_limits};
 ghost use Rattle.fd_request.specs.Keywords.{seen_keywords};
 ghost use Rattle.fd_request.specs.Values.{seen_values};
-ghost use Rattle.fd_request.specs.Reading.{Gives, Fails};
+ghost use Rattle.fd_request.specs.Reading.{Gives};
 
 use crate::fault::{Refusal, RequestKind};
 use crate::keyword::Keyword;

@@ -1,4 +1,4 @@
-ghost use Rattle.std.specs.Prelude.{◌↔◌, IsTrue, length, codes};
+ghost use Rattle.std.specs.Prelude.{◌↔◌, IsTrue};
 ghost use Rattle.fd_request.specs.Limits.{partial_of};
 ghost use Rattle.fd_request.specs.Reading.{GivesKeywords};
 ghost use Rattle.fd_request.specs.Matching.{Matches};

@@ -1,4 +1,4 @@
-ghost use Rattle.std.specs.Prelude.{◌≡◌, ◌<◌, ◌≤◌, ◌+◌, [], Some, IfOk, true, length, slice_get, codes};
+ghost use Rattle.std.specs.Prelude.{◌≡◌, ◌<◌, ◌≤◌, [], Some, IfOk, true, length, slice_get};
 ghost use Rattle.fd_request.specs.Expansion.{expand};
 ghost use Rattle.fd_request.specs.Grammar.{wrong, TooLong};
 ghost use Rattle.fd_request.specs.Limits.{request_of};

@@ -1,5 +1,5 @@
 // The values of a keyword.
-ghost use Rattle.std.specs.Prelude.{◌≡◌, ◌<◌, ◌≤◌, ◌+◌, ◌-◌, ◌*◌, ◌/◌, ℕ, IfOk, IfSome, Some, option_map, length, max, slice_get, string_bytes};
+ghost use Rattle.std.specs.Prelude.{◌≡◌, ◌<◌, ◌+◌, ◌/◌, IfOk, Some, option_map, length, max, slice_get, string_bytes};
 ghost use Rattle.fd_request.specs.Ranges.{between, range_of, values_from};
 ghost use Rattle.fd_request.specs.Grammar.{word_texts};
 ghost use Rattle.fd_request.specs.Limits.{longest_text};

@@ -1,8 +1,7 @@
 // Values as they are written.
-ghost use Rattle.std.specs.Prelude.{◌≡◌, ◌<◌, ◌≤◌, ◌+◌, ℕ, length, map, IfOk, Option, option_map};
+ghost use Rattle.std.specs.Prelude.{◌≡◌, ◌<◌, length, IfOk, option_map};
 ghost use Rattle.std.specs.List.{list_any};
-ghost use Rattle.std.specs.Str.{bytes_eq};
-ghost use Rattle.fd_tokens.specs.Tokens.{view, views, parts};
+ghost use Rattle.fd_tokens.specs.Tokens.{view, views};
 ghost use Rattle.fd_request.specs.Ranges.{is_to, is_by};
 ghost use Rattle.fd_request.specs.Grammar.{front_place, first_place, past, led, begins, word_of, words_of, is_range_word, behind_words};
 ghost use Rattle.fd_request.specs.Seen.{seen_word, seen_words};

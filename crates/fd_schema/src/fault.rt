@@ -1,6 +1,5 @@
 ghost use Rattle.std.specs.Prelude.{◌≡◌};
 ghost use Rattle.fd_schema.specs.declared.fault.Refusal.TheVariants as refusals;
-ghost use Rattle.fd_schema.specs.declared.fault.SchemaFault.TheVariants as schema_faults;
 ghost use Rattle.fd_schema.specs.declared.fault.PlaceFault.TheVariants as place_faults;
 
 use fd_bytes::Starved;

@@ -1,5 +1,5 @@
 // Texts without their comments, in lower case.
-ghost use Rattle.std.specs.Prelude.{◌≡◌, ◌++◌, false, IfOk};
+ghost use Rattle.std.specs.Prelude.{◌≡◌, false, IfOk};
 ghost use Rattle.fd_schema.specs.Plain.{in_comment, shown, plain};
 
 use fd_bytes::NoMemory;

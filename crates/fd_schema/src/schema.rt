@@ -1,4 +1,4 @@
-ghost use Rattle.std.specs.Prelude.{◌≡◌, ◌≤◌, ◌+◌, ◌==◌, ℕ, List, [], IfOk, Ok, length, take, drop, count_by, slice_index, string_bytes, is_some};
+ghost use Rattle.std.specs.Prelude.{◌≡◌, ◌≤◌, ◌==◌, List, IfOk, Ok, length, take, drop, count_by, slice_index, string_bytes, is_some};
 ghost use Rattle.fd_key.specs.Pairs.{key_text};
 ghost use Rattle.fd_schema.specs.Rules.{IsShort, place_from};
 ghost use Rattle.fd_tokens.specs.Tokens.{view, views};

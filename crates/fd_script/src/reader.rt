@@ -10,7 +10,7 @@ ghost use Rattle.fd_script.specs.Lines.{lines_of, said};
 ghost use Rattle.fd_script.specs.Lines as lines;
 ghost use Rattle.fd_script.specs.Scripts.{IsWithin};
 ghost use Rattle.fd_script.specs.Growing.{IsShort, after_said, onto_last};
-ghost use Rattle.fd_script.specs.Reading.{Adds, Begins, Gives, IsLane, IsRead, IsStep, Judges, Refuses, dataset_bytes, seen_said, seen_task};
+ghost use Rattle.fd_script.specs.Reading.{Gives, IsLane, IsRead, IsStep, Judges, Refuses, dataset_bytes, seen_said, seen_task};
 
 use crate::fault::{Refusal, ScriptFault, ScriptKind};
 use crate::lines::{first_line, line_text};

@@ -1,8 +1,7 @@
 // What comes first in a stream.
-ghost use Rattle.std.specs.Prelude.{◌≡◌, ◌≤◌, ◌-◌, length, drop, IfOk, IfSome, IfErr, MatchResult, MatchOption};
-ghost use Rattle.std.specs.List.{starts_with};
+ghost use Rattle.std.specs.Prelude.{◌≡◌};
 ghost use Rattle.fd_bytes.specs.Numbers.{octets};
-ghost use Rattle.fd_sections.specs.Stream.{from_mark, first_at, first, gap, Refuses, Takes};
+ghost use Rattle.fd_sections.specs.Stream.{from_mark, first_at, first};
 ghost use Rattle.fd_sections.specs.FirstFound.{IsFirst, IsExact};
 
 use crate::bad::Bad;

@@ -1,6 +1,4 @@
 // What comes first in a stream of frames.
-ghost use Rattle.std.specs.Prelude.{◌≡◌, ◌≤◌, length};
-ghost use Rattle.fd_bytes.specs.Numbers.{octets};
 ghost use Rattle.fd_sections.specs.Frames.{frame_at, first_frame};
 ghost use Rattle.fd_sections.specs.FoundFrames.{IsFirstFrame};
 

@@ -1,4 +1,4 @@
-ghost use Rattle.std.specs.Prelude.{◌≡◌, ◌≤◌, ◌<◌, ◌+◌, ◌^◌, length, IfOk, OnOk, OnErr};
+ghost use Rattle.std.specs.Prelude.{◌≡◌, ◌≤◌, ◌<◌, ◌+◌, ◌^◌, length, IfOk, OnOk};
 ghost use Rattle.fd_bytes.specs.Causes.{HasCause};
 ghost use Rattle.fd_segment.specs.Copying.{IsDigestOf, IsHashed, IsPiece};
 ghost use Rattle.fd_segment.specs.Counts.{pieces};

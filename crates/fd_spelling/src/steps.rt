@@ -1,5 +1,5 @@
 // Forecast times with their unit.
-ghost use Rattle.std.specs.Prelude.{◌≡◌, ◌≤◌, ◌<◌, ◌*◌, ◌^◌, IfOk, IsTrue, IfSome, length, string_bytes};
+ghost use Rattle.std.specs.Prelude.{◌≡◌, ◌≤◌, ◌<◌, ◌^◌, IfOk, IsTrue, IfSome, length, string_bytes};
 ghost use Rattle.fd_spelling.specs.Steps.{unit_seconds, sign_text, seconds_text, magnitude_text, step_text, unit_of, unsigned_step, step_spelling, without_seconds};
 ghost use Rattle.fd_spelling.specs.Numerals.{number_up_to};
 ghost use Rattle.fd_spelling.specs.Names.{is_value};

@@ -1,5 +1,5 @@
 // A message that is split into its fields.
-ghost use Rattle.std.specs.Prelude.{◌≡◌, ◌≤◌, ◌<◌, ◌++◌, [], List, ℕ, All, true, length, map, take, drop, slice_index_or, Ok, IfOk, OnOk};
+ghost use Rattle.std.specs.Prelude.{◌≡◌, ◌≤◌, ◌<◌, ◌++◌, [], List, All, true, length, map, take, drop, slice_index_or, IfOk, OnOk};
 ghost use Rattle.byteorder.specs.Endian.{big_bytes};
 ghost use Rattle.std.specs.Option.{option_copied};
 ghost use Rattle.fd_sections.specs.Message.{if_present, message_octets};

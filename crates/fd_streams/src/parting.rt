@@ -1,5 +1,5 @@
 // From a stream to its fields, each as a message of its own.
-ghost use Rattle.std.specs.Prelude.{◌≡◌, ◌≤◌, ◌<◌, ◌+◌, ◌^◌, ℕ, List, Option, [], length, Some, Ok, IfSome, IfOk, IfErr, OnOk};
+ghost use Rattle.std.specs.Prelude.{◌≡◌, ◌≤◌, ◌<◌, ◌^◌, ℕ, List, Option, [], length, Some, Ok, IfSome, IfOk, IfErr, OnOk};
 ghost use Rattle.fd_io.specs.Streams.{Takes};
 ghost use Rattle.fd_split.specs.Reading.{Wrong, reading_fields};
 ghost use Rattle.fd_outcome.specs.Fields.{refusal_of_wrong};

@@ -1,5 +1,5 @@
 // From a stream to its last message that has the pairs.
-ghost use Rattle.std.specs.Prelude.{◌≡◌, ◌≤◌, [], IfOk, IfSome, IfErr, OnOk, Some, false};
+ghost use Rattle.std.specs.Prelude.{◌≡◌, [], IfOk, IfSome, IfErr, OnOk, Some, false};
 ghost use Rattle.fd_key.specs.Pairs.{has_all};
 ghost use Rattle.fd_outcome.specs.Picking.{found};
 ghost use Rattle.fd_streams.specs.Found.{Answers, HasInputCause, IsNoMemory, Stopped, Took, TookAll, is_fault};

@@ -1,5 +1,5 @@
 // The lines that tell why a request isn't answered.
-ghost use Rattle.std.specs.Prelude.{◌≡◌, ◌≤◌, ◌++◌, List, ℕ, codes, string_bytes, IfOk};
+ghost use Rattle.std.specs.Prelude.{◌≡◌, List, ℕ, string_bytes, IfOk};
 ghost use Rattle.fd_bytes.specs.Causes.{Rose};
 ghost use Rattle.fd_schema.specs.Grammar.{Fault};
 ghost use Rattle.fd_schema.specs.Reading.{IsFirst};

@@ -1,5 +1,4 @@
 ghost use Rattle.std.specs.Prelude.{◌≡◌, ◌≤◌, ◌<◌, ◌*◌, ◌+◌, ◌++◌, ◌^◌, List, true, length, IfOk, IfSome, OnOk, OnErr};
-ghost use Rattle.fd_templates.specs.declared.interval.Range as ranges_seen;
 ghost use Rattle.fd_templates.specs.Interval.{range_of, ranges_of, count_of, interval_of, range_octets, ranges_octets, end_octets, interval_octets};
 ghost use Rattle.fd_templates.specs.AnyProduct.{Extends, interval_if};
 ghost use Rattle.fd_templates.specs.Widths.{RangeRanges, AllRanges, IntervalRanges};

@@ -1,5 +1,5 @@
-ghost use Rattle.std.specs.Prelude.{◌≡◌, ◌≤◌, ◌<◌, ◌+◌, ◌*◌, ◌^◌, [], ◌∷◌, ◌++◌, Option, Some, None, Ok, Err, if◌then◌else◌, length, IfOk, MatchResult, replicate};
-ghost use Rattle.fd_entries.specs.Table.{mismatch, fixed, any_octets, exceeds, entry_fault, has_digest, tail_octets, run_from, listed, IsTable};
+ghost use Rattle.std.specs.Prelude.{◌≡◌, ◌≤◌, ◌<◌, ◌+◌, ◌^◌, ◌∷◌, ◌++◌, Some, None, Ok, Err, if◌then◌else◌, length, IfOk, MatchResult, replicate};
+ghost use Rattle.fd_entries.specs.Table.{mismatch, fixed, any_octets, exceeds, entry_fault, tail_octets, run_from, listed, IsTable};
 ghost use Rattle.fd_toc.specs.Slots.{slot_at, last_fault, OnNot, IfNext};
 
 use crate::found::header_bytes;

@@ -1,5 +1,5 @@
 //! Messages that are made up, as a source gives them.
-ghost use Rattle.std.specs.Prelude.{◌≡◌, ◌≤◌, ◌+◌, ◌-◌, ◌<◌, ◌++◌, [], ℕ, Some, drop, length, take, min, IfOk, OnErr, OnOk};
+ghost use Rattle.std.specs.Prelude.{◌≡◌, ◌≤◌, ◌+◌, ◌-◌, ◌<◌, ◌++◌, [], Some, length, take, min, IfOk, OnErr, OnOk};
 ghost use Rattle.fd_bytes.specs.Causes.{Rose};
 ghost use Rattle.fd_outcome.specs.Outcome.{generated_messages};
 

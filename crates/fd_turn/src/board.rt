@@ -54,7 +54,7 @@ impl<V: Handed, W: Guarded + Drop> Drop for Board<V, W> {
 }
 
 impl<V: Handed, W: Guarded> Board<V, W> {
-    ghost use Rattle.std.specs.Prelude.{List, ◌+◌, length, Option, Some, None, IfOk, IfErr, Contains};
+    ghost use Rattle.std.specs.Prelude.{◌+◌, length, Some, None, IfOk, IfErr, Contains};
     ghost use Rattle.fd_entries.specs.declared.batch.Listing.{Listing};
     ghost use Rattle.fd_turn.specs.Views.{first_view};
     ghost use Rattle.fd_turn.specs.Passes.{view, identity, IsOf};

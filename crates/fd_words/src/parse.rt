@@ -6,7 +6,7 @@ ghost use Rattle.std.specs.Option.{option_copied};
 ghost use Rattle.clap.specs.Words.{app_of, fault_of, is_simple, is_simple_and_free, subcommand_of, subcommand_rows_of, rows_of, found_of};
 ghost use Rattle.fd_words.specs.Grammar.{fdb_app};
 ghost use Rattle.fd_words.specs.Texts.{texts};
-ghost use Rattle.fd_words.specs.Reading.{Text, Said, has_dash, double_dash, AreClean, IsClean, is_name, Tells, alone_of};
+ghost use Rattle.fd_words.specs.Reading.{Said, has_dash, double_dash, AreClean, IsClean, is_name, Tells, alone_of};
 ghost use Rattle.fd_words.specs.Saying.{said, Means};
 
 use crate::app::program;

@@ -1,5 +1,5 @@
 //! The lock of the state.
-ghost use Rattle.std.specs.Prelude.{◌≡◌, ◌+◌, ◌<◌, List, ◌∷◌, length, Option, Some, Contains};
+ghost use Rattle.std.specs.Prelude.{◌≡◌, ◌+◌, ◌<◌, ◌∷◌, length, Some, Contains};
 ghost use mathlib.Core.List.{IsPrefix};
 ghost use Rattle.fd_entries.specs.declared.batch.Listing.{Listing};
 ghost use Rattle.fd_turn.specs.declared.view.Lock.TheVariants.{Free, Owner};

@@ -1,5 +1,5 @@
 //! The turn for the value: looking and posting.
-ghost use Rattle.std.specs.Prelude.{◌≡◌, ◌+◌, ◌^◌, ◌<◌, List, [], ◌∷◌, ◌++◌, length, Option, IfOk, OnErr, false};
+ghost use Rattle.std.specs.Prelude.{◌≡◌, ◌+◌, ◌^◌, ◌<◌, [], ◌∷◌, ◌++◌, length, Option, IfOk, OnErr, false};
 ghost use mathlib.Core.List.{IsPrefix};
 ghost use Rattle.fd_entries.specs.declared.batch.Listing.{Listing};
 ghost use Rattle.fd_turn.specs.declared.view.Lock.TheVariants.{Free, Owner};
