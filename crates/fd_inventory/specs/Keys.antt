@@ -1,6 +1,5 @@
 -- What is seen of a stored key.
-use Rattle.std.specs.Prelude.{◌≡◌, ◌+◌, ℕ, List, [], length, string_bytes, Option, Some, None}
-use Rattle.fd_key.specs.Given.{pieces_of}
+use Rattle.std.specs.Prelude.{◌≡◌, ◌+◌, ℕ, List, length, string_bytes, Option, Some, None}
 use Rattle.fd_inventory.specs.declared.stored_key.StoredKey.{StoredKey}
 use Rattle.fd_outcome.specs.Rows.{Stored}
 
@@ -11,11 +10,6 @@ pub record IsStored (s : Option Stored) (k : StoredKey) : Type 0 where
   pub index : string_bytes k.index ≡ key.index
   pub datum : string_bytes k.datum ≡ key.datum
   pub pairs : k.key ≡ key.pairs
-
--- the pieces of a text, if there is one
-abbrev pub pieces_if : Option (List ℕ) → List (List ℕ)
-pieces_if None = []
-pieces_if (Some text) = pieces_of text
 
 -- how many bytes a text has, and one, if there is a text
 abbrev pub length_if : Option (List ℕ) → ℕ

@@ -1,15 +1,14 @@
 // The keys that stand in the files of a dataset.
-ghost use Rattle.std.specs.Prelude.{◌≡◌, ◌<◌, ◌≤◌, ◌+◌, ◌-◌, ◌^◌, ◌∷◌, Some, None, IfOk, IfSome, IsTrue, MatchOption, length, option_map, if◌then◌else◌};
-ghost use Rattle.std.specs.Option.{option_copied};
+ghost use Rattle.std.specs.Prelude.{◌≡◌, ◌<◌, ◌≤◌, ◌+◌, ◌-◌, ◌^◌, Some, None, IfOk, IfSome, IsTrue, MatchOption, length, option_map, if◌then◌else◌};
 ghost use Rattle.fd_spelling.specs.Names.{is_name, is_value};
 ghost use Rattle.fd_spelling.specs.Numerals.{cut};
-ghost use Rattle.fd_key.specs.Given.{pieces_of};
 ghost use Rattle.fd_outcome.specs.Rows.{if_pair, stored, stored_at, with_piece, with_text};
-ghost use Rattle.fd_inventory.specs.Keys.{IsStored, pieces_if};
+ghost use Rattle.fd_inventory.specs.Keys.{IsStored};
 
 use fd_bytes::NoMemory;
 use fd_key::{Key, ValueFault, canonical, is_name};
 use fd_schema::ascii_text;
+use fd_spelling::comma_piece;
 use std::alloc::Global;
 
 /// A key that a partial request may ask for: the texts of its index and its datum, and the pairs of all three levels.
@@ -29,14 +28,6 @@ fn at_equals(text: &str) -> Option<(&str, &str)>
     ensures { option_map (λ p. (p.0.now, p.1.now)) result ≡ cut 61 text.now }
 {
     text.split_once('=')
-}
-
-/// What stands before the first comma, and what stands behind it.
-#[tactic(auto, unfolding(fd_spelling::specs::Numerals::cut))]
-fn at_comma(text: &str) -> Option<(&str, &str)>
-    ensures { option_map (λ p. (p.0.now, p.1.now)) result ≡ cut 44 text.now }
-{
-    text.split_once(',')
 }
 
 /// What stands before the first vertical line, and what stands behind it.
@@ -90,17 +81,6 @@ fn add_piece(alloc: Global, pairs: &mut Key, piece: &str) -> Result<bool, NoMemo
     }
 }
 
-/// The first piece of a text, up to its first comma, and what stands behind that.
-fn first_piece(text: &str) -> (&str, Option<&str>)
-    ensures pieces { pieces_of text.now ≡ result.0.now ∷ pieces_if (option_copied result.1) }
-    ensures lengths { IfSome result.1 (λ o. length o.now < length text.now) }
-{
-    match at_comma(text) {
-        Some((piece, others)) => (piece, Some(others)),
-        None => (text, None),
-    }
-}
-
 /// Adds the pairs that a text is, joined by commas, if each name is new, and tells whether it is that.
 pub(crate) fn add_text(alloc: Global, pairs: &mut Key, text: &str) -> Result<bool, NoMemory>
     requires { length pairs.old + length text.now < 2 ^ 32 - 1 }
@@ -109,7 +89,7 @@ pub(crate) fn add_text(alloc: Global, pairs: &mut Key, text: &str) -> Result<boo
 {
     let mut rest = Some(text);
     while let Some(text) = rest {
-        let (piece, others) = first_piece(text);
+        let (piece, others) = comma_piece(text);
         if !add_piece(alloc, pairs, piece)? {
             return Ok(false);
         }

@@ -1,14 +1,12 @@
 // Texts of datasets, names of lanes and numbers of messages.
-ghost use Rattle.std.specs.Prelude.{◌≡◌, ◌<◌, ◌∷◌, IfOk, IfSome, length, option_map};
+ghost use Rattle.std.specs.Prelude.{◌≡◌, IfOk};
 ghost use Rattle.std.specs.List.{list_all};
-ghost use Rattle.std.specs.Option.{option_copied};
-ghost use Rattle.fd_spelling.specs.Numerals.{cut};
 ghost use Rattle.fd_key.specs.Given.{pieces_of};
-ghost use Rattle.fd_key.specs.Reading.{pieces_if};
 ghost use Rattle.fd_script.specs.Grammar.{is_spelled, is_dataset, is_lane_byte, is_lane_name, number_of, unless_zero};
 
 use fd_bytes::NoMemory;
 use fd_key::{ValueFault, number_up_to, read_pair};
+use fd_spelling::comma_piece;
 use std::alloc::Global;
 
 /// Tells that a text is `name=value` with the value in its one spelling.
@@ -28,32 +26,13 @@ fn is_spelled(alloc: Global, text: &str) -> Result<bool, NoMemory>
     }
 }
 
-/// What stands before the first comma, and what stands behind it.
-#[tactic(auto, unfolding(fd_spelling::specs::Numerals::cut))]
-fn at_comma(text: &str) -> Option<(&str, &str)>
-    ensures { option_map (λ p. (p.0.now, p.1.now)) result ≡ cut 44 text.now }
-{
-    text.split_once(',')
-}
-
-/// The first piece of a text, up to its first comma, and what stands behind that.
-fn first_piece(text: &str) -> (&str, Option<&str>)
-    ensures pieces { pieces_of text.now ≡ result.0.now ∷ pieces_if (option_copied result.1) }
-    ensures lengths { IfSome result.1 (λ o. length o.now < length text.now) }
-{
-    match at_comma(text) {
-        Some((piece, others)) => (piece, Some(others)),
-        None => (text, None),
-    }
-}
-
 /// Tells that each piece of a text is a pair in its one spelling.
 fn are_spelled(alloc: Global, text: &str) -> Result<bool, NoMemory>
     ensures { IfOk result (λ b. b ≡ list_all is_spelled (pieces_of text.now)) }
 {
     let mut rest = Some(text);
     while let Some(text) = rest {
-        let (piece, others) = first_piece(text);
+        let (piece, others) = comma_piece(text);
         if !is_spelled(alloc, piece)? {
             return Ok(false);
         }

@@ -18,7 +18,7 @@ pub use levels::{both_levels, levtype_text, scaled_text, second_alone};
 pub use meaning::{Meaning, meaning_of};
 pub use names::{is_name, is_name_byte, is_value, is_value_byte, lower, text_from};
 pub use numerals::{cut, is_numeral, number_of, number_up_to};
-pub use pieces::first_piece;
+pub use pieces::{comma_piece, first_piece};
 pub use stats::{none_text, part_text, push_part};
 pub use steps::step_text;
 pub use values::{canonical, number_text, param_text, read_pair};

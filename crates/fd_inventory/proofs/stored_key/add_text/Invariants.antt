@@ -2,7 +2,8 @@ use Rattle.std.proofs.Common.{◌≡◌, ◌<◌, ◌≤◌, ◌+◌, ◌-◌, �
 use Rattle.std.specs.Option.{option_copied}
 use Rattle.fd_key.specs.Given.{pieces_of}
 use Rattle.fd_outcome.specs.Rows.{with_pieces}
-use Rattle.fd_inventory.specs.Keys.{pieces_if, length_if}
+use Rattle.fd_key.specs.Reading.{pieces_if}
+use Rattle.fd_inventory.specs.Keys.{length_if}
 use Rattle.fd_inventory.proofs.stored_key.add_text.Given as goal
 
 abbrev pub invariant-loop-rest : goal.invariant-loop-rest

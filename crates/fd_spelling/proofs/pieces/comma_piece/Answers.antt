@@ -1,6 +1,6 @@
 use Rattle.std.proofs.Common.{sym, arith}
 use Rattle.fd_spelling.proofs.PieceLaws.{cut_lengths, pieces_cut, pieces_uncut}
-use Rattle.fd_inventory.proofs.stored_key.first_piece.Goals as goal
+use Rattle.fd_spelling.proofs.pieces.comma_piece.Goals as goal
 
 pub returns-in-Some-clause-pieces : goal.returns-in-Some-clause-pieces
 returns-in-Some-clause-pieces c = pieces_cut 44 c.args.text.now (c.in-Some.piece.now, c.in-Some.others.now) (sym c.in-Some.ensures)
