@@ -23,8 +23,8 @@ pub use pieces::{INPUT_LIMIT, new_buffer, read_piece, read_some};
 pub use reading::{Unread, read_front};
 pub use refusal::{Refusal, refusal_of};
 pub use report::{
-    tell, tell_disk_failed, tell_input_failed, tell_no_memory, tell_number, tell_output_failed,
-    tell_refusal,
+    tell, tell_disk_failed, tell_input_failed, tell_no_memory, tell_noted, tell_number,
+    tell_output_failed, tell_refusal,
 };
 pub use status::Status;
 pub use stored::{Unruled, stored_schema};

@@ -1,6 +1,7 @@
 // The lines on the report.
-ghost use Rattle.std.specs.Prelude.{◌++◌, codes};
+ghost use Rattle.std.specs.Prelude.{◌≡◌, ◌≤◌, ◌++◌, codes};
 ghost use Rattle.std.specs.Fmt.{decimal};
+ghost use Rattle.fd_bytes.specs.Causes.{Rose};
 ghost use Rattle.fd_listing.specs.Lines.{line};
 ghost use Rattle.fd_outcome.specs.Refusals.{refusal_line, refusal_status, refused_message_line, cut_message_line, refused_map_line, refused_key_line, refused_field_line};
 ghost use Rattle.fd_outcome.specs.Ends.{disk_failed, input_failed, output_failed};
@@ -8,6 +9,7 @@ ghost use Rattle.fd_outcome.specs.Told.{OnLongInput, Told, ToldOrNoMemory};
 
 use crate::refusal::Refusal;
 use crate::status::Status;
+use fd_disk::Store;
 use fd_io::{Sink, write_all};
 use fd_key::KeyFault;
 use fd_packing::FieldFault;
@@ -50,6 +52,22 @@ pub fn tell_disk_failed<X: Drop, E: Sink<X>>(report: &mut E) -> Status
     ensures { Told Status.DiskFault disk_failed result (E.taken report.old) (E.taken report.new) (E.faults report.old) (E.faults report.new) }
 {
     tell(report, "disk failed\n", Status::DiskFault)
+}
+
+/// Counts a fault of the store, and writes the line that tells it.
+pub fn tell_noted<F: Send, X: Drop, S: Store<F>, E: Sink<X>>(
+    store: &mut S,
+    report: &mut E,
+    fault: F,
+) -> Status
+    ensures told { Told Status.DiskFault disk_failed result (E.taken report.old) (E.taken report.new) (E.faults report.old) (E.faults report.new) }
+    ensures noted { Rose (S.faults store.old) (S.faults store.new) }
+    ensures has { S.has store.new ≡ S.has store.old }
+    ensures out { S.out store.new ≡ S.out store.old }
+    ensures later { S.faults store.old ≤ S.faults store.new }
+{
+    store.note(fault);
+    tell_disk_failed(report)
 }
 
 /// Writes the line of octets that are no message.

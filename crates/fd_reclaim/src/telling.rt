@@ -9,7 +9,7 @@ ghost use Rattle.fd_reclaim.specs.Halts.{OnDisk, ToldHalt};
 use crate::halt::Halt;
 use fd_disk::Store;
 use fd_io::Sink;
-use fd_outcome::{Status, tell, tell_disk_failed, tell_no_memory, tell_place};
+use fd_outcome::{Status, tell, tell_no_memory, tell_noted, tell_place};
 use fd_purge::Purged;
 use fd_telling::{tell_broken, tell_schema};
 use std::alloc::Global;
@@ -75,10 +75,7 @@ pub(crate) fn tell_halt<F: Send, X: Drop, S: Store<F>, E: Sink<X>>(
     ensures out { S.out store.new ≡ S.out store.old }
 {
     match halt {
-        Halt::Disk(fault) => {
-            store.note(fault);
-            tell_disk_failed(report)
-        }
+        Halt::Disk(fault) => tell_noted(store, report, fault),
         Halt::Missing => tell(report, "refused SchemaMissing\n", Status::Refused),
         Halt::Schema { line, kind } => tell_schema(alloc, report, line, &kind),
         Halt::NoDataset => tell(report, "refused NoDataset\n", Status::Refused),

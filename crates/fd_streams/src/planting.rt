@@ -14,8 +14,8 @@ ghost use Rattle.fd_streams.specs.Creating.{IsCreatedOnly};
 use fd_disk::{Down, Store};
 use fd_io::{Sink, Source};
 use fd_outcome::{
-    Status, Unread, is_schema_limit, read_front, schema_kind, tell, tell_disk_failed,
-    tell_input_failed, tell_limit, tell_no_memory, tell_place,
+    Status, Unread, is_schema_limit, read_front, schema_kind, tell, tell_input_failed, tell_limit,
+    tell_no_memory, tell_noted, tell_place,
 };
 use fd_schema::{Schema, SchemaFault, SchemaKind};
 use fd_words::Root;
@@ -66,19 +66,13 @@ pub fn create<F: Send, X: Drop, S: Store<F>, I: Source<X>, E: Sink<X>>(
 {
     match store.enter(alloc, root.as_str()) {
         Ok(()) => {}
-        Err(Down::Fault(fault)) => {
-            store.note(fault);
-            return tell_disk_failed(report);
-        }
+        Err(Down::Fault(fault)) => return tell_noted(store, report, fault),
         Err(Down::NoMemory) => return tell_no_memory(report),
     }
     match store.schema(alloc) {
         Ok(None) => plant(alloc, root, store, input, report),
         Ok(Some(_)) => tell(report, "refused SchemaPresent\n", Status::Refused),
-        Err(Down::Fault(fault)) => {
-            store.note(fault);
-            tell_disk_failed(report)
-        }
+        Err(Down::Fault(fault)) => tell_noted(store, report, fault),
         Err(Down::NoMemory) => tell_no_memory(report),
     }
 }
@@ -109,10 +103,7 @@ fn plant<F: Send, X: Drop, S: Store<F>, I: Source<X>, E: Sink<X>>(
     }
     match store.plant(alloc, &text) {
         Ok(()) => tell(report, "created\n", Status::Done),
-        Err(Down::Fault(fault)) => {
-            store.note(fault);
-            tell_disk_failed(report)
-        }
+        Err(Down::Fault(fault)) => tell_noted(store, report, fault),
         Err(Down::NoMemory) => tell_no_memory(report),
     }
 }

@@ -13,8 +13,8 @@ use crate::stop::{Broken, Stop};
 use fd_disk::{FileKind, FileName, Store};
 use fd_io::Sink;
 use fd_outcome::{
-    Status, is_request_limit, is_schema_limit, request_kind, schema_kind, tell, tell_disk_failed,
-    tell_input_failed, tell_limit, tell_no_memory, tell_place, tell_text,
+    Status, is_request_limit, is_schema_limit, request_kind, schema_kind, tell, tell_input_failed,
+    tell_limit, tell_no_memory, tell_noted, tell_place, tell_text,
 };
 use fd_request::RequestKind;
 use fd_schema::SchemaKind;
@@ -34,10 +34,7 @@ pub fn tell_stop<F: Send, X: Drop, S: Store<F>, E: Sink<X>>(
     ensures out { S.out store.new ≡ S.out store.old }
 {
     match stop {
-        Stop::Disk(fault) => {
-            store.note(fault);
-            tell_disk_failed(report)
-        }
+        Stop::Disk(fault) => tell_noted(store, report, fault),
         Stop::Input => tell_input_failed(report),
         Stop::Missing => tell(report, "refused SchemaMissing\n", Status::Refused),
         Stop::Schema { line, kind } => tell_schema(alloc, report, line, &kind),

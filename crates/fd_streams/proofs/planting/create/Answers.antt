@@ -7,7 +7,7 @@ use Rattle.fd_streams.proofs.planting.create.Goals as goal
 
 pub returns-in-Err-Fault-clause-ran : goal.returns-in-Err-Fault-clause-ran
 returns-in-Err-Fault-clause-ran g c = λ a k.
-    disk_stop_at _ _ _ _ _ _ _ _ a k _ _ _ _ _ _ (c.note.ensures.has ∙ c.in-Err-Fault.ensures.has) c.tell_disk_failed.ensures (rose_later _ _ _ c.in-Err-Fault.ensures.cause.later c.note.ensures.cause)
+    disk_stop_at _ _ _ _ _ _ _ _ a k _ _ _ _ _ _ (c.tell_noted.ensures.has ∙ c.in-Err-Fault.ensures.has) c.tell_noted.ensures.told (rose_later _ _ _ c.in-Err-Fault.ensures.cause.later c.tell_noted.ensures.noted)
 
 pub returns-in-Err-NoMemory-clause-ran : goal.returns-in-Err-NoMemory-clause-ran
 returns-in-Err-NoMemory-clause-ran g c = λ a k. memory_stop_at _ _ _ _ _ _ _ _ a k _ _ _ _ _ _ c.in-Err-NoMemory.ensures.has c.tell_no_memory.ensures
@@ -24,13 +24,13 @@ returns-in-Ok-Some-clause-ran g c = λ a k.
 pub returns-in-Err-Fault-schema-clause-ran : goal.returns-in-Err-Fault-schema-clause-ran
 returns-in-Err-Fault-schema-clause-ran g c = λ a k.
     let later : g.S.Store.faults c.args.store.now ≤ g.S.Store.faults c.schema.new.self = omega (arith, c.in-Ok.ensures.cause.later, c.in-Err-Fault-schema.ensures.cause.later) in
-    disk_stop_at _ _ _ _ _ _ _ _ a k _ _ _ _ _ _ (c.note-in-Err-Fault-schema.ensures.has ∙ (c.in-Err-Fault-schema.ensures.has ∙ c.in-Ok.ensures.has)) c.tell_disk_failed-in-Err-Fault-schema.ensures (rose_later _ _ _ later c.note-in-Err-Fault-schema.ensures.cause)
+    disk_stop_at _ _ _ _ _ _ _ _ a k _ _ _ _ _ _ (c.tell_noted-in-Err-Fault-schema.ensures.has ∙ (c.in-Err-Fault-schema.ensures.has ∙ c.in-Ok.ensures.has)) c.tell_noted-in-Err-Fault-schema.ensures.told (rose_later _ _ _ later c.tell_noted-in-Err-Fault-schema.ensures.noted)
 
 pub returns-clause-ran : goal.returns-clause-ran
 returns-clause-ran g c = λ a k. memory_stop_at _ _ _ _ _ _ _ _ a k _ _ _ _ _ _ (c.in-Err-NoMemory-schema.ensures.has ∙ c.in-Ok.ensures.has) c.tell_no_memory-in-Err-NoMemory-schema.ensures
 
 pub returns-in-Err-Fault-clause-kept : goal.returns-in-Err-Fault-clause-kept
-returns-in-Err-Fault-clause-kept g c = same_only (g.I.Source.left c.args.input.now) (g.S.Store.has c.args.store.now) (g.S.Store.has c.note.new.self) (c.note.ensures.has ∙ c.in-Err-Fault.ensures.has)
+returns-in-Err-Fault-clause-kept g c = same_only (g.I.Source.left c.args.input.now) (g.S.Store.has c.args.store.now) (g.S.Store.has c.tell_noted.new.store) (c.tell_noted.ensures.has ∙ c.in-Err-Fault.ensures.has)
 
 pub returns-in-Err-NoMemory-clause-kept : goal.returns-in-Err-NoMemory-clause-kept
 returns-in-Err-NoMemory-clause-kept g c = same_only (g.I.Source.left c.args.input.now) (g.S.Store.has c.args.store.now) (g.S.Store.has c.enter.new.self) c.in-Err-NoMemory.ensures.has
@@ -39,7 +39,7 @@ pub returns-in-Ok-Some-clause-kept : goal.returns-in-Ok-Some-clause-kept
 returns-in-Ok-Some-clause-kept g c = same_only (g.I.Source.left c.args.input.now) (g.S.Store.has c.args.store.now) (g.S.Store.has c.schema.new.self) (c.in-Ok-Some.ensures.has ∙ c.in-Ok.ensures.has)
 
 pub returns-in-Err-Fault-schema-clause-kept : goal.returns-in-Err-Fault-schema-clause-kept
-returns-in-Err-Fault-schema-clause-kept g c = same_only (g.I.Source.left c.args.input.now) (g.S.Store.has c.args.store.now) (g.S.Store.has c.note-in-Err-Fault-schema.new.self) (c.note-in-Err-Fault-schema.ensures.has ∙ (c.in-Err-Fault-schema.ensures.has ∙ c.in-Ok.ensures.has))
+returns-in-Err-Fault-schema-clause-kept g c = same_only (g.I.Source.left c.args.input.now) (g.S.Store.has c.args.store.now) (g.S.Store.has c.tell_noted-in-Err-Fault-schema.new.store) (c.tell_noted-in-Err-Fault-schema.ensures.has ∙ (c.in-Err-Fault-schema.ensures.has ∙ c.in-Ok.ensures.has))
 
 pub returns-clause-kept : goal.returns-clause-kept
 returns-clause-kept g c = same_only (g.I.Source.left c.args.input.now) (g.S.Store.has c.args.store.now) (g.S.Store.has c.schema.new.self) (c.in-Err-NoMemory-schema.ensures.has ∙ c.in-Ok.ensures.has)
@@ -48,7 +48,7 @@ pub returns-in-Ok-None-clause-kept : goal.returns-in-Ok-None-clause-kept
 returns-in-Ok-None-clause-kept g c = only_from (g.I.Source.left c.args.input.now) (g.S.Store.has c.args.store.now) (g.S.Store.has c.schema.new.self) (g.S.Store.has c.plant.new.store) (c.in-Ok-None.ensures.has ∙ c.in-Ok.ensures.has) c.plant.ensures.kept
 
 pub returns-in-Err-Fault-clause-unread : goal.returns-in-Err-Fault-clause-unread
-returns-in-Err-Fault-clause-unread g c = nothing_read c.args.root.now (g.S.Store.has c.args.store.now) (g.S.Store.has c.note.new.self) (g.S.Store.faults c.args.store.now) (g.S.Store.faults c.note.new.self) (g.I.Source.left c.args.input.now) (g.I.Source.faults c.args.input.now)
+returns-in-Err-Fault-clause-unread g c = nothing_read c.args.root.now (g.S.Store.has c.args.store.now) (g.S.Store.has c.tell_noted.new.store) (g.S.Store.faults c.args.store.now) (g.S.Store.faults c.tell_noted.new.store) (g.I.Source.left c.args.input.now) (g.I.Source.faults c.args.input.now)
 
 pub returns-in-Err-NoMemory-clause-unread : goal.returns-in-Err-NoMemory-clause-unread
 returns-in-Err-NoMemory-clause-unread g c = nothing_read c.args.root.now (g.S.Store.has c.args.store.now) (g.S.Store.has c.enter.new.self) (g.S.Store.faults c.args.store.now) (g.S.Store.faults c.enter.new.self) (g.I.Source.left c.args.input.now) (g.I.Source.faults c.args.input.now)
@@ -57,7 +57,7 @@ pub returns-in-Ok-Some-clause-unread : goal.returns-in-Ok-Some-clause-unread
 returns-in-Ok-Some-clause-unread g c = nothing_read c.args.root.now (g.S.Store.has c.args.store.now) (g.S.Store.has c.schema.new.self) (g.S.Store.faults c.args.store.now) (g.S.Store.faults c.schema.new.self) (g.I.Source.left c.args.input.now) (g.I.Source.faults c.args.input.now)
 
 pub returns-in-Err-Fault-schema-clause-unread : goal.returns-in-Err-Fault-schema-clause-unread
-returns-in-Err-Fault-schema-clause-unread g c = nothing_read c.args.root.now (g.S.Store.has c.args.store.now) (g.S.Store.has c.note-in-Err-Fault-schema.new.self) (g.S.Store.faults c.args.store.now) (g.S.Store.faults c.note-in-Err-Fault-schema.new.self) (g.I.Source.left c.args.input.now) (g.I.Source.faults c.args.input.now)
+returns-in-Err-Fault-schema-clause-unread g c = nothing_read c.args.root.now (g.S.Store.has c.args.store.now) (g.S.Store.has c.tell_noted-in-Err-Fault-schema.new.store) (g.S.Store.faults c.args.store.now) (g.S.Store.faults c.tell_noted-in-Err-Fault-schema.new.store) (g.I.Source.left c.args.input.now) (g.I.Source.faults c.args.input.now)
 
 pub returns-clause-unread : goal.returns-clause-unread
 returns-clause-unread g c = nothing_read c.args.root.now (g.S.Store.has c.args.store.now) (g.S.Store.has c.schema.new.self) (g.S.Store.faults c.args.store.now) (g.S.Store.faults c.schema.new.self) (g.I.Source.left c.args.input.now) (g.I.Source.faults c.args.input.now)

@@ -36,8 +36,8 @@ pub returns-in-Err-Fault-plant-clause-ran : goal.returns-in-Err-Fault-plant-clau
 returns-in-Err-Fault-plant-clause-ran g c = λ a k.
     let rules = subst (λ t. schema_of t ≡ Ok c.in-Ok-read.field-0) c.deref.ensures.value c.in-Ok-read.ensures in
     let now = subst (λ t. (g.S.Store.has c.plant.new.self ≡ g.S.Store.has c.args.store.now) ⊎ (g.S.Store.has c.plant.new.self ≡ option_map (stores t) (g.S.Store.has c.args.store.now))) c.deref-2.ensures.value c.in-Err-Fault-plant.ensures.err in
-    let noted = subst (λ x. (x ≡ g.S.Store.has c.args.store.now) ⊎ (x ≡ option_map (stores c.in-Ok.text.items) (g.S.Store.has c.args.store.now))) (sym c.note.ensures.has) now in
-    failed _ _ _ _ _ _ _ _ a k _ _ _ _ _ c.in-Ok.text.items c.in-Ok.ensures.given c.in-Ok.ensures.whole c.requires.none c.in-Ok.ensures.calm c.in-Ok-read.field-0 rules _ noted c.tell_disk_failed.ensures (rose_later _ _ _ c.in-Err-Fault-plant.ensures.cause.later c.note.ensures.cause)
+    let noted = subst (λ x. (x ≡ g.S.Store.has c.args.store.now) ⊎ (x ≡ option_map (stores c.in-Ok.text.items) (g.S.Store.has c.args.store.now))) (sym c.tell_noted.ensures.has) now in
+    failed _ _ _ _ _ _ _ _ a k _ _ _ _ _ c.in-Ok.text.items c.in-Ok.ensures.given c.in-Ok.ensures.whole c.requires.none c.in-Ok.ensures.calm c.in-Ok-read.field-0 rules _ noted c.tell_noted.ensures.told (rose_later _ _ _ c.in-Err-Fault-plant.ensures.cause.later c.tell_noted.ensures.noted)
 
 pub returns-clause-ran : goal.returns-clause-ran
 returns-clause-ran g c = λ a k.
@@ -67,8 +67,8 @@ pub returns-in-Err-Fault-plant-clause-kept : goal.returns-in-Err-Fault-plant-cla
 returns-in-Err-Fault-plant-clause-kept g c =
     let rules = subst (λ t. schema_of t ≡ Ok c.in-Ok-read.field-0) c.deref.ensures.value c.in-Ok-read.ensures in
     let now = subst (λ t. (g.S.Store.has c.plant.new.self ≡ g.S.Store.has c.args.store.now) ⊎ (g.S.Store.has c.plant.new.self ≡ option_map (stores t) (g.S.Store.has c.args.store.now))) c.deref-2.ensures.value c.in-Err-Fault-plant.ensures.err in
-    let noted = subst (λ x. (x ≡ g.S.Store.has c.args.store.now) ⊎ (x ≡ option_map (stores c.in-Ok.text.items) (g.S.Store.has c.args.store.now))) (sym c.note.ensures.has) now in
-    maybe_only (g.I.Source.left c.args.input.now) (g.I.Source.left c.read_front.new.input) c.in-Ok.text.items c.in-Ok.ensures.given c.in-Ok.ensures.whole c.in-Ok-read.field-0 rules (g.S.Store.has c.args.store.now) (g.S.Store.has c.note.new.self) c.requires.none noted
+    let noted = subst (λ x. (x ≡ g.S.Store.has c.args.store.now) ⊎ (x ≡ option_map (stores c.in-Ok.text.items) (g.S.Store.has c.args.store.now))) (sym c.tell_noted.ensures.has) now in
+    maybe_only (g.I.Source.left c.args.input.now) (g.I.Source.left c.read_front.new.input) c.in-Ok.text.items c.in-Ok.ensures.given c.in-Ok.ensures.whole c.in-Ok-read.field-0 rules (g.S.Store.has c.args.store.now) (g.S.Store.has c.tell_noted.new.store) c.requires.none noted
 
 pub returns-clause-kept : goal.returns-clause-kept
 returns-clause-kept g c =
