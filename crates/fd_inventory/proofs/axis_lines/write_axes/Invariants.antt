@@ -1,7 +1,7 @@
 use Rattle.std.proofs.Common.{◌≡◌, ◌++◌, string_bytes}
 use Rattle.fd_listing.specs.Sinks.{TakesAllBut}
 use Rattle.fd_inventory.specs.Axes.{axes_lines, seen_axes}
-use Rattle.fd_inventory.proofs.axis.write_axes.Given as goal
+use Rattle.fd_inventory.proofs.axis_lines.write_axes.Given as goal
 
 abbrev pub invariant-loop-index : goal.invariant-loop-index
 invariant-loop-index g l = record {

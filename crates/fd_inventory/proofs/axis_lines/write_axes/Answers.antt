@@ -7,7 +7,7 @@ use Rattle.fd_listing.specs.Sinks.{HasSinkCause}
 use Rattle.fd_listing.proofs.Taking.{broken, held_written, stopped}
 use Rattle.fd_inventory.specs.Axes.{axes_lines, names_lines, seen_axes, seen_names}
 use Rattle.fd_inventory.proofs.AxisLines.{axes_written, index_held}
-use Rattle.fd_inventory.proofs.axis.write_axes.Goals as goal
+use Rattle.fd_inventory.proofs.axis_lines.write_axes.Goals as goal
 
 pub loop-index-preserved : goal.loop-index-preserved
 loop-index-preserved g c =
