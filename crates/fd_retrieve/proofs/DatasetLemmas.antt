@@ -21,7 +21,8 @@ use Rattle.fd_recovery.specs.Recovered.{files_of}
 use Rattle.fd_retriever.specs.Answers.{StandsIn}
 use Rattle.fd_outcome.specs.Causes.{BadFile}
 use Rattle.fd_outcome.specs.Store.{Stands}
-use Rattle.fd_retrieve.specs.Open.{AreListed, IsDamaged, Open, names_of, table_in, table_of}
+use Rattle.fd_answering.specs.Damages.{IsDamaged}
+use Rattle.fd_retrieve.specs.Open.{AreListed, Open, names_of, table_in, table_of}
 
 -- the datasets from one on
 pub split : (os : List Open) (i : ℕ) (o : Open) → i < length os → o ≡ get_or os i o → drop i os ≡ o ∷ drop (i + 1) os

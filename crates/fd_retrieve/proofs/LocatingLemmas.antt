@@ -32,10 +32,11 @@ use Rattle.fd_finding.specs.declared.spot.Spot.{Spot}
 use Rattle.fd_finding.specs.Spots.{IsAnswer, IsWithin, place_key}
 use Rattle.fd_outcome.specs.Asking.{Answer, answers, is_among}
 use Rattle.fd_ahead.specs.declared.located.Located.{Located}
-use Rattle.fd_retrieve.specs.Finding.{asked_of_all}
-use Rattle.fd_retrieve.specs.Located.{AreAt, AreDealt, AreGroups, AreLocated, AreLocatedBy, AreNumbersOf, ArePlacesOf, IsAt, IsFilled, IsGroup, IsIn, IsLocated, IsLocatedBy, IsNumberOf, keys_in, located_in}
+use Rattle.fd_answering.specs.Finding.{asked_of_all}
+use Rattle.fd_answering.specs.Located.{AreAt, IsAt}
+use Rattle.fd_retrieve.specs.Located.{AreDealt, AreGroups, AreLocated, AreLocatedBy, AreNumbersOf, ArePlacesOf, IsFilled, IsGroup, IsIn, IsLocated, IsLocatedBy, IsNumberOf, keys_in, located_in}
 use Rattle.fd_retrieve.specs.Open.{IsFirstNamed, Open, names_of, table_in, table_of}
-use Rattle.fd_retrieve.proofs.AnsweringLemmas.{as_long, as_many, numbered, there_is}
+use Rattle.fd_answering.proofs.AnsweringLemmas.{as_long, as_many, numbered, there_is}
 use Rattle.fd_retrieve.proofs.DatasetLemmas.{at_get, closed_table, get_within, split, tells_of}
 use Rattle.fd_retrieve.proofs.Staying.{some_is}
 
@@ -387,10 +388,6 @@ place_at now os ps located i same there lt =
     at [] i x is = refl
     at (y ∷ ys) zero x is = some_is y x is
     at (y ∷ ys) (suc i) x is = at ys i x is
-
--- what is located lies within a segment
-pub within_at : (now os : List Open) (located : List (Option Located)) (i : ℕ) → now ≡ os → ((k : ℕ) (d : Option Located) → k < length located → IfSome (get_or located k d) (IsIn os)) → i < length located → (d : Option Located) → IfSome (get_or located i d) (IsIn now)
-within_at now os located i same within lt d = subst (λ (x : List Open). IfSome (get_or located i d) (IsIn x)) (sym same) (within i d lt)
 
 -- what is located of a key are the newest bytes of its dataset
 pub bytes_at : (os : List Open) (place : Texts) (located : Option Located) (t : List (List Pair)) → IsLocated os place located → table_in os place.dataset ≡ Some t → IsAt os (newest t (file_key place)) located

@@ -1,19 +1,17 @@
 -- Where the newest bytes of a request's keys stand, among the datasets that are open.
-use Rattle.std.specs.Prelude.{◌≡◌, ◌<◌, ◌≤◌, ℕ, List, [], length, take, drop, Option, Some, None, Vec, false, IfSome, slice_get, slice_index_or, option_map}
+use Rattle.std.specs.Prelude.{◌≡◌, ◌<◌, ◌≤◌, ℕ, List, [], length, Option, Some, None, Vec, false, IfSome, slice_get, slice_index_or, option_map}
 use Rattle.std.specs.Option.{option_map_or}
 use Rattle.std.specs.declared.alloc.Global.{Global}
 use Rattle.fd_entries.specs.declared.batch.Pair.{Pair}
 use Rattle.fd_entries.specs.Batches.{newest}
 use Rattle.fd_key.specs.Pairs as keys
-use Rattle.fd_retriever.specs.Kept.{IsNumbered}
-use Rattle.fd_segment.specs.Held.{Standing}
 use Rattle.fd_schema.specs.declared.place.Place.{Place}
 use Rattle.fd_segment.specs.declared.fault.Damage.{Damage}
 use Rattle.fd_schema.specs.Rules.{Texts, file_key}
 use Rattle.fd_schema.specs.Reading.{seen_place}
 use Rattle.fd_finding.specs.declared.spot.Spot.{Spot}
 use Rattle.fd_finding.specs.Spots.{IsNewestAt}
-use Rattle.fd_outcome.specs.Asking.{Answer, is_among}
+use Rattle.fd_outcome.specs.Asking.{is_among}
 use Rattle.fd_ahead.specs.declared.located.Located.{Located}
 pub use Rattle.fd_ahead.specs.Places.{IsIn}
 use Rattle.fd_retrieve.specs.declared.locating.Lost.{Lost}
@@ -30,27 +28,6 @@ pub record IsThere (os : List Open) (place : Texts) (l : Located) : Type 0 where
 abbrev pub IsLocated : List Open → Texts → Option Located → Type 0
 IsLocated os place None = (t : List (List Pair)) → table_in os place.dataset ≡ Some t → newest t (file_key place) ≡ None
 IsLocated os place (Some l) = IsThere os place l
-
--- These are the bytes where a key is located.
-pub record StandsAt (os : List Open) (bytes : Option (List ℕ)) (l : Located) : Type 0 where
-  pub dataset : Open
-  pub at : slice_get os l.number ≡ Some dataset
-  pub segment : Standing
-  pub numbered : IsNumbered dataset.shown l.spot.number segment
-  pub fields : List ℕ
-  pub told : segment.files.fields ≡ Some fields
-  pub is : bytes ≡ Some (take l.spot.len (drop l.spot.at fields))
-
--- The same, or the key isn't located and has none.
-abbrev pub IsAt : List Open → Option (List ℕ) → Option Located → Type 0
-IsAt os bytes None = bytes ≡ None
-IsAt os bytes (Some l) = StandsAt os bytes l
-
--- The answers of these keys, in their order, are what stands where the keys are located.
-pub record AreAt (os : List Open) (ks : List (List keys.Pair)) (xs : List Answer) (located : List (Option Located)) : Type 0 where
-  pub long : length xs ≡ length ks
-  pub each : (k : ℕ) (key : List keys.Pair) → slice_get ks k ≡ Some key
-      → (found : Option (List ℕ)) × (slice_get xs k ≡ Some (record { key = key; found = found })) × ((d : Option Located) → IsAt os found (slice_index_or located k d))
 
 -- the same of each place
 pub record AreLocated (os : List Open) (places : List Place) (located : List (Option Located)) : Type 0 where

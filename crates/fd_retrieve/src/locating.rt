@@ -4,7 +4,7 @@ ghost use Rattle.std.specs.BTreeMap.{get_by_text};
 ghost use Rattle.std.specs.Str.{bytes_eq};
 ghost use Rattle.fd_schema.specs.Reading.{seen_place};
 ghost use Rattle.fd_retrieve.specs.Located.{AreDealt, AreGroups, AreLocated, AreLocatedBy, AreNumbersOf, ArePlacesOf, AreWithin, IsFilled, IsNumberOf, OnLost, keys_in, located_in};
-ghost use Rattle.fd_retrieve.specs.Open.{IsDamagedAt};
+ghost use Rattle.fd_answering.specs.Damages.{IsDamagedAt};
 
 use fd_ahead::{Located, Opened};
 use fd_bytes::NoMemory;
