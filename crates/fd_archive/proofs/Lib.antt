@@ -9,4 +9,5 @@ pub mod Giving
 pub mod ArchiveExits
 pub mod Outlasting
 pub mod Noticing
+pub mod Unruling
 pub mod Looked

@@ -15,9 +15,9 @@ use crate::telling::{tell_counts, tell_fault};
 use fd_disk::Store;
 use fd_io::{Gate, Sink, Source};
 use fd_key::Given;
-use fd_outcome::{Status, Unruled, stored_schema, tell, tell_disk_failed, tell_no_memory};
+use fd_outcome::{Status, stored_schema};
 use fd_schema::Schema;
-use fd_telling::tell_schema;
+use fd_telling::tell_unruled;
 use fd_words::Root;
 use std::alloc::Global;
 use std::sync::Wait;
@@ -65,13 +65,7 @@ where
         Ok(schema) => archive_by(
             rt, alloc, &schema, given, workers, store, input, report, gate,
         ),
-        Err(Unruled::Disk(fault)) => {
-            store.note(fault);
-            tell_disk_failed(report)
-        }
-        Err(Unruled::Missing) => tell(report, "refused SchemaMissing\n", Status::Refused),
-        Err(Unruled::At { line, kind }) => tell_schema(alloc, report, line, &kind),
-        Err(Unruled::NoMemory) => tell_no_memory(report),
+        Err(unruled) => tell_unruled(alloc, store, report, unruled),
     }
 }
 

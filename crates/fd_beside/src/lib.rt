@@ -3,4 +3,4 @@
 
 mod beside;
 
-pub use beside::for_each_beside;
+pub use beside::{Item, for_each_beside, serve, serve_beside};

@@ -258,7 +258,7 @@ impl<F: Send + Drop, S: Store<F>> Crew<F, S> {
             alloc,
             gate,
             opener.datasets(),
-            self.parcels.as_slice(),
+            self.parcels.as_mut_slice(),
             self.jobs.as_mut_slice(),
         );
         self.parcels.clear();
@@ -297,12 +297,12 @@ impl<F: Send + Drop, S: Store<F>> Crew<F, S> {
             alloc,
             gate,
             opener.datasets(),
-            self.parcels.as_slice(),
             schema,
             given,
             names,
             input,
             reader,
+            self.parcels.as_mut_slice(),
             self.jobs.as_mut_slice(),
         );
         put_away(&mut self.parcels, reader);

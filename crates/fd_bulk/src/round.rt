@@ -8,14 +8,15 @@ ghost use Rattle.fd_bulk.specs.Working.{Filling, Stage};
 
 use crate::working::{list, store};
 use fd_archiver::{Archiver, FlushFault};
-use fd_beside::for_each_beside;
+use fd_beside::{Item, serve, serve_beside};
+use fd_bytes::Bytes;
 use fd_dataset::{Dataset, DatasetPass};
 use fd_disk::{Disk, Folder, Sealed, Shelf};
 use fd_io::{Gate, Source};
 use fd_key::Given;
 use fd_schema::{Place, Schema};
 use fd_segment::Field;
-use fd_sheets::{Batch, Names, Reader, read_on};
+use fd_sheets::{Batch, LEAST_KEPT, Names, Reader, read_on};
 use std::alloc::Global;
 use std::sync::Wait;
 use std::thread;
@@ -29,6 +30,22 @@ pub(crate) struct Parcel {
     pub(crate) round: u32,
     pub(crate) place: Place,
     pub(crate) bytes: Field,
+}
+
+impl Item for Parcel {
+    fn prepare(&mut self) {
+        self.bytes.find_digest();
+    }
+
+    // The buffer of a longer message is used again.
+    fn let_go(&mut self, alloc: Global) {
+        self.place.dataset = String::new(alloc);
+        self.place.index = String::new(alloc);
+        self.place.datum = String::new(alloc);
+        if self.bytes.as_slice().len() < LEAST_KEPT {
+            self.bytes = Field::new(Bytes::new(alloc));
+        }
+    }
 }
 
 /// A worker's archiver and pass in a dataset.
@@ -134,7 +151,8 @@ where
     }
 }
 
-/// Each worker's share of the messages, in a thread of its own. It passes the gate before its share of each round.
+/// Each worker's share of the messages, in a thread of its own, once their digests are found by as many threads. It passes the gate before
+/// its share of each round.
 pub(crate) fn run_rounds<
     F: Send + Drop,
     T: Disk<F>,
@@ -146,27 +164,28 @@ pub(crate) fn run_rounds<
     alloc: Global,
     gate: &G,
     datasets: &[Dataset<F, T, H::Sealed>],
-    parcels: &[Parcel],
+    parcels: &mut [Parcel],
     jobs: &mut [WorkerJob<F, T, H>],
 )
 where
     requires few { length jobs.old ≤ 8 }
-    requires can { (i : ℕ) (e : _) → i < length jobs.old → CanShare H.kept datasets.now i parcels.now (slice_index_or jobs.old i e) }
+    requires can { (i : ℕ) (e : _) → i < length jobs.old → CanShare H.kept datasets.now i parcels.old (slice_index_or jobs.old i e) }
     ensures long { length jobs.new ≡ length jobs.old }
-    ensures shared { (i : ℕ) (e : _) → i < length jobs.old → Shared H.kept datasets.now i parcels.now (slice_index_or jobs.old i e) (slice_index_or jobs.new i e) }
+    ensures shared { (i : ℕ) (e : _) → i < length jobs.old → Shared H.kept datasets.now i parcels.old (slice_index_or jobs.old i e) (slice_index_or jobs.new i e) }
 {
-    thread::for_each_mut(
+    serve(
         rt,
+        alloc,
+        &|messages: &[Parcel], i: usize, job: &mut WorkerJob<F, T, H>|
+            requires { (i < 8) × CanShare H.kept datasets.now i messages.now job.old }
+            ensures { Shared H.kept datasets.entry.now i messages.now job.old job.new }
+        { run_share(rt, alloc, gate, datasets, messages, i, job) },
+        parcels,
         jobs,
-        8,
-        &|i: usize, job: &mut WorkerJob<F, T, H>|
-            requires { (i < 8) × CanShare H.kept datasets.now i parcels.now job.old }
-            ensures { Shared H.kept datasets.entry.now i parcels.entry.now job.old job.new }
-        { run_share(rt, alloc, gate, datasets, parcels, i, job) },
     );
 }
 
-/// Each worker's share of the messages, as above, while this thread reads the input on and finds the digests of what it reads.
+/// Each worker's share of the messages, as above, while this thread reads the input on.
 pub(crate) fn run_beside<
     F: Send + Drop,
     X: Drop,
@@ -180,21 +199,21 @@ pub(crate) fn run_beside<
     alloc: Global,
     gate: &G,
     datasets: &[Dataset<F, T, H::Sealed>],
-    parcels: &[Parcel],
     schema: &Schema,
     given: &Given,
     names: &Names,
     input: &mut I,
     reader: &mut Reader,
+    parcels: &mut [Parcel],
     jobs: &mut [WorkerJob<F, T, H>],
 ) -> Batch<X>
 where
     requires schema { IsSchema schema.now }
     requires some { 0 < length jobs.old }
     requires few { length jobs.old ≤ 8 }
-    requires can { (i : ℕ) (e : _) → i < length jobs.old → CanShare H.kept datasets.now i parcels.now (slice_index_or jobs.old i e) }
+    requires can { (i : ℕ) (e : _) → i < length jobs.old → CanShare H.kept datasets.now i parcels.old (slice_index_or jobs.old i e) }
     ensures long { length jobs.new ≡ length jobs.old }
-    ensures shared { (i : ℕ) (e : _) → i < length jobs.old → Shared H.kept datasets.now i parcels.now (slice_index_or jobs.old i e) (slice_index_or jobs.new i e) }
+    ensures shared { (i : ℕ) (e : _) → i < length jobs.old → Shared H.kept datasets.now i parcels.old (slice_index_or jobs.old i e) (slice_index_or jobs.new i e) }
     ensures reads { ReadOn schema.now given.now names.now.texts.items reader.old reader.new (I.left input.old) (I.left input.new) (I.faults input.old) (I.faults input.new) result }
 {
     let workers = jobs.len();
@@ -203,12 +222,14 @@ where
         requires { IsSchema schema.now × (0 < workers) }
         ensures { ReadOn schema.entry.now given.entry.now names.entry.now.texts.items reader.entry.now reader.exit.now (I.left input.entry.now) (I.left input.exit.now) (I.faults input.entry.now) (I.faults input.exit.now) result }
     { read_on(rt, other, schema, given, names, workers, input, reader) };
-    for_each_beside(
+    serve_beside(
         rt,
-        &|i: usize, job: &mut WorkerJob<F, T, H>|
-            requires { (i < 8) × CanShare H.kept datasets.now i parcels.now job.old }
-            ensures { Shared H.kept datasets.entry.now i parcels.entry.now job.old job.new }
-        { run_share(rt, alloc, gate, datasets, parcels, i, job) },
+        alloc,
+        &|messages: &[Parcel], i: usize, job: &mut WorkerJob<F, T, H>|
+            requires { (i < 8) × CanShare H.kept datasets.now i messages.now job.old }
+            ensures { Shared H.kept datasets.entry.now i messages.now job.old job.new }
+        { run_share(rt, alloc, gate, datasets, messages, i, job) },
+        parcels,
         jobs,
         &mut read,
     )

@@ -144,6 +144,28 @@ impl<T> Items<T> {
         Ok(())
     }
 
+    /// Puts a value before the others. After `NoMemory` nothing has changed.
+    pub fn put_first(&mut self, item: T) -> Result<(), NoMemory>
+    where
+        T: Drop,
+        ensures ok { OnOk result (self.new ≡ item ∷ self.old) }
+        ensures err { OnErr result (self.new ≡ self.old) }
+    {
+        self.items.insert(0, item)?;
+        Ok(())
+    }
+
+    /// A copy of these values.
+    pub fn copy(&self, alloc: Global) -> Result<Items<T>, NoMemory>
+    where
+        T: Copy,
+        ensures { IfOk result (λ a. a ≡ self.now) }
+    {
+        Ok(Items {
+            items: Vec::from_slice(alloc, &self.items)?,
+        })
+    }
+
     /// Puts another value at a place.
     pub fn set(&mut self, i: usize, item: T)
     where

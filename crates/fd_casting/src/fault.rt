@@ -1,6 +1,7 @@
-ghost use Rattle.std.specs.Prelude.{◌≡◌};
+ghost use Rattle.std.specs.Prelude.{◌≡◌, Some};
 ghost use Rattle.fd_casting.specs.declared.fault.Refusal.TheVariants as refusals;
 ghost use Rattle.fd_casting.specs.declared.fault.CastFault.TheVariants as faults;
+ghost use Rattle.fd_casting.specs.Texts.{miscast_text};
 
 use fd_bytes::NoMemory;
 use fd_key::KeyFault;
@@ -53,9 +54,6 @@ impl From<NoMemory> for CastFault {
 }
 
 impl fmt::Display for Miscast {
-    ghost use Rattle.std.specs.Prelude.{Some};
-    ghost use Rattle.fd_casting.specs.Texts.{miscast_text};
-
     ghost output = { λ kind. Some (miscast_text kind) };
 
     fn fmt<W: fmt::Write>(&self, f: &mut fmt::Formatter<W>) -> fmt::Result {

@@ -1,5 +1,5 @@
 //! Tables of tests, as one text: each row has a text, a bar, and what is wanted of the text.
-use std::alloc::Global;
+use std::alloc::{AllocError, Global};
 
 /// The first row of a table: its text, what is wanted of it, and the rows behind it.
 pub fn row(table: &str) -> Option<(&str, &str, &str)> {
@@ -17,6 +17,14 @@ pub fn lines(alloc: Global, text: &str) -> Option<Vec<u8>> {
         }
     }
     Some(lines)
+}
+
+/// Tells that a text was made, and is what is wanted.
+pub fn is(told: Result<String, AllocError>, want: &str) -> bool {
+    match told {
+        Ok(told) => told.as_str() == want,
+        Err(_) => false,
+    }
 }
 
 /// The number of rows up to the first one that doesn't hold, or of all.

@@ -1,7 +1,7 @@
 //! Schemas, their refusals, and the places of keys.
 ghost use Rattle.std.specs.Prelude.{◌≡◌, []};
 
-use crate::rows::{agreed, lines};
+use crate::rows::{agreed, is, lines};
 use fd_key::Key;
 use fd_schema::*;
 use std::alloc::Global;
@@ -11,10 +11,7 @@ fn is_refused(alloc: Global, text: &[u8], want: &str) -> bool {
     let Err(SchemaFault::At { line, kind }) = Schema::read(alloc, text) else {
         return false;
     };
-    match format!(in alloc; "{line} {kind:?}") {
-        Ok(told) => told.as_str() == want,
-        Err(_) => false,
-    }
+    is(format!(in alloc; "{line} {kind:?}"), want)
 }
 
 /// The same of a row of a table.

@@ -1,5 +1,5 @@
 //! Scripts that are read, and lines that are refused.
-use crate::rows::{agreed, lines};
+use crate::rows::{agreed, is, lines};
 use fd_script::*;
 use std::alloc::Global;
 
@@ -67,10 +67,7 @@ fn is_refused(alloc: Global, text: &[u8], want: &str) -> bool {
     let Err(fault) = Script::read(alloc, text) else {
         return false;
     };
-    match format!(in alloc; "{fault:?}") {
-        Ok(told) => told.as_str() == want,
-        Err(_) => false,
-    }
+    is(format!(in alloc; "{fault:?}"), want)
 }
 
 /// The same of a row of a table.

@@ -1,5 +1,5 @@
 //! The words of the command line, read.
-use crate::rows::agreed;
+use crate::rows::{agreed, is};
 use fd_words::{Command, Dataset, read_command};
 use std::alloc::Global;
 
@@ -57,10 +57,7 @@ fn words(alloc: Global, row: &str) -> Option<Vec<&str>> {
 /// Tells that the command is told so.
 fn is_told(alloc: Global, command: &Command, want: &str) -> bool {
     let (name, root, count, workers) = told(command);
-    match format!(in alloc; "{name},{root},{count},{workers}") {
-        Ok(told) => told.as_str() == want,
-        Err(_) => false,
-    }
+    is(format!(in alloc; "{name},{root},{count},{workers}"), want)
 }
 
 /// Tells that the words ask for this, or for nothing.

@@ -1,19 +1,19 @@
 // The lines of `axes`: for each index text the names of its datum texts, and for each name its values.
-ghost use Rattle.std.specs.Prelude.{◌≡◌, ◌≤◌, ◌++◌, ◌∷◌, [], List, Some, IfErr, IfOk, OnErr, OnOk, length, map, string_bytes, if◌then◌else◌};
+ghost use Rattle.std.specs.Prelude.{◌≡◌, ◌≤◌, [], List, Some, IfErr, IfOk, OnErr, OnOk, length, map};
 ghost use Rattle.std.specs.List.Sorted.{IsStrictlySortedBy};
 ghost use Rattle.std.specs.Map.{keys_of, lookup, remove_entry};
 ghost use Rattle.fd_entries.specs.declared.batch.Pair.{Pair};
 ghost use Rattle.fd_key.specs.Pairs as keys;
 ghost use Rattle.fd_dataset.specs.Listed.{listing};
 ghost use Rattle.fd_io.specs.Streams.{Takes, TakesFront};
-ghost use Rattle.fd_listing.specs.Sinks.{HasSinkCause};
-ghost use Rattle.fd_inventory.specs.Axes.{AddsIndex, AreAxes, HaveData, at_text, axes_lines, axis_line, entries_or_none, names_lines, put_pair, put_pairs, seen_axes, seen_names, seen_values, text_order};
+ghost use Rattle.fd_inventory.specs.Axes.{AddsIndex, AreAxes, HaveData, at_text, entries_or_none, put_pair, put_pairs, seen_axes, seen_names, seen_values, text_order};
 ghost use Rattle.fd_inventory.specs.Indexes.{IsAmongBad, OnLines, Tells};
 ghost use Rattle.fd_inventory.specs.Recorded.{TakesBy};
 ghost use Rattle.fd_inventory.specs.Shown.{AreRows};
 ghost use Rattle.fd_inventory.specs.Written.{HasLinesCause};
-ghost use Rattle.fd_outcome.specs.Rows.{Row, axes_text, order, put, values_text, with_text};
+ghost use Rattle.fd_outcome.specs.Rows.{Row, axes_text, order, put, with_text};
 
+use crate::axis_lines::write_axes;
 use crate::fault::{LinesFault, lines_fault};
 use crate::rows::{Rows, rows_of};
 use crate::stored_key::add_text;
@@ -28,13 +28,13 @@ use std::alloc::Global;
 use std::collections::BTreeMap;
 
 /// Distinct values.
-type Values = BTreeMap<String, ()>;
+pub(crate) type Values = BTreeMap<String, ()>;
 
 /// The values of names.
-type Names = BTreeMap<String, Values>;
+pub(crate) type Names = BTreeMap<String, Values>;
 
 /// The names of index texts.
-type Axes = BTreeMap<String, Names>;
+pub(crate) type Axes = BTreeMap<String, Names>;
 
 /// Takes out what stands at a text.
 fn taken<V: Drop>(map: &mut BTreeMap<String, V>, text: &str) -> Option<V>
@@ -137,74 +137,6 @@ fn axes_of(alloc: Global, rows: Rows) -> Result<Axes, NoMemory>
         add_datum(alloc, &mut axes, texts.0.as_str(), texts.1.as_str())?;
     }
     Ok(axes)
-}
-
-/// Appends a value, with a slash before each but the first.
-fn push_value(lines: &mut String, is_first: bool, value: &str) -> Result<(), NoMemory>
-    ensures { OnOk result (string_bytes lines.new ≡ string_bytes lines.old ++ (if is_first then value.now else 47 ∷ value.now)) }
-{
-    if !is_first {
-        lines.push('/')?;
-    }
-    lines.push_str(value)?;
-    Ok(())
-}
-
-/// Appends values with slashes between them.
-fn push_values(lines: &mut String, values: &Values) -> Result<(), NoMemory>
-    ensures { OnOk result (string_bytes lines.new ≡ string_bytes lines.old ++ values_text (seen_values values.now.entries)) }
-{
-    let mut is_first = true;
-    for (value, _) in values {
-        push_value(lines, is_first, value.as_str())?;
-        is_first = false;
-    }
-    Ok(())
-}
-
-/// Appends the line of a name.
-fn push_name(
-    lines: &mut String,
-    dataset: &str,
-    index: &str,
-    name: &str,
-    values: &Values,
-) -> Result<(), NoMemory>
-    ensures { OnOk result (string_bytes lines.new ≡ string_bytes lines.old ++ axis_line dataset.now index.now (name.now, seen_values values.now.entries)) }
-{
-    write!(lines, "{dataset} {index} {name}=")?;
-    push_values(lines, values)?;
-    lines.push('\n')?;
-    Ok(())
-}
-
-/// Appends the lines of the names of an index text.
-fn push_names(lines: &mut String, dataset: &str, index: &str, names: &Names) -> Result<(), NoMemory>
-    ensures { OnOk result (string_bytes lines.new ≡ string_bytes lines.old ++ names_lines dataset.now index.now (seen_names names.now.entries)) }
-{
-    for (name, values) in names {
-        push_name(lines, dataset, index, name.as_str(), values)?;
-    }
-    Ok(())
-}
-
-/// Writes the lines of index texts, many at a time.
-fn write_axes<X, K: Sink<X>>(
-    alloc: Global,
-    dataset: &str,
-    axes: &Axes,
-    sink: &mut K,
-) -> Result<(), TextFault<X>>
-    ensures took { OnOk result (Takes (K.taken sink.old) (K.taken sink.new) (axes_lines dataset.now (seen_axes axes.now.entries))) }
-    ensures front { OnErr result (TakesFront (K.taken sink.old) (K.taken sink.new) (axes_lines dataset.now (seen_axes axes.now.entries))) }
-    ensures cause { HasSinkCause result (K.faults sink.old) (K.faults sink.new) }
-{
-    let mut lines = String::new(alloc);
-    for (index, names) in axes {
-        push_names(&mut lines, dataset, index.as_str(), names)?;
-        write_many(&mut lines, sink)?;
-    }
-    write_text(sink, lines.as_str())
 }
 
 /// Writes the lines of `axes` for a dataset: for each index text of the keys that the partial request asks for, and for each

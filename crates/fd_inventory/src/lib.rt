@@ -3,6 +3,7 @@
 #![tactic(auto)]
 
 mod axis;
+mod axis_lines;
 mod counting;
 mod fault;
 mod found;

@@ -2,6 +2,7 @@ pub mod Pairs
 pub mod Fields
 pub mod Seen
 pub mod Spans
+pub mod Values
 pub mod Given
 pub mod Reading
 pub mod Keys

@@ -2,69 +2,58 @@
 ghost use Rattle.std.specs.Prelude.{◌≡◌, ◌≤◌, ◌+◌, ◌*◌, IfOk, IfSome, length, option_map, string_bytes};
 ghost use Rattle.fd_templates.specs.Octets.{FitsOrMissing};
 ghost use Rattle.fd_templates.specs.Product.{Fits};
+ghost use Rattle.fd_key.specs.Values.{level_of, both_of};
 ghost use Rattle.fd_key.specs.Fields.{surface_text, levels_of, range_text, ranges_text};
 
+use crate::value::{Levels, Scaled};
 use fd_bytes::NoMemory;
-use fd_spelling::{
-    both_levels, none_text, part_text, push_part, scaled_text, second_alone, step_text,
-};
+use fd_spelling::{none_text, part_text, push_part, step_text};
 use fd_templates::{Product, Range};
 use std::alloc::Global;
 
 /// The value of a surface of this type, by its scale factor and its scaled value, if it has one.
 #[tactic(auto, unfolding(crate::specs::Fields::surface_text))]
-fn surface_text(
-    alloc: Global,
-    surface: u8,
-    factor: &Option<i32>,
-    value: &Option<i32>,
-) -> Result<Option<String>, NoMemory>
+fn surface_of(surface: u8, factor: &Option<i32>, value: &Option<i32>) -> Option<Scaled>
     requires { IfSome factor.now (FitsOrMissing 1) }
-    ensures text { IfOk result (λ o. option_map string_bytes o ≡ surface_text surface factor.now value.now) }
-    ensures short { IfOk result (λ o. IfSome o (λ s. length (string_bytes s) ≤ 300)) }
+    ensures text { option_map level_of result ≡ surface_text surface factor.now value.now }
+    ensures short { IfSome result (λ s. length (level_of s) ≤ 300) }
 {
     if surface == 255 {
-        return Ok(None);
+        return None;
     }
     let Some(factor) = factor else {
-        return Ok(None);
+        return None;
     };
     let Some(value) = value else {
-        return Ok(None);
+        return None;
     };
-    let text = scaled_text(alloc, &i64::from(*factor), &i64::from(*value))?;
-    Ok(Some(text))
+    Some(Scaled {
+        factor: *factor as i8,
+        value: *value,
+    })
 }
 
 /// The values of the surfaces of a product, if one of them has a value.
-pub(crate) fn levels_of(alloc: Global, product: &Product) -> Result<Option<String>, NoMemory>
+pub(crate) fn levels_of(product: &Product) -> Option<Levels>
     requires { Fits product.now }
-    ensures text { IfOk result (λ o. option_map string_bytes o ≡ levels_of product.now) }
-    ensures short { IfOk result (λ o. IfSome o (λ s. length (string_bytes s) ≤ 700)) }
+    ensures text { option_map both_of result ≡ levels_of product.now }
+    ensures short { IfSome result (λ l. length (both_of l) ≤ 700) }
 {
-    let first = surface_text(
-        alloc,
+    let first = surface_of(
         product.first_surface_type,
         &product.first_surface_factor,
         &product.first_surface_value,
-    )?;
-    let second = surface_text(
-        alloc,
+    );
+    let second = surface_of(
         product.second_surface_type,
         &product.second_surface_factor,
         &product.second_surface_value,
-    )?;
+    );
     match (first, second) {
-        (None, None) => Ok(None),
-        (Some(v), None) => Ok(Some(v)),
-        (None, Some(w)) => {
-            let text = second_alone(alloc, w.as_str())?;
-            Ok(Some(text))
-        }
-        (Some(v), Some(w)) => {
-            let text = both_levels(alloc, v.as_str(), w.as_str())?;
-            Ok(Some(text))
-        }
+        (None, None) => None,
+        (Some(v), None) => Some(Levels::First(v)),
+        (None, Some(w)) => Some(Levels::Second(w)),
+        (Some(v), Some(w)) => Some(Levels::Both(v, w)),
     }
 }
 

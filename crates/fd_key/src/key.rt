@@ -3,12 +3,12 @@ ghost use Rattle.std.specs.Option.{option_copied};
 ghost use Rattle.fd_spelling.specs.Names.{is_name, is_value};
 ghost use Rattle.fd_key.specs.Pairs.{with_pair, text_of, key_text, pair_text};
 ghost use Rattle.fd_key.specs.Given.{are_reserved};
+ghost use Rattle.fd_key.specs.Values.{value_text};
 
 use crate::given::Given;
-use crate::span::{Span, in_place, value_at};
-use arrayvec::ArrayString;
+use crate::span::{Entry, Span, in_place, pair_in, put_span, span_of, value_at};
+use crate::value::{Value, push_value};
 use fd_bytes::NoMemory;
-use indexmap::IndexMap;
 use std::alloc::Global;
 use std::marker::Model;
 
@@ -22,7 +22,7 @@ const NAMES: usize = 18;
 #[derive(Drop)]
 pub struct Key {
     values: String,
-    spans: IndexMap<ArrayString<16>, Span>,
+    spans: Vec<Entry>,
 }
 
 impl Model for Key {
@@ -32,9 +32,9 @@ impl Model for Key {
 
     ghost Value = { List Pair };
 
-    ghost view = { λ k. pairs_at (string_bytes k.values) k.spans.entries };
+    ghost view = { λ k. pairs_at (string_bytes k.values) k.spans.items };
 
-    ghost invariant = { λ k. AreKept (string_bytes k.values) k.spans.entries };
+    ghost invariant = { λ k. AreKept (string_bytes k.values) k.spans.items };
 }
 
 impl Key {
@@ -43,7 +43,7 @@ impl Key {
         ensures { IfOk result (λ k. k ≡ []) }
     {
         let values = String::with_capacity(alloc, BYTES)?;
-        let spans = IndexMap::with_capacity(alloc, NAMES)?;
+        let spans = Vec::with_capacity(alloc, NAMES)?;
         Ok(Key { values, spans })
     }
 
@@ -59,12 +59,8 @@ impl Key {
         ensures { option_copied result ≡ text_of self.now name.now }
     {
         let values = self.values.as_str();
-        if name.len() > 16 {
-            return None;
-        }
-        let short = in_place(name);
-        match self.spans.get_full(&short) {
-            Some((_place, _name, span)) => Some(value_at(values, span)),
+        match span_of(&self.spans, name) {
+            Some(span) => Some(value_at(values, &span)),
             None => None,
         }
     }
@@ -83,10 +79,7 @@ impl Key {
         ensures pair { slice_get self.now i ≡ Some (result.0.now, result.1.now) }
         ensures name { length result.0.now ≤ 16 }
     {
-        match self.spans.get_index(i as usize) {
-            Some((name, span)) => (name.as_str(), value_at(self.values.as_str(), span)),
-            None => ("", ""),
-        }
+        pair_in(self.values.as_str(), &self.spans, i as usize)
     }
 
     /// Adds the pair at the end, or puts the text in place of the one that the name has. After `NoMemory` nothing has
@@ -113,7 +106,28 @@ impl Key {
         let start = self.values.len();
         self.values.push_str(text)?;
         let end = self.values.len();
-        self.spans.insert(in_place(name), Span { start, end })?;
+        put_span(&mut self.spans, in_place(name), Span { start, end })?;
+        Ok(())
+    }
+
+    /// The same with a value that isn't spelled yet, which is written behind the others. After `NoMemory` the key is as it was, or empty.
+    pub(crate) fn spell(&mut self, name: &str, value: &Value) -> Result<(), NoMemory>
+        requires room { length self.old < 2 ^ 32 - 1 }
+        requires fits { length name.now ≤ 16 }
+        ensures ok { OnOk result (self.new ≡ with_pair self.old name.now (value_text value.now)) }
+        ensures short { OnOk result (length (key_text self.new) ≤ length (key_text self.old) + length name.now + length (value_text value.now) + 2) }
+    {
+        let start = self.values.len();
+        match push_value(&mut self.values, value) {
+            Ok(()) => {}
+            Err(refused) => {
+                self.values.clear();
+                self.spans.clear();
+                return Err(refused);
+            }
+        }
+        let end = self.values.len();
+        put_span(&mut self.spans, in_place(name), Span { start, end })?;
         Ok(())
     }
 

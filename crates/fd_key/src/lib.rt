@@ -8,6 +8,7 @@ mod given;
 mod key;
 mod of_message;
 mod span;
+mod value;
 
 pub use fault::{GivenFault, KeyFault};
 pub use fd_spelling::{

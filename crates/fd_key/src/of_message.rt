@@ -6,17 +6,18 @@ ghost use Rattle.fd_sections.specs.Parts.{sections_of};
 ghost use Rattle.fd_key.specs.Pairs.{with_pair, with_pair_if, key_text};
 ghost use Rattle.fd_key.specs.Given.{are_reserved};
 ghost use Rattle.fd_key.specs.Fields.{levels_of};
+ghost use Rattle.fd_key.specs.Values.{value_text};
 ghost use Rattle.fd_key.specs.Keys.{key_of, GivesKey, message_pairs, discipline_of, dated_pairs, has_date, date_of, time_of, param_in, levtype_of, step_of, number_of, stat_of, origin_pairs, field_pairs, pairs_in};
 
 use crate::fault::KeyFault;
 use crate::fields::{levels_of, ranges_text};
 use crate::given::Given;
 use crate::key::Key;
+use crate::value::Value;
 use fd_bytes::NoMemory;
 use fd_sections::Message;
-use fd_spelling::{date_text, is_date, is_time, levtype_text, param_text, step_text, time_text};
+use fd_spelling::{is_date, is_time};
 use fd_templates::{AnyFault, AnyProduct, Ensemble, Ident, Interval, Product, TemplateFault};
-use itoa::Buffer;
 use std::alloc::Global;
 
 /// The key of a message: `centre`, `date`, `time`, `type`, `param`, `levtype`, `levelist`, `step`, `number` and `stat` of its
@@ -89,53 +90,60 @@ fn origin_key(alloc: Global, ident: &Ident) -> Result<Key, NoMemory>
 {
     let mut key = Key::new(alloc)?;
     put_number(&mut key, "centre", u32::from(ident.centre))?;
-    let date = date_of(alloc, ident)?;
-    key.put("date", date.as_str())?;
-    let time = time_of(alloc, ident)?;
-    key.put("time", time.as_str())?;
+    let date = date_of(ident);
+    key.spell("date", &date)?;
+    let time = time_of(ident);
+    key.spell("time", &time)?;
     put_number(&mut key, "type", u32::from(ident.data_type))?;
     Ok(key)
 }
 
 /// The quantity, by its discipline, category and number.
-fn param_in(alloc: Global, discipline: u8, product: &Product) -> Result<String, NoMemory>
-    ensures text { IfOk result (λ s. string_bytes s ≡ param_in discipline product.now) }
-    ensures short { IfOk result (λ s. length (string_bytes s) ≤ 32) }
+#[tactic(auto, using(fd_spelling::proofs::ShortTexts::param_short))]
+fn param_in(discipline: u8, product: &Product) -> Value
+    ensures text { value_text result ≡ param_in discipline product.now }
+    ensures short { length (value_text result) ≤ 32 }
 {
-    param_text(alloc, discipline, product.category, product.parameter)
+    Value::Param {
+        discipline,
+        category: product.category,
+        number: product.parameter,
+    }
+}
+
+/// The types of the surfaces.
+#[tactic(auto, using(fd_spelling::proofs::ShortTexts::levtype_short))]
+fn levtype_of(product: &Product) -> Value
+    ensures text { value_text result ≡ levtype_of product.now }
+    ensures short { length (value_text result) ≤ 32 }
+{
+    Value::Levtype {
+        first: product.first_surface_type,
+        second: product.second_surface_type,
+    }
 }
 
 /// Puts the parameter and the types of the surfaces.
-fn put_field(
-    alloc: Global,
-    key: &mut Key,
-    discipline: u8,
-    product: &Product,
-) -> Result<(), NoMemory>
+fn put_field(key: &mut Key, discipline: u8, product: &Product) -> Result<(), NoMemory>
     requires { length key.old < 100 }
     ensures pairs { OnOk result (key.new ≡ with_pair (with_pair key.old (codes "param") (param_in discipline product.now)) (codes "levtype") (levtype_of product.now)) }
     ensures short { OnOk result (length (key_text key.new) ≤ length (key_text key.old) + 100) }
 {
-    let param = param_in(alloc, discipline, product)?;
-    key.put("param", param.as_str())?;
-    let levtype = levtype_text(
-        alloc,
-        product.first_surface_type,
-        product.second_surface_type,
-    )?;
-    key.put("levtype", levtype.as_str())?;
-    Ok(())
+    let param = param_in(discipline, product);
+    key.spell("param", &param)?;
+    let levtype = levtype_of(product);
+    key.spell("levtype", &levtype)
 }
 
 /// Puts the values of the surfaces, if there are any.
-fn put_levels(alloc: Global, key: &mut Key, product: &Product) -> Result<(), NoMemory>
+fn put_levels(key: &mut Key, product: &Product) -> Result<(), NoMemory>
     requires room { length key.old < 100 }
     requires fits { Fits product.now }
     ensures pairs { OnOk result (key.new ≡ with_pair_if key.old (codes "levelist") (levels_of product.now)) }
     ensures short { OnOk result (length (key_text key.new) ≤ length (key_text key.old) + 710) }
 {
-    match levels_of(alloc, product)? {
-        Some(levels) => key.put("levelist", levels.as_str()),
+    match levels_of(product) {
+        Some(levels) => key.spell("levelist", &Value::Surfaces(levels)),
         None => Ok(()),
     }
 }
@@ -171,10 +179,10 @@ fn base_key(
     ensures few { IfOk result (λ k. length k ≤ 8) }
 {
     let mut key = origin_key(alloc, ident)?;
-    put_field(alloc, &mut key, discipline, product)?;
-    put_levels(alloc, &mut key, product)?;
-    let step = step_of(alloc, product)?;
-    key.put("step", step.as_str())?;
+    put_field(&mut key, discipline, product)?;
+    put_levels(&mut key, product)?;
+    let step = step_of(product);
+    key.spell("step", &step)?;
     Ok(key)
 }
 
@@ -228,51 +236,52 @@ fn has_date(ident: &Ident) -> bool
 }
 
 /// The day of the reference time.
-fn date_of(alloc: Global, ident: &Ident) -> Result<String, NoMemory>
-    ensures text { IfOk result (λ s. string_bytes s ≡ date_of ident.now) }
-    ensures short { IfOk result (λ s. length (string_bytes s) ≤ 8) }
+#[tactic(auto, using(fd_spelling::proofs::ShortTexts::date_short))]
+fn date_of(ident: &Ident) -> Value
+    ensures text { value_text result ≡ date_of ident.now }
+    ensures short { length (value_text result) ≤ 8 }
 {
-    date_text(
-        alloc,
-        u32::from(ident.year),
-        u32::from(ident.month),
-        u32::from(ident.day),
-    )
+    Value::Date {
+        year: u32::from(ident.year),
+        month: u32::from(ident.month),
+        day: u32::from(ident.day),
+    }
 }
 
 /// The time of day of the reference time.
-fn time_of(alloc: Global, ident: &Ident) -> Result<String, NoMemory>
-    ensures text { IfOk result (λ s. string_bytes s ≡ time_of ident.now) }
-    ensures short { IfOk result (λ s. length (string_bytes s) ≤ 6) }
+#[tactic(auto, using(fd_spelling::proofs::ShortTexts::time_short))]
+fn time_of(ident: &Ident) -> Value
+    ensures text { value_text result ≡ time_of ident.now }
+    ensures short { length (value_text result) ≤ 6 }
 {
-    time_text(
-        alloc,
-        u32::from(ident.hour),
-        u32::from(ident.minute),
-        u32::from(ident.second),
-    )
+    Value::Time {
+        hour: u32::from(ident.hour),
+        minute: u32::from(ident.minute),
+        second: u32::from(ident.second),
+    }
 }
 
 /// Puts a number at a name.
+#[tactic(auto, using(fd_spelling::proofs::ShortTexts::number_short))]
 fn put_number(key: &mut Key, name: &str, number: u32) -> Result<(), NoMemory>
     requires room { length key.old < 2 ^ 32 - 1 }
     requires fits { length name.now ≤ 16 }
     ensures pair { OnOk result (key.new ≡ with_pair key.old name.now (decimal number)) }
     ensures short { OnOk result (length (key_text key.new) ≤ length (key_text key.old) + length name.now + 12) }
 {
-    key.put(name, Buffer::new().format(number))
+    key.spell(name, &Value::Number(number))
 }
 
 /// The forecast time.
-fn step_of(alloc: Global, product: &Product) -> Result<String, NoMemory>
-    ensures text { IfOk result (λ s. string_bytes s ≡ step_of product.now) }
-    ensures short { IfOk result (λ s. length (string_bytes s) ≤ 40) }
+#[tactic(auto, using(fd_spelling::proofs::ShortTexts::step_short))]
+fn step_of(product: &Product) -> Value
+    ensures text { value_text result ≡ step_of product.now }
+    ensures short { length (value_text result) ≤ 40 }
 {
     let number = product.forecast_time;
-    step_text(
-        alloc,
-        number.is_negative(),
-        u64::from(number.unsigned_abs()),
-        product.time_unit,
-    )
+    Value::Step {
+        negative: number.is_negative(),
+        number: u64::from(number.unsigned_abs()),
+        unit: product.time_unit,
+    }
 }

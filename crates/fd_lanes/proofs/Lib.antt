@@ -10,4 +10,5 @@ mod Running
 mod Placing
 mod Rows
 mod Crews
+mod Taking
 mod Answering

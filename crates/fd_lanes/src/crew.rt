@@ -55,11 +55,32 @@ pub struct Outcome<F: Send, T: Disk<F>, H: Shelf<F>> {
     pub crew: Crew<F, T, H>,
 }
 
+// Room for one lane.
+fn one_room<F: Send, H: Shelf<F>>(alloc: Global) -> Result<LaneRoom<F, H>, NoMemory>
+where
+    ensures { IfOk result IsRoom }
+{
+    let lenses = Lenses::new(alloc)?;
+    match Vec::with_capacity(alloc, 4096) {
+        Ok(ends) => Ok(Room { lenses, ends }),
+        Err(_) => Err(NoMemory),
+    }
+}
+
+// Lets go of rooms, in which no end stands.
+fn close_rooms<F: Send, H: Shelf<F>>(mut rooms: Vec<LaneRoom<F, H>>)
+where
+    requires { All IsRoom rooms.items }
+{
+    while let Some(room) = rooms.pop() {
+        let Room { lenses: _, ends } = room;
+        ends.destroy_empty();
+    }
+    rooms.destroy_empty();
+}
+
 // Room for each lane.
-fn rooms<F: Send + Drop, H: Shelf<F>>(
-    alloc: Global,
-    n: usize,
-) -> Result<Vec<LaneRoom<F, H>>, NoMemory>
+fn rooms<F: Send, H: Shelf<F>>(alloc: Global, n: usize) -> Result<Vec<LaneRoom<F, H>>, NoMemory>
 where
     ensures { IfOk result (λ v. (length v.items ≡ n) × All IsRoom v.items) }
 {
@@ -67,11 +88,13 @@ where
         return Err(NoMemory);
     };
     for _i in 0..n {
-        let lenses = Lenses::new(alloc)?;
-        let Ok(ends) = Vec::with_capacity(alloc, 4096) else {
-            return Err(NoMemory);
-        };
-        all.push_reserved(Room { lenses, ends });
+        match one_room::<F, H>(alloc) {
+            Ok(room) => all.push_reserved(room),
+            Err(NoMemory) => {
+                close_rooms::<F, H>(all);
+                return Err(NoMemory);
+            }
+        }
     }
     Ok(all)
 }
@@ -99,17 +122,27 @@ fn settled<F: Send, T: Disk<F>, Z: Sealed<F>, R: Wait>(
 type Vacant<J, A, E> = (Vec<J>, Vec<A>, Vec<E>);
 
 // Room for so many of each.
-fn vacant<J: Drop, A: Drop, E: Drop>(alloc: Global, n: usize) -> Result<Vacant<J, A, E>, NoMemory>
+fn vacant<J, A, E>(alloc: Global, n: usize) -> Result<Vacant<J, A, E>, NoMemory>
     ensures first { IfOk result (λ v. (v.0.items ≡ []) × (vec_capacity v.0 ≡ n)) }
     ensures others { IfOk result (λ v. (v.1.items ≡ []) × (vec_capacity v.1 ≡ n) × (v.2.items ≡ []) × (vec_capacity v.2 ≡ n)) }
 {
-    let first = Vec::with_capacity(alloc, n)?;
-    let second = Vec::with_capacity(alloc, n)?;
-    Ok((first, second, Vec::with_capacity(alloc, n)?))
+    let Ok(first) = Vec::with_capacity(alloc, n) else {
+        return Err(NoMemory);
+    };
+    let Ok(second) = Vec::with_capacity(alloc, n) else {
+        first.destroy_empty();
+        return Err(NoMemory);
+    };
+    let Ok(third) = Vec::with_capacity(alloc, n) else {
+        first.destroy_empty();
+        second.destroy_empty();
+        return Err(NoMemory);
+    };
+    Ok((first, second, third))
 }
 
 // All that is listed, as a number, and room for so many lanes.
-fn prepared<F: Send + Drop, T: Disk<F>, H: Shelf<F>, R: Wait>(
+fn prepared<F: Send, T: Disk<F>, H: Shelf<F>, R: Wait>(
     rt: &R,
     alloc: Global,
     dataset: &Dataset<F, T, H::Sealed>,
@@ -139,12 +172,15 @@ where
             back,
             ends,
         }),
-        Err(NoMemory) => Err(NoMemory),
+        Err(NoMemory) => {
+            close_rooms::<F, H>(rooms);
+            Err(NoMemory)
+        }
     }
 }
 
 // A job for each archiver, with a pass that is split off.
-fn sent_out<F: Send + Drop, T: Disk<F>, H: Shelf<F>>(
+fn sent_out<F: Send, T: Disk<F>, H: Shelf<F>>(
     dataset: &Dataset<F, T, H::Sealed>,
     pass: &mut DatasetPass<F, T, H::Sealed>,
     archivers: Vec<Archiver<F, H>>,
@@ -176,6 +212,7 @@ where
             ends,
         });
     }
+    rooms.destroy_empty();
     jobs
 }
 
@@ -245,7 +282,7 @@ where
 type Gathered<F, H> = (Vec<Archiver<F, H>>, Vec<Items<End<F>>>);
 
 // Takes the pass of each job in, and gives the archivers and the ends.
-fn taken_in<F: Send + Drop, T: Disk<F>, H: Shelf<F>>(
+fn taken_in<F: Send, T: Disk<F>, H: Shelf<F>>(
     dataset: &Dataset<F, T, H::Sealed>,
     pass: &mut DatasetPass<F, T, H::Sealed>,
     jobs: Vec<LaneJob<F, T, H>>,
@@ -262,7 +299,8 @@ where
     ensures archivers { result.0.items ≡ archivers_of jobs.items }
     ensures ends { result.1.items ≡ ends_of jobs.items }
 {
-    for job in jobs {
+    let mut left = jobs.into_iter();
+    while let Some(job) = left.next() {
         let Job {
             archiver,
             pass: other,
@@ -273,11 +311,12 @@ where
         archivers.push_reserved(archiver);
         ends.push_reserved(Items::from_vec(its));
     }
+    left.destroy_empty();
     (archivers, ends)
 }
 
 // Sends the lanes out, and takes them in. The pass has then seen all that is listed.
-fn run_crew<F: Send + Drop, T: Disk<F>, H: Shelf<F>, G: Gate, R: Threads + Wait + Sync>(
+fn run_crew<F: Send, T: Disk<F>, H: Shelf<F>, G: Gate, R: Threads + Wait + Sync>(
     rt: &R,
     alloc: Global,
     gate: &G,
@@ -336,7 +375,7 @@ where
 /// pass has then seen all that is listed.
 ///
 /// After `NoMemory` no step was taken, and the crew comes back; the pass may have seen more.
-pub fn lanes<F: Send + Drop, T: Disk<F>, H: Shelf<F>, G: Gate, R: Threads + Wait + Sync>(
+pub fn lanes<F: Send, T: Disk<F>, H: Shelf<F>, G: Gate, R: Threads + Wait + Sync>(
     rt: &R,
     alloc: Global,
     script: &Script,

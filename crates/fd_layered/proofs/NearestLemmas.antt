@@ -15,7 +15,8 @@ use Rattle.fd_ahead.specs.declared.located.Located.{Located}
 use Rattle.fd_ahead.specs.Places.{AreIn, IsIn}
 use Rattle.fd_outcome.specs.Asking.{Answer, Tables, all_answers}
 use Rattle.fd_outcome.specs.Layered.{Laid, all_places, laid_answers, places_under, table_before, tables_at}
-use Rattle.fd_retrieve.specs.Located.{AreAt, IsAt, IsLocated}
+use Rattle.fd_answering.specs.Located.{AreAt, IsAt}
+use Rattle.fd_retrieve.specs.Located.{IsLocated}
 use Rattle.fd_retrieve.specs.Open.{Open, table_in}
 use Rattle.fd_retrieve.proofs.LocatingLemmas.{bytes_at}
 use Rattle.fd_retrieve.proofs.Noticing.{zip_of}

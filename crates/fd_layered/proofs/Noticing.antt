@@ -23,7 +23,8 @@ use Rattle.fd_outcome.specs.Outcome.{answered}
 use Rattle.fd_outcome.specs.Store.{AreNames, table_at}
 use Rattle.fd_outcome.specs.declared.status.Status.{Status}
 use Rattle.fd_outcome.specs.declared.status.Status.TheVariants.{Done, Missed}
-use Rattle.fd_retrieve.specs.Located.{AreAt, IsAt, IsLocated}
+use Rattle.fd_answering.specs.Located.{AreAt, IsAt}
+use Rattle.fd_retrieve.specs.Located.{IsLocated}
 use Rattle.fd_retrieve.specs.Open.{Open, table_in}
 use Rattle.fd_recovery.specs.Crashing.{IsFirmTable}
 use Rattle.fd_retrieve.specs.Ready.{AreFirmOf}

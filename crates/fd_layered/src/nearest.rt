@@ -1,7 +1,7 @@
 // Where the newest fields of a request's keys stand, each in the nearest of its datasets that has it.
 ghost use Rattle.std.specs.Prelude.{◌≡◌, ◌≤◌, IfOk, IfErr};
 ghost use Rattle.fd_retrieve.specs.Located.{OnLost};
-ghost use Rattle.fd_retrieve.specs.Open.{IsDamagedAt};
+ghost use Rattle.fd_answering.specs.Damages.{IsDamagedAt};
 ghost use Rattle.fd_layered.specs.Chains.{first_some, firsts};
 ghost use Rattle.fd_layered.specs.Finding.{AreNearest};
 

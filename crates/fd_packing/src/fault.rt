@@ -1,5 +1,6 @@
-ghost use Rattle.std.specs.Prelude.{◌≡◌};
+ghost use Rattle.std.specs.Prelude.{◌≡◌, Some};
 ghost use Rattle.fd_packing.specs.Faults.{of_template};
+ghost use Rattle.fd_packing.specs.FaultTexts.{field_fault_text, pack_fault_text};
 
 use fd_bytes::NoMemory;
 use fd_templates::TemplateFault;
@@ -63,9 +64,6 @@ impl From<NoMemory> for PackFault {
 }
 
 impl fmt::Display for FieldFault {
-    ghost use Rattle.std.specs.Prelude.{Some};
-    ghost use Rattle.fd_packing.specs.FaultTexts.{field_fault_text};
-
     ghost output = { λ fault. Some (field_fault_text fault) };
 
     fn fmt<W: fmt::Write>(&self, f: &mut fmt::Formatter<W>) -> fmt::Result {
@@ -87,9 +85,6 @@ impl fmt::Display for FieldFault {
 impl Error for FieldFault {}
 
 impl fmt::Display for PackFault {
-    ghost use Rattle.std.specs.Prelude.{Some};
-    ghost use Rattle.fd_packing.specs.FaultTexts.{pack_fault_text};
-
     ghost output = { λ fault. Some (pack_fault_text fault) };
 
     fn fmt<W: fmt::Write>(&self, f: &mut fmt::Formatter<W>) -> fmt::Result {

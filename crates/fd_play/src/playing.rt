@@ -45,7 +45,7 @@ where
 }
 
 /// Runs the lanes over the one dataset that is open, with these archivers, one for each, and gives all back.
-fn run_lanes<F: Send + Drop, S: Store<F>, G: Gate, R: Threads + Wait + Sync>(
+fn run_lanes<F: Send, S: Store<F>, G: Gate, R: Threads + Wait + Sync>(
     rt: &R,
     alloc: Global,
     schema: &Schema,
@@ -90,7 +90,7 @@ where
 }
 
 /// Runs the lanes over the one dataset that is open, with an archiver for each, and gives all back.
-fn play_opened<F: Send + Drop, S: Store<F>, G: Gate, R: Threads + Wait + Sync>(
+fn play_opened<F: Send, S: Store<F>, G: Gate, R: Threads + Wait + Sync>(
     rt: &R,
     alloc: Global,
     schema: &Schema,
@@ -131,7 +131,7 @@ where
 ///
 /// After an `Err` no lane has run, and each dataset holds what it held: memory or a call of the store was refused, or what
 /// the dataset has is damaged. A crash then leaves what a crash before may have left, or of the dataset what it held.
-pub fn play<F: Send + Drop, S: Store<F>, G: Gate, R: Threads + Wait + Sync>(
+pub fn play<F: Send, S: Store<F>, G: Gate, R: Threads + Wait + Sync>(
     rt: &R,
     alloc: Global,
     schema: &Schema,

@@ -1,5 +1,6 @@
-ghost use Rattle.std.specs.Prelude.{◌≡◌};
+ghost use Rattle.std.specs.Prelude.{◌≡◌, Some};
 ghost use Rattle.fd_request.specs.declared.fault.Refusal.TheVariants as refusals;
+ghost use Rattle.fd_request.specs.FaultTexts.{request_kind_text, request_fault_text};
 
 use fd_bytes::Starved;
 use std::error::Error;
@@ -52,9 +53,6 @@ impl<N: Starved> From<N> for Refusal {
 }
 
 impl fmt::Display for RequestKind {
-    ghost use Rattle.std.specs.Prelude.{Some};
-    ghost use Rattle.fd_request.specs.FaultTexts.{request_kind_text};
-
     ghost output = { λ kind. Some (request_kind_text kind) };
 
     fn fmt<W: fmt::Write>(&self, f: &mut fmt::Formatter<W>) -> fmt::Result {
@@ -72,9 +70,6 @@ impl fmt::Display for RequestKind {
 }
 
 impl fmt::Display for RequestFault {
-    ghost use Rattle.std.specs.Prelude.{Some};
-    ghost use Rattle.fd_request.specs.FaultTexts.{request_fault_text};
-
     ghost output = { λ fault. Some (request_fault_text fault) };
 
     fn fmt<W: fmt::Write>(&self, f: &mut fmt::Formatter<W>) -> fmt::Result {

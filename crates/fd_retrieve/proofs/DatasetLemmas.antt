@@ -1,5 +1,5 @@
 -- Datasets that were opened: by their texts, and by their segments.
-use Rattle.std.proofs.Common.{◌≡◌, ◌∙◌, ◌<◌, ◌≤◌, ◌+◌, ◌||◌, ℕ, zero, suc, Bool, true, false, List, [], ◌∷◌, length, map, drop, get_or, All, Option, Some, None, inl, inr, refl, sym, ap, subst, arith, drop-cons, if◌then◌else◌}
+use Rattle.std.proofs.Common.{◌≡◌, ◌∙◌, ◌<◌, ◌+◌, ◌||◌, ℕ, zero, suc, Bool, true, false, List, [], ◌∷◌, length, map, drop, get_or, All, Option, Some, None, inl, inr, refl, sym, ap, subst, arith, drop-cons, if◌then◌else◌}
 use Rattle.std.specs.Prelude.{◌⊎◌, slice_get, Contains}
 use Rattle.std.specs.Str.{bytes_eq}
 use Rattle.std.proofs.lemmas.Slice.Eq.{bytes_eq-Decides}
@@ -21,46 +21,17 @@ use Rattle.fd_recovery.specs.Recovered.{files_of}
 use Rattle.fd_retriever.specs.Answers.{StandsIn}
 use Rattle.fd_outcome.specs.Causes.{BadFile}
 use Rattle.fd_outcome.specs.Store.{Stands}
-use Rattle.fd_retrieve.specs.Open.{AreListed, IsDamaged, IsFirstNamed, Open, names_of, table_in, table_of}
+use Rattle.fd_answering.specs.Damages.{IsDamaged}
+use Rattle.fd_retrieve.specs.Open.{AreListed, Open, names_of, table_in, table_of}
 
--- none of the first datasets has the text
-pub record IsPast (os : List Open) (name : List ℕ) (i : ℕ) : Type 0 where
-  pub table : table_in os name ≡ table_in (drop i os) name
-  pub among : is_among (names_of os) name ≡ is_among (names_of (drop i os)) name
-
-pub past_none : (os : List Open) (name : List ℕ) → IsPast os name 0
-past_none os name = record { table = refl; among = refl }
-
-split : (os : List Open) (i : ℕ) (o : Open) → i < length os → o ≡ get_or os i o → drop i os ≡ o ∷ drop (i + 1) os
+-- the datasets from one on
+pub split : (os : List Open) (i : ℕ) (o : Open) → i < length os → o ≡ get_or os i o → drop i os ≡ o ∷ drop (i + 1) os
 split os i o within is = let up : suc i ≡ i + 1 = omega arith in drop-cons os i o within ∙ ap (λ x. x ∷ drop (suc i) os) (sym is) ∙ ap (λ k. o ∷ drop k os) up
-
-pub past_more : (os : List Open) (name : List ℕ) (i : ℕ) (o : Open) → IsPast os name i → i < length os → o ≡ get_or os i o → bytes_eq name o.name ≡ false → IsPast os name (i + 1)
-past_more os name i o past within is differs = record {
-  table = past.table ∙ ap (λ l. table_in l name) (split os i o within is) ∙ ap (λ b. if b then table_of o else table_in (drop (i + 1) os) name) differs;
-  among = past.among ∙ ap (λ l. is_among (names_of l) name) (split os i o within is) ∙ ap (λ b. b || is_among (names_of (drop (i + 1) os)) name) differs;
-}
 
 pub at_get : {A : Type 0} (xs : List A) (i : ℕ) (x : A) → i < length xs → x ≡ get_or xs i x → slice_get xs i ≡ Some x
 at_get [] i x lt is = absurd (omega (arith, lt))
 at_get (y ∷ ys) zero x lt is = ap (λ z. Some z) (sym is)
 at_get (y ∷ ys) (suc i) x lt is = at_get ys i x (omega (arith, lt)) is
-
-pub first_named : (os : List Open) (name : List ℕ) (i : ℕ) (o : Open) → IsPast os name i → i < length os → o ≡ get_or os i o → bytes_eq name o.name ≡ true → IsFirstNamed os name i
-first_named os name i o past within is same = (
-  o,
-  at_get os i o within is,
-  sym ((bytes_eq-Decides name o.name).0 same),
-  past.table ∙ ap (λ l. table_in l name) (split os i o within is) ∙ ap (λ b. if b then table_of o else table_in (drop (i + 1) os) name) same,
-)
-
-pub past_all : (os : List Open) (name : List ℕ) (i : ℕ) → IsPast os name i → length os ≤ i → is_among (names_of os) name ≡ false
-past_all os name i past all = past.among ∙ ap (λ l. is_among (names_of l) name) (nothing os i all)
-  where
-    nothing : (xs : List Open) (k : ℕ) → length xs ≤ k → drop k xs ≡ []
-    nothing [] zero le = refl
-    nothing [] (suc k) le = refl
-    nothing (x ∷ xs) zero le = absurd (omega (arith, le))
-    nothing (x ∷ xs) (suc k) le = nothing xs k (omega (arith, le))
 
 -- ---- what is found in a dataset
 

@@ -10,12 +10,8 @@ pub mod DamageLemmas
 pub mod ReadyLemmas
 pub mod RequestLemmas
 pub mod Unread
-pub mod AnsweringLemmas
-pub mod JoinedLemmas
-pub mod RoundLemmas
 pub mod LocatingLemmas
 pub mod Noticing
-pub mod CopiedLemmas
 pub mod PrepareLemmas
 pub mod CountingLemmas
 pub mod Plain

@@ -1,6 +1,14 @@
 -- The keys of a request, located dataset by dataset.
-use Rattle.std.proofs.Common.{◌≡◌, ◌≢◌, ◌∙◌, ◌<◌, ◌≤◌, ◌+◌, ◌⊎◌, inl, inr, ℕ, zero, suc, Bool, true, false, List, [], ◌∷◌, ◌++◌, length, map, get_or, All, Option, Some, None, refl, sym, ap, subst, arith, slice_get}
-use Rattle.std.specs.Prelude.{IfSome, MatchOption, option_map}
+use Rattle.std.proofs.Common.{◌≡◌, ◌≢◌, ◌∙◌, ◌<◌, ◌≤◌, ◌+◌, ◌⊎◌, ◌||◌, inl, inr, ℕ, zero, suc, true, false, cond, List, [], ◌∷◌, ◌++◌, length, map, drop, get_or, All, Option, Some, None, refl, sym, ap, subst, arith, slice_get, if◌then◌else◌}
+use Rattle.std.specs.Prelude.{IfSome, String, Vec, option_map, string_bytes}
+use Rattle.std.specs.BTreeMap.{BTreeMap, Updates, get_by_text, is_at}
+use Rattle.std.specs.Map.{lookup}
+use Rattle.std.specs.Cmp.Lexicographic.{slice_cmp}
+use Rattle.std.specs.Ordering.{nat_cmp}
+use Rattle.std.specs.String.{string_cmp}
+use Rattle.std.proofs.lemmas.Map.Text.{btree_map_updates_text}
+use Rattle.std.specs.Str.{bytes_eq}
+use Rattle.std.specs.declared.alloc.Global.{Global}
 use Rattle.std.specs.List.{AllZip}
 use Rattle.std.proofs.Math.ListN.{set, get_or-append}
 use Rattle.std.proofs.Math.Seq.{get_or-append_seam}
@@ -9,6 +17,8 @@ use Rattle.std.proofs.Math.ListN.{length-set}
 use Rattle.std.proofs.Common.{length-append}
 use Rattle.std.proofs.lemmas.List.Elements.{All-head, All-tail}
 use Rattle.std.proofs.lemmas.Option.{slice_get-map}
+use Rattle.std.proofs.lemmas.Slice.Eq.{bytes_eq-Decides}
+use Rattle.fd_disk.proofs.NameLemmas.{is_or_not}
 use Rattle.fd_entries.specs.declared.batch.Pair.{Pair}
 use Rattle.fd_entries.specs.Batches.{newest}
 use Rattle.fd_dataset.specs.Listed.{listing}
@@ -22,11 +32,12 @@ use Rattle.fd_finding.specs.declared.spot.Spot.{Spot}
 use Rattle.fd_finding.specs.Spots.{IsAnswer, IsWithin, place_key}
 use Rattle.fd_outcome.specs.Asking.{Answer, answers, is_among}
 use Rattle.fd_ahead.specs.declared.located.Located.{Located}
-use Rattle.fd_retrieve.specs.Finding.{asked_of_all}
-use Rattle.fd_retrieve.specs.Located.{AreAt, AreLocated, AreLocatedBy, AreNumbersOf, IsAt, IsFilled, IsGroup, IsIn, IsLocated, IsLocatedBy, IsNumberOf, located_in}
-use Rattle.fd_retrieve.specs.Open.{IsFirstNamed, Open, names_of, table_in}
-use Rattle.fd_retrieve.proofs.AnsweringLemmas.{as_long, as_many, numbered, there_is}
-use Rattle.fd_retrieve.proofs.DatasetLemmas.{closed_table, get_within, tells_of}
+use Rattle.fd_answering.specs.Finding.{asked_of_all}
+use Rattle.fd_answering.specs.Located.{AreAt, IsAt}
+use Rattle.fd_retrieve.specs.Located.{AreDealt, AreGroups, AreLocated, AreLocatedBy, AreNumbersOf, ArePlacesOf, IsFilled, IsGroup, IsIn, IsLocated, IsLocatedBy, IsNumberOf, keys_in, located_in}
+use Rattle.fd_retrieve.specs.Open.{IsFirstNamed, Open, names_of, table_in, table_of}
+use Rattle.fd_answering.proofs.AnsweringLemmas.{as_long, as_many, numbered, there_is}
+use Rattle.fd_retrieve.proofs.DatasetLemmas.{at_get, closed_table, get_within, split, tells_of}
 use Rattle.fd_retrieve.proofs.Staying.{some_is}
 
 -- ---- lists
@@ -108,28 +119,29 @@ one_more os n place (Some m) before after number by other own = elim (same_or_no
 -- ---- all keys
 
 -- one dataset more was searched
-pub located_more : (os : List Open) (ps : List Place) (ns : List (Option ℕ)) (n c : ℕ) (o : Open) (group : List Place) (positions : List ℕ) (found : List (Option Spot)) (before after : List (Option Located)) → AreNumbersOf os ps ns → slice_get os n ≡ Some o → c ≡ length ps
-    → IsGroup n ps ns (length ps) group positions → ((t : List (List Pair)) → Tells (map listing o.shown) t → AllZip (IsAnswer o.shown t) (map place_key group) found) → All (λ s. IfSome s (IsWithin o.shown)) found
-    → IsFilled n ns positions found c before after → AreLocatedBy os ps ns n before → AreLocatedBy os ps ns (n + 1) after
-located_more os ps ns n c o group positions found before after numbers at whole sorted answer within fills by = record {
+pub located_more : (os : List Open) (ps : List Place) (ns : List (Option ℕ)) (n : ℕ) (o : Open) (group : List Place) (keys : List ℕ) (found : List (Option Spot)) (before after : List (Option Located)) → AreNumbersOf os ps ns → slice_get os n ≡ Some o → IsGroup ns (length ps) n keys
+    → ArePlacesOf ps keys (length keys) group → ((t : List (List Pair)) → Tells (map listing o.shown) t → AllZip (IsAnswer o.shown t) (map place_key group) found) → All (λ s. IfSome s (IsWithin o.shown)) found
+    → IsFilled n keys found (length keys) before after → AreLocatedBy os ps ns n before → AreLocatedBy os ps ns (n + 1) after
+located_more os ps ns n o group keys found before after numbers at sorted placed answer within fills by = record {
   long = fills.long ∙ by.long;
   each = λ k p d e lt.
-      one_more os n (seen_place (get_or ps k p)) (get_or ns k d) (get_or before k e) (get_or after k e) (numbers.each k p d lt) (by.each k p d e lt) (λ differs. fills.others k d e (let l = by.long in omega (arith, l, lt)) differs) (own k p d e lt);
+      one_more os n (seen_place (get_or ps k p)) (get_or ns k d) (get_or before k e) (get_or after k e) (numbers.each k p d lt) (by.each k p d e lt)
+      (λ differs. fills.others k e (let l = by.long in omega (arith, l, lt)) (λ j there. differs (sorted.own j k d there))) (own k p d e lt);
 }
   where
     own : (k : ℕ) (p : Place) (d : Option ℕ) (e : Option Located) → k < length ps → get_or ns k d ≡ Some n → Own os n (seen_place (get_or ps k p)) (get_or after k e)
     own k p d e lt is =
-        let f = fills.own k d e (omega (arith, lt, whole)) is in
-        let q = sorted.each k p d lt is in
-        let position = get_or positions k 0 in
-        let key : slice_get (map place_key group) position ≡ Some (place_key q.0) = slice_get-map place_key group position ∙ ap (option_map place_key) q.1 in (
-          f.0,
-          f.2,
+        let there = sorted.there k d lt is in
+        let f = fills.own there.0 k e (get_within keys there.0 k there.1) there.1 in
+        let q = placed.each f.0 k p (get_within keys f.0 k f.2) f.2 in
+        let key : slice_get (map place_key group) f.0 ≡ Some (place_key q.0) = slice_get-map place_key group f.0 ∙ ap (option_map place_key) q.1 in (
+          f.1,
+          f.4,
           record {
             dataset = o;
             at = at;
-            answer = λ t told. subst (λ (x : Texts). IsAnswer o.shown t (file_key x) f.0) q.2 (zip_at (IsAnswer o.shown t) (map place_key group) found position (place_key q.0) f.0 (answer t told) key f.1);
-            within = got (λ s. IfSome s (IsWithin o.shown)) found position f.0 within f.1;
+            answer = λ t told. subst (λ (x : Texts). IsAnswer o.shown t (file_key x) f.1) q.2 (zip_at (IsAnswer o.shown t) (map place_key group) found f.0 (place_key q.0) f.1 (answer t told) key f.3);
+            within = got (λ s. IfSome s (IsWithin o.shown)) found f.0 f.1 within f.3;
           },
         )
 
@@ -158,10 +170,61 @@ located_all os ps ns count located all numbers by = record {
 
 -- ---- loops
 
--- what a search by a text tells
-pub number_is : (os : List Open) (name : List ℕ) (o : Option ℕ) → MatchOption o (is_among (names_of os) name ≡ false) (λ n. IsFirstNamed os name n) → IsNumberOf os name o
-number_is os name None is = is
-number_is os name (Some n) is = is
+-- what is noted at a text once the datasets from one on were noted
+abbrev pub IsNumberFrom : List Open → ℕ → List ℕ → Option ℕ → Type 0
+IsNumberFrom os left name None = is_among (names_of (drop left os)) name ≡ false
+IsNumberFrom os left name (Some n) = (o : Open) × (slice_get os n ≡ Some o) × (o.name ≡ name) × (table_in (drop left os) name ≡ table_of o)
+
+-- what a note at a text changes
+pub noted_at : (old new : BTreeMap (String Global) ℕ) (name : List ℕ) (text : String Global) (number : ℕ) → string_bytes text ≡ name → Updates string_cmp old new text (Some number) → (t : List ℕ) → get_by_text new t ≡ cond (bytes_eq name t) (Some number) (get_by_text old t)
+noted_at old new name text number is updates t = btree_map_updates_text (string_bytes text) old new (Some number) updates t ∙ ap (λ (n : List ℕ). cond (bytes_eq n t) (Some number) (get_by_text old t)) is
+
+-- before the last dataset is noted
+pub noted_none : (os : List Open) (left : ℕ) (noted : BTreeMap (String Global) ℕ) → length os ≤ left → noted.entries ≡ [] → (t : List ℕ) → IsNumberFrom os left t (get_by_text noted t)
+noted_none os left noted all empty t = subst (IsNumberFrom os left t) (sym (ap (lookup (is_at (λ (k : String Global). slice_cmp nat_cmp t (string_bytes k)))) empty)) (ap (λ (l : List Open). is_among (names_of l) t) (nothing os left all))
+  where
+    nothing : (xs : List Open) (k : ℕ) → length xs ≤ k → drop k xs ≡ []
+    nothing [] zero le = refl
+    nothing [] (suc k) le = refl
+    nothing (x ∷ xs) zero le = absurd (omega (arith, le))
+    nothing (x ∷ xs) (suc k) le = nothing xs k (omega (arith, le))
+
+-- one dataset more was noted
+module _ (os : List Open) (left : ℕ) (o : Open) (t : List ℕ) (lt : left < length os) (is : o ≡ get_or os left o) where
+  behind : bytes_eq t o.name ≡ false → (a : Option ℕ) → IsNumberFrom os (left + 1) t a → IsNumberFrom os left t a
+  behind differs None from = ap (λ (l : List Open). is_among (names_of l) t) (split os left o lt is) ∙ ap (λ b. b || is_among (names_of (drop (left + 1) os)) t) differs ∙ from
+  behind differs (Some n) from = (from.0, from.1, from.2, ap (λ (l : List Open). table_in l t) (split os left o lt is) ∙ ap (λ b. if b then table_of o else table_in (drop (left + 1) os) t) differs ∙ from.3)
+
+  here_noted : bytes_eq t o.name ≡ true → IsNumberFrom os left t (Some left)
+  here_noted same = (o, at_get os left o lt is, sym ((bytes_eq-Decides t o.name).0 same), ap (λ (l : List Open). table_in l t) (split os left o lt is) ∙ ap (λ b. if b then table_of o else table_in (drop (left + 1) os) t) same)
+
+  pub noted_more : (name : List ℕ) (a b : Option ℕ) → name ≡ o.name → b ≡ cond (bytes_eq name t) (Some left) a → IsNumberFrom os (left + 1) t a → IsNumberFrom os left t b
+  noted_more name a b named notes from = elim (is_or_not (bytes_eq name t)) [
+    | inl yes ↦ subst (IsNumberFrom os left t) (sym (notes ∙ ap (λ c. cond c (Some left) a) yes)) (here_noted ((bytes_eq-Decides t o.name).1 (sym ((bytes_eq-Decides name t).0 yes) ∙ named)))
+    | inr no ↦ subst (IsNumberFrom os left t) (sym (notes ∙ ap (λ c. cond c (Some left) a) no)) (behind (apart no) a from)
+  ]
+    where
+      apart : bytes_eq name t ≡ false → bytes_eq t o.name ≡ false
+      apart no = elim (is_or_not (bytes_eq t o.name)) [
+        | inl same ↦ absurd (cc (sym ((bytes_eq-Decides name t).1 (named ∙ sym ((bytes_eq-Decides t o.name).0 same))) ∙ no))
+        | inr differs ↦ differs
+      ]
+
+-- all datasets were noted
+pub noted_all : (os : List Open) (left : ℕ) (t : List ℕ) (a : Option ℕ) → left ≡ 0 → IsNumberFrom os left t a → IsNumberOf os t a
+noted_all os left t None all from = ap (λ (k : ℕ). is_among (names_of (drop k os)) t) (sym all) ∙ from
+noted_all os left t (Some n) all from = (from.0, from.1, from.2, ap (λ (k : ℕ). table_in (drop k os) t) (sym all) ∙ from.3)
+
+-- a number is that of a dataset
+pub numbers_within : (os : List Open) (ps : List Place) (ns : List (Option ℕ)) → AreNumbersOf os ps ns → (k : ℕ) (d : Option ℕ) → k < length ns → IfSome (get_or ns k d) (λ n. n < length os)
+numbers_within os ps ns numbers k d lt =
+    let less : k < length ps = let l = numbers.long in omega (arith, l, lt) in
+    let p = (there_is ps k less).0 in
+    go (seen_place (get_or ps k p)).dataset (get_or ns k d) (numbers.each k p d less)
+  where
+    go : (name : List ℕ) (m : Option ℕ) → IsNumberOf os name m → IfSome m (λ n. n < length os)
+    go name None is = tt
+    go name (Some n) is = get_within os n is.0 is.1
 
 -- one number more
 pub number_more : (os : List Open) (ps : List Place) (ns more : List (Option ℕ)) (i : ℕ) (p : Place) (n : Option ℕ) → length ns ≡ i → i < length ps → p ≡ get_or ps i p → more ≡ ns ++ n ∷ [] → IsNumberOf os (seen_place p).dataset n
@@ -181,62 +244,133 @@ none_more ls more i long pushed so_far k e le = ap (λ (l : List (Option Located
   | inr same ↦ ap (λ (j : ℕ). get_or (ls ++ None ∷ []) j e) (same ∙ sym long) ∙ get_or-append_seam ls None [] e
 ]
 
--- one place more was put into the group, or left out
-module _ (n : ℕ) (ps : List Place) (ns : List (Option ℕ)) (i : ℕ) (group after : List Place) (positions more : List ℕ) (p : Place) (m : Option ℕ) (wanted : Bool) (within : i < length ps) (among : i < length ns) (is : p ≡ get_or ps i p) (pushed : more ≡ positions ++ length group ∷ [])
-    (no : get_or ns i m ≡ Some n → wanted ≡ true) (put : wanted ≡ true → (q : Place) × (after ≡ group ++ q ∷ []) × (seen_place q ≡ seen_place p)) (left : wanted ≡ false → after ≡ group) where
-  grown : (ys : List Place) × (after ≡ group ++ ys)
-  grown = (elim wanted as (λ w. wanted ≡ w → (ys : List Place) × (after ≡ group ++ ys)) [
-    | true ↦ λ e. ((put e).0 ∷ [], (put e).1)
-    | false ↦ λ e. ([], left e ∙ sym (nothing group))
-  ]) refl
-    where
-      nothing : (xs : List Place) → xs ++ [] ≡ xs
-      nothing [] = refl
-      nothing (x ∷ xs) = ap (λ ys. x ∷ ys) (nothing xs)
+-- one group more without keys
+pub empty_more : (gs more : List (Vec ℕ Global)) (g : Vec ℕ Global) → more ≡ gs ++ g ∷ [] → g.items ≡ [] → ((n : ℕ) → keys_in gs n ≡ []) → (n : ℕ) → keys_in more n ≡ []
+empty_more gs more g pushed none so_far n = ap (λ (l : List (Vec ℕ Global)). keys_in l n) pushed ∙ go gs so_far n
+  where
+    go : (xs : List (Vec ℕ Global)) → ((n : ℕ) → keys_in xs n ≡ []) → (n : ℕ) → keys_in (xs ++ g ∷ []) n ≡ []
+    go [] h zero = none
+    go [] h (suc n) = refl
+    go (x ∷ xs) h zero = h zero
+    go (x ∷ xs) h (suc n) = go xs (λ m. h (suc m)) n
 
-  pub group_more : IsGroup n ps ns i group positions → IsGroup n ps ns (i + 1) after more
-  group_more sorted = record {
-    long = ap length pushed ∙ (let l = sorted.long in omega (arith, l, length-append positions (length group ∷ [])));
-    within = λ k d le same. let there = each k p d le same in get_within after (get_or more k 0) there.0 there.1;
-    each = each;
+-- one key more in its group
+put_here : (gs : List (Vec ℕ Global)) (at : ℕ) (g new : Vec ℕ Global) (key : ℕ) → at < length gs → g ≡ get_or gs at g → new.items ≡ g.items ++ key ∷ [] → keys_in (set gs at new) at ≡ keys_in gs at ++ key ∷ []
+put_here [] at g new key lt is items = absurd (omega (arith, lt))
+put_here (x ∷ gs) zero g new key lt is items = items ∙ ap (λ (v : Vec ℕ Global). v.items ++ key ∷ []) is
+put_here (x ∷ gs) (suc at) g new key lt is items = put_here gs at g new key (omega (arith, lt)) is items
+
+-- the other groups
+put_apart : (gs : List (Vec ℕ Global)) (at n : ℕ) (new : Vec ℕ Global) → at ≢ n → keys_in (set gs at new) n ≡ keys_in gs n
+put_apart [] at n new apart = refl
+put_apart (x ∷ gs) zero zero new apart = absurd (apart refl)
+put_apart (x ∷ gs) zero (suc n) new apart = refl
+put_apart (x ∷ gs) (suc at) zero new apart = refl
+put_apart (x ∷ gs) (suc at) (suc n) new apart = put_apart gs at n new (λ e. apart (ap suc e))
+
+-- a key is put into the group with a number, and the others are as before
+pub put_own : (gs : List (Vec ℕ Global)) (of : Option ℕ) (at n : ℕ) (g new : Vec ℕ Global) (key : ℕ) → of ≡ Some at → of ≡ Some n → at < length gs → g ≡ get_or gs at g → new.items ≡ g.items ++ key ∷ [] → keys_in (set gs at new) n ≡ keys_in gs n ++ key ∷ []
+put_own gs of at n g new key is same lt read items = subst (λ (m : ℕ). keys_in (set gs at new) m ≡ keys_in gs m ++ key ∷ []) (some_is at n (sym is ∙ same)) (put_here gs at g new key lt read items)
+
+pub put_others : (gs : List (Vec ℕ Global)) (of : Option ℕ) (at n : ℕ) (new : Vec ℕ Global) → of ≡ Some at → (of ≡ Some n → ⊥) → keys_in (set gs at new) n ≡ keys_in gs n
+put_others gs of at n new is differs = put_apart gs at n new (λ same. differs (is ∙ ap (λ (k : ℕ). Some k) same))
+
+-- before the first key is put into its group
+pub groups_none : (ns : List (Option ℕ)) (gs : List (Vec ℕ Global)) → ((n : ℕ) → keys_in gs n ≡ []) → AreGroups ns 0 gs
+groups_none ns gs none n = record {
+  there = λ k d lt same. absurd (omega (arith, lt));
+  within = λ j k at. absurd (cc (sym (ap (λ (l : List ℕ). slice_get l j) (none n)) ∙ at));
+  own = λ j k d at. absurd (cc (sym (ap (λ (l : List ℕ). slice_get l j) (none n)) ∙ at));
+}
+
+came : (xs : List ℕ) (x j y : ℕ) → slice_get (xs ++ x ∷ []) j ≡ Some y → (slice_get xs j ≡ Some y) ⊎ (y ≡ x)
+came [] x zero y at = inr (sym (some_is x y at))
+came [] x (suc j) y at = absurd (cc at)
+came (z ∷ xs) x zero y at = inl at
+came (z ∷ xs) x (suc j) y at = came xs x j y at
+
+some_or_not : (m : Option ℕ) (n : ℕ) → (m ≡ Some n) ⊎ (m ≡ Some n → ⊥)
+some_or_not None n = inr (λ e. absurd (cc e))
+some_or_not (Some m) n = elim (same_or_not m n) [ inl e ↦ inl (ap (λ (k : ℕ). Some k) e) | inr ne ↦ inr (λ e. ne (some_is m n e)) ]
+
+-- one key more was put into its group, if it has one
+module _ (ns : List (Option ℕ)) (i : ℕ) (m : Option ℕ) (lt : i < length ns) where
+  added : (n : ℕ) (keys : List ℕ) → get_or ns i m ≡ Some n → IsGroup ns i n keys → IsGroup ns (i + 1) n (keys ++ i ∷ [])
+  added n keys is group = record {
+    there = λ k d le same. elim (before_or_at k i le) [
+      | inl less ↦ let old = group.there k d less same in (old.0, stays keys (i ∷ []) old.0 k old.1)
+      | inr here ↦ (length keys, last keys i ∙ ap (λ (q : ℕ). Some q) (sym here))
+    ];
+    within = λ j k at. elim (came keys i j k at) [ inl old ↦ let l = group.within j k old in omega (arith, l) | inr new ↦ omega (arith, new) ];
+    own = λ j k d at. elim (came keys i j k at) [ inl old ↦ group.own j k d old | inr new ↦ ap (λ (q : ℕ). get_or ns q d) new ∙ (default ns i d m lt ∙ is) ];
   }
-    where
-      each : (k : ℕ) (r : Place) (d : Option ℕ) → k < i + 1 → get_or ns k d ≡ Some n → (q : Place) × (slice_get after (get_or more k 0) ≡ Some q) × (seen_place q ≡ seen_place (get_or ps k r))
-      each k r d le same = elim (before_or_at k i le) [
-        | inl less ↦
-            let old = sorted.each k r d less same in
-            let at : get_or more k 0 ≡ get_or positions k 0 = ap (λ (l : List ℕ). get_or l k 0) pushed ∙ get_or-append positions (length group ∷ []) 0 k (let l = sorted.long in omega (arith, l, less)) in
-            (old.0, subst (λ (j : ℕ). slice_get after j ≡ Some old.0) (sym at) (subst (λ (l : List Place). slice_get l (get_or positions k 0) ≡ Some old.0) (sym grown.1) (stays group grown.0 (get_or positions k 0) old.0 old.1)), old.2)
-        | inr here ↦
-            let new = put (no (default ns i m d among ∙ (ap (λ (j : ℕ). get_or ns j d) (sym here) ∙ same))) in
-            let at : get_or more k 0 ≡ length group = ap (λ (l : List ℕ). get_or l k 0) pushed ∙ (ap (λ (j : ℕ). get_or (positions ++ length group ∷ []) j 0) (here ∙ sym sorted.long) ∙ get_or-append_seam positions (length group) [] 0) in
-            let place : p ≡ get_or ps k r = is ∙ (ap (λ (j : ℕ). get_or ps j p) (sym here) ∙ default ps k p r (omega (arith, here, within))) in
-            (new.0, subst (λ (j : ℕ). slice_get after j ≡ Some new.0) (sym at) (subst (λ (l : List Place). slice_get l (length group) ≡ Some new.0) (sym new.1) (last group new.0)), new.2 ∙ ap seen_place place)
-      ]
 
--- one key more was looked at
-module _ (n : ℕ) (ns : List (Option ℕ)) (positions : List ℕ) (found : List (Option Spot)) (i : ℕ) (first before after : List (Option Located)) (m : Option ℕ) (old new : Option Located) (among : i < length ns) (lt : i < length before)
-    (is : after ≡ set before i new) (own : get_or ns i m ≡ Some n → (s : Option Spot) × (slice_get found (get_or positions i 0) ≡ Some s) × (new ≡ located_in n s)) (other : (get_or ns i m ≡ Some n → ⊥) → new ≡ get_or before i old) where
-  here : (k : ℕ) (e : Option Located) → k ≡ i → get_or after k e ≡ new
-  here k e same = ap (λ (l : List (Option Located)). get_or l k e) is ∙ (ap (λ (j : ℕ). get_or (set before i new) j e) same ∙ get_or-set_same before i new e lt)
+  left_out : (n : ℕ) (keys : List ℕ) → (get_or ns i m ≡ Some n → ⊥) → IsGroup ns i n keys → IsGroup ns (i + 1) n keys
+  left_out n keys apart group = record {
+    there = λ k d le same. elim (before_or_at k i le) [
+      | inl less ↦ group.there k d less same
+      | inr here ↦ absurd (apart (default ns i m d lt ∙ (ap (λ (q : ℕ). get_or ns q d) (sym here) ∙ same)))
+    ];
+    within = λ j k at. let l = group.within j k at in omega (arith, l);
+    own = group.own;
+  }
 
-  there : (k : ℕ) (e : Option Located) → k ≢ i → get_or after k e ≡ get_or before k e
-  there k e apart = ap (λ (l : List (Option Located)). get_or l k e) is ∙ get_or-set_other before i k new e apart
+  pub groups_more : (gs after : List (Vec ℕ Global)) → ((n : ℕ) → get_or ns i m ≡ Some n → keys_in after n ≡ keys_in gs n ++ i ∷ []) → ((n : ℕ) → (get_or ns i m ≡ Some n → ⊥) → keys_in after n ≡ keys_in gs n) → AreGroups ns i gs → AreGroups ns (i + 1) after
+  groups_more gs after own others so_far n = elim (some_or_not (get_or ns i m) n) [
+    | inl same ↦ subst (IsGroup ns (i + 1) n) (sym (own n same)) (added n (keys_in gs n) same (so_far n))
+    | inr apart ↦ subst (IsGroup ns (i + 1) n) (sym (others n apart)) (left_out n (keys_in gs n) apart (so_far n))
+  ]
 
-  pub filled_more : IsFilled n ns positions found i first before → IsFilled n ns positions found (i + 1) first after
+-- the keys of the group with a number
+pub keys_at : (gs : List (Vec ℕ Global)) (n : ℕ) (g : Vec ℕ Global) → n < length gs → g ≡ get_or gs n g → keys_in gs n ≡ g.items
+keys_at [] n g lt is = absurd (omega (arith, lt))
+keys_at (x ∷ gs) zero g lt is = ap (λ (v : Vec ℕ Global). v.items) (sym is)
+keys_at (x ∷ gs) (suc n) g lt is = keys_at gs n g (omega (arith, lt)) is
+
+-- all keys were dealt
+pub dealt_all : (os : List Open) (ps : List Place) (ns seen : List (Option ℕ)) (gs : List (Vec ℕ Global)) → AreNumbersOf os ps ns → seen ≡ ns → length gs ≡ length os → AreGroups seen (length seen) gs → AreDealt os ps ns gs
+dealt_all os ps ns seen gs numbers same long groups = record {
+  numbers = numbers;
+  groups = subst (λ (count : ℕ). AreGroups ns count gs) numbers.long (subst (λ (l : List (Option ℕ)). AreGroups l (length l) gs) same groups);
+  long = long;
+}
+
+-- the keys that were lent are the group with the number
+pub group_at : (os : List Open) (ps : List Place) (ns : List (Option ℕ)) (gs lent : List (Vec ℕ Global)) (n : ℕ) (keys : List ℕ) → AreDealt os ps ns gs → lent ≡ gs → keys ≡ keys_in lent n → IsGroup ns (length ps) n keys
+group_at os ps ns gs lent n keys dealt is at = subst (IsGroup ns (length ps) n) (sym (at ∙ ap (λ (l : List (Vec ℕ Global)). keys_in l n) is)) (dealt.groups n)
+
+-- one place more of a group
+pub places_more : (ps : List Place) (keys : List ℕ) (j k : ℕ) (p q : Place) (group after : List Place) → slice_get keys j ≡ Some k → k < length ps → p ≡ get_or ps k p → seen_place q ≡ seen_place p → after ≡ group ++ q ∷ [] → ArePlacesOf ps keys j group → ArePlacesOf ps keys (j + 1) after
+places_more ps keys j k p q group after key lt is alike pushed so_far = record {
+  long = ap length pushed ∙ (let l = so_far.long in omega (arith, l, length-append group (q ∷ [])));
+  each = λ i m r le at. elim (before_or_at i j le) [
+    | inl less ↦ let old = so_far.each i m r less at in (old.0, subst (λ (l : List Place). slice_get l i ≡ Some old.0) (sym pushed) (stays group (q ∷ []) i old.0 old.1), old.2)
+    | inr here ↦
+        let same : k ≡ m = some_is k m (sym key ∙ (ap (slice_get keys) (sym here) ∙ at)) in
+        let place : p ≡ get_or ps m r = is ∙ (default ps k p r lt ∙ ap (λ (n : ℕ). get_or ps n r) same) in
+        (q, subst (λ (n : ℕ). slice_get after n ≡ Some q) (so_far.long ∙ sym here) (subst (λ (l : List Place). slice_get l (length group) ≡ Some q) (sym pushed) (last group q)), alike ∙ ap seen_place place)
+  ];
+}
+
+-- where one key more was found is noted
+module _ (n : ℕ) (keys : List ℕ) (found : List (Option Spot)) (j k : ℕ) (s : Option Spot) (first before after : List (Option Located)) (new : Option Located) (key : slice_get keys j ≡ Some k) (spot : slice_get found j ≡ Some s) (own : new ≡ located_in n s) (lt : k < length before) (is : after ≡ set before k new) where
+  here : (m : ℕ) (e : Option Located) → m ≡ k → get_or after m e ≡ new
+  here m e same = ap (λ (l : List (Option Located)). get_or l m e) is ∙ (ap (λ (i : ℕ). get_or (set before k new) i e) same ∙ get_or-set_same before k new e lt)
+
+  there : (m : ℕ) (e : Option Located) → m ≢ k → get_or after m e ≡ get_or before m e
+  there m e apart = ap (λ (l : List (Option Located)). get_or l m e) is ∙ get_or-set_other before k m new e apart
+
+  pub filled_more : IsFilled n keys found j first before → IsFilled n keys found (j + 1) first after
   filled_more fills = record {
-    long = ap length is ∙ (length-set before i new ∙ fills.long);
-    own = λ k d e le same. elim (before_or_at k i le) [
-      | inl less ↦ let o = fills.own k d e less same in (o.0, o.1, there k e (λ q. omega (arith, q, less)) ∙ o.2)
-      | inr at ↦ let o = own (default ns i m d among ∙ (ap (λ (j : ℕ). get_or ns j d) (sym at) ∙ same)) in (o.0, ap (λ (j : ℕ). slice_get found (get_or positions j 0)) at ∙ o.1, here k e at ∙ o.2)
+    long = ap length is ∙ (length-set before k new ∙ fills.long);
+    own = λ i m e le at. elim (same_or_not m k) [
+      | inl same ↦ (j, s, key ∙ ap (λ (q : ℕ). Some q) (sym same), spot, here m e same ∙ own)
+      | inr apart ↦ elim (before_or_at i j le) [
+        | inl less ↦ let o = fills.own i m e less at in (o.0, o.1, o.2, o.3, there m e apart ∙ o.4)
+        | inr now ↦ absurd (apart (some_is m k (sym at ∙ (ap (slice_get keys) now ∙ key))))
+      ]
     ];
-    others = λ k d e le differs. elim (same_or_not k i) [
-      | inr apart ↦ there k e apart ∙ fills.others k d e le differs
-      | inl at ↦
-          let same : new ≡ get_or before i old = other (λ q. differs (ap (λ (j : ℕ). get_or ns j d) at ∙ (default ns i d m among ∙ q))) in
-          here k e at ∙ (same ∙ (ap (λ (j : ℕ). get_or before j old) (sym at) ∙ (default before k old e (omega (arith, at, lt)) ∙ fills.later k e (omega (arith, at)) le)))
-    ];
-    later = λ k e le less. there k e (λ q. omega (arith, q, le)) ∙ fills.later k e (omega (arith, le)) less;
+    others = λ m e le none. there m e (λ same. none j (key ∙ ap (λ (q : ℕ). Some q) (sym same))) ∙ fills.others m e le none;
   }
 
 -- ---- what is located of a key
@@ -254,10 +388,6 @@ place_at now os ps located i same there lt =
     at [] i x is = refl
     at (y ∷ ys) zero x is = some_is y x is
     at (y ∷ ys) (suc i) x is = at ys i x is
-
--- what is located lies within a segment
-pub within_at : (now os : List Open) (located : List (Option Located)) (i : ℕ) → now ≡ os → ((k : ℕ) (d : Option Located) → k < length located → IfSome (get_or located k d) (IsIn os)) → i < length located → (d : Option Located) → IfSome (get_or located i d) (IsIn now)
-within_at now os located i same within lt d = subst (λ (x : List Open). IfSome (get_or located i d) (IsIn x)) (sym same) (within i d lt)
 
 -- what is located of a key are the newest bytes of its dataset
 pub bytes_at : (os : List Open) (place : Texts) (located : Option Located) (t : List (List Pair)) → IsLocated os place located → table_in os place.dataset ≡ Some t → IsAt os (newest t (file_key place)) located

@@ -23,11 +23,12 @@ use Rattle.fd_ahead.specs.declared.located.Located.{Located}
 use Rattle.fd_ahead.specs.Places.{AreIn, IsIn}
 use Rattle.fd_outcome.specs.Asking.{Answer, Tables, is_among}
 use Rattle.fd_outcome.specs.Noticing.{IsAnswer}
-use Rattle.fd_retrieve.specs.Finding.{asked_of_all}
-use Rattle.fd_retrieve.specs.Located.{AreAt, IsAt, IsLocated, StandsAt}
+use Rattle.fd_answering.specs.Finding.{asked_of_all}
+use Rattle.fd_answering.specs.Located.{AreAt, IsAt, StandsAt}
+use Rattle.fd_retrieve.specs.Located.{IsLocated}
 use Rattle.fd_retrieve.specs.Open.{IsOpenIn, Open, names_of, table_in}
 use Rattle.fd_retrieve.specs.Tables.{datasets_in}
-use Rattle.fd_retrieve.proofs.AnsweringLemmas.{there_is}
+use Rattle.fd_answering.proofs.AnsweringLemmas.{there_is}
 use Rattle.fd_retrieve.proofs.DatasetLemmas.{all_at, among_named}
 use Rattle.fd_retrieve.proofs.LocatingLemmas.{bytes_at}
 

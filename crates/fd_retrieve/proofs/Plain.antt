@@ -16,7 +16,8 @@ use Rattle.fd_outcome.specs.declared.status.Status.TheVariants.{Done, Missed}
 use Rattle.fd_ahead.specs.declared.located.Located.{Located}
 use Rattle.fd_outcome.specs.Outcome.{answered, answered_early, outcome, refused, retrieved, retrieved_early}
 use Rattle.fd_retrieve.specs.Commands.{IsReadyFor}
-use Rattle.fd_retrieve.specs.Located.{AreAt, AreLocated}
+use Rattle.fd_answering.specs.Located.{AreAt}
+use Rattle.fd_retrieve.specs.Located.{AreLocated}
 use Rattle.fd_retrieve.specs.Open.{Open, table_in}
 use Rattle.fd_retrieve.specs.Ready.{IsReady, asked_at}
 use Rattle.fd_retrieve.specs.Tables.{datasets_in}

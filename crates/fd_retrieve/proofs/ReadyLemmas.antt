@@ -31,8 +31,8 @@ use Rattle.fd_telling.specs.declared.stop.Broken.TheVariants as brokens
 use Rattle.fd_telling.specs.declared.stop.Stop.{Stop}
 use Rattle.fd_telling.specs.declared.stop.Stop.TheVariants as stops
 use Rattle.fd_telling.specs.Stops.{LacksPlace, LacksRule, seen_broken}
-use Rattle.fd_retrieve.proofs.AnsweringLemmas.{there_is}
-use Rattle.fd_retrieve.specs.Finding.{asked_of_all}
+use Rattle.fd_answering.proofs.AnsweringLemmas.{there_is}
+use Rattle.fd_answering.specs.Finding.{asked_of_all}
 use Rattle.fd_retrieve.specs.Open.{IsOpenIn, Open, StandsAsSaid, names_of, table_in, table_of}
 use Rattle.fd_retrieve.specs.Ready.{AreOpen, IsBrokenAs, IsBrokenOf, IsUnopened, MayOpen, NoneIsDamaged, placed_of}
 use Rattle.fd_retrieve.specs.Tables.{AreTables, datasets_in}

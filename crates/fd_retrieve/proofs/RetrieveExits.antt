@@ -18,14 +18,15 @@ use Rattle.fd_outcome.specs.Told.{Told, ToldOrNoMemory}
 use Rattle.fd_outcome.proofs.Endings.{CanStop, CanTell, Reached, ends_early, ends_on_the_way, ends_told, ends_unwritten, nothing_of, takes_both}
 use Rattle.fd_outcome.proofs.AnyCommand.{Seen, ran_of, told_of}
 use Rattle.fd_outcome.proofs.Exits.{apart, is_disk_fault, is_input_fault, is_output_fault, is_whole, is_words, never_whole}
-use Rattle.fd_retrieve.specs.Finding.{IsAnswered, IsAnsweredInPart, TookSome}
+use Rattle.fd_answering.specs.Finding.{IsAnswered, IsAnsweredInPart, TookSome}
 use Rattle.fd_retrieve.specs.Commands.{Begins, IsReadyFor, retrieving}
 use Rattle.std.specs.Prelude.{slice_get}
 use Rattle.fd_disk.specs.Folders.{folder_at}
 use Rattle.fd_segment.specs.declared.fault.Damage.{Damage}
 use Rattle.fd_outcome.specs.Causes as causes
 use Rattle.fd_outcome.specs.Causes.{BadFile, damaged_line, table_full}
-use Rattle.fd_retrieve.specs.Open.{IsDamaged, IsDamagedAt, IsOpenIn, Open}
+use Rattle.fd_answering.specs.Damages.{IsDamaged, IsDamagedAt}
+use Rattle.fd_retrieve.specs.Open.{IsOpenIn, Open}
 use Rattle.fd_retrieve.specs.Telling.{counts_status, counts_text}
 use Rattle.fd_telling.proofs.StopLemmas.{rose_later}
 use Rattle.fd_retrieve.proofs.DatasetLemmas.{all_at, among_named, damage_stands}

@@ -10,7 +10,8 @@ use Rattle.fd_retrieve.specs.declared.counting.Counted.{Counted}
 use Rattle.fd_telling.specs.declared.stop.Broken.TheVariants as brokens
 use Rattle.fd_telling.specs.declared.stop.Stop.{Stop}
 use Rattle.fd_telling.specs.declared.stop.Stop.TheVariants as stops
-use Rattle.fd_retrieve.specs.Open.{IsDamaged, Open}
+use Rattle.fd_answering.specs.Damages.{IsDamaged}
+use Rattle.fd_retrieve.specs.Open.{Open}
 use Rattle.fd_retrieve.specs.Ready.{IsBrokenOf}
 
 abbrev pub all_found : Option (Option (List ℕ)) → Option (List (Option (List ℕ))) → Option (List (Option (List ℕ)))

@@ -1,10 +1,8 @@
 pub mod Open
 pub mod Tables
-pub mod Finding
 pub mod Ready
 pub mod Commands
 pub mod Counting
 pub mod Located
 pub mod Telling
 pub mod Looking
-pub mod Rounds

@@ -1,17 +1,17 @@
 -- Where the newest bytes of a request's keys stand, among the datasets that are open.
-use Rattle.std.specs.Prelude.{◌≡◌, ◌<◌, ◌≤◌, ℕ, List, length, take, drop, Option, Some, None, false, IfSome, slice_get, slice_index_or, option_map}
+use Rattle.std.specs.Prelude.{◌≡◌, ◌<◌, ◌≤◌, ℕ, List, [], length, Option, Some, None, Vec, false, IfSome, slice_get, slice_index_or, option_map}
+use Rattle.std.specs.Option.{option_map_or}
+use Rattle.std.specs.declared.alloc.Global.{Global}
 use Rattle.fd_entries.specs.declared.batch.Pair.{Pair}
 use Rattle.fd_entries.specs.Batches.{newest}
 use Rattle.fd_key.specs.Pairs as keys
-use Rattle.fd_retriever.specs.Kept.{IsNumbered}
-use Rattle.fd_segment.specs.Held.{Standing}
 use Rattle.fd_schema.specs.declared.place.Place.{Place}
 use Rattle.fd_segment.specs.declared.fault.Damage.{Damage}
 use Rattle.fd_schema.specs.Rules.{Texts, file_key}
 use Rattle.fd_schema.specs.Reading.{seen_place}
 use Rattle.fd_finding.specs.declared.spot.Spot.{Spot}
 use Rattle.fd_finding.specs.Spots.{IsNewestAt}
-use Rattle.fd_outcome.specs.Asking.{Answer, is_among}
+use Rattle.fd_outcome.specs.Asking.{is_among}
 use Rattle.fd_ahead.specs.declared.located.Located.{Located}
 pub use Rattle.fd_ahead.specs.Places.{IsIn}
 use Rattle.fd_retrieve.specs.declared.locating.Lost.{Lost}
@@ -28,27 +28,6 @@ pub record IsThere (os : List Open) (place : Texts) (l : Located) : Type 0 where
 abbrev pub IsLocated : List Open → Texts → Option Located → Type 0
 IsLocated os place None = (t : List (List Pair)) → table_in os place.dataset ≡ Some t → newest t (file_key place) ≡ None
 IsLocated os place (Some l) = IsThere os place l
-
--- These are the bytes where a key is located.
-pub record StandsAt (os : List Open) (bytes : Option (List ℕ)) (l : Located) : Type 0 where
-  pub dataset : Open
-  pub at : slice_get os l.number ≡ Some dataset
-  pub segment : Standing
-  pub numbered : IsNumbered dataset.shown l.spot.number segment
-  pub fields : List ℕ
-  pub told : segment.files.fields ≡ Some fields
-  pub is : bytes ≡ Some (take l.spot.len (drop l.spot.at fields))
-
--- The same, or the key isn't located and has none.
-abbrev pub IsAt : List Open → Option (List ℕ) → Option Located → Type 0
-IsAt os bytes None = bytes ≡ None
-IsAt os bytes (Some l) = StandsAt os bytes l
-
--- The answers of these keys, in their order, are what stands where the keys are located.
-pub record AreAt (os : List Open) (ks : List (List keys.Pair)) (xs : List Answer) (located : List (Option Located)) : Type 0 where
-  pub long : length xs ≡ length ks
-  pub each : (k : ℕ) (key : List keys.Pair) → slice_get ks k ≡ Some key
-      → (found : Option (List ℕ)) × (slice_get xs k ≡ Some (record { key = key; found = found })) × ((d : Option Located) → IsAt os found (slice_index_or located k d))
 
 -- the same of each place
 pub record AreLocated (os : List Open) (places : List Place) (located : List (Option Located)) : Type 0 where
@@ -68,23 +47,44 @@ pub record AreNumbersOf (os : List Open) (places : List Place) (numbers : List (
   pub long : length numbers ≡ length places
   pub each : (k : ℕ) (p : Place) (d : Option ℕ) → k < length places → IsNumberOf os (seen_place (slice_index_or places k p)).dataset (slice_index_or numbers k d)
 
--- Each of the first places, so many, whose dataset has the number stands in the group, where the list of positions says.
-pub record IsGroup (number : ℕ) (places : List Place) (numbers : List (Option ℕ)) (count : ℕ) (group : List Place) (positions : List ℕ) : Type 0 where
-  pub long : length positions ≡ count
-  pub within : (k : ℕ) (d : Option ℕ) → k < count → slice_index_or numbers k d ≡ Some number → slice_index_or positions k 0 < length group
-  pub each : (k : ℕ) (p : Place) (d : Option ℕ) → k < count → slice_index_or numbers k d ≡ Some number
-      → (q : Place) × (slice_get group (slice_index_or positions k 0) ≡ Some q) × (seen_place q ≡ seen_place (slice_index_or places k p))
+-- the keys of the group with this number
+abbrev pub keys_in : List (Vec ℕ Global) → ℕ → List ℕ
+keys_in groups n = option_map_or (λ (g : Vec ℕ Global). g.items) (slice_get groups n) []
+
+-- each key is one of the first, so many
+abbrev pub AreWithin : ℕ → List ℕ → Type 0
+AreWithin count keys = (j k : ℕ) → slice_get keys j ≡ Some k → k < count
+
+-- These are those of the first keys, so many, whose dataset has the number.
+pub record IsGroup (numbers : List (Option ℕ)) (count number : ℕ) (keys : List ℕ) : Type 0 where
+  pub there : (k : ℕ) (d : Option ℕ) → k < count → slice_index_or numbers k d ≡ Some number → (j : ℕ) × (slice_get keys j ≡ Some k)
+  pub within : AreWithin count keys
+  pub own : (j k : ℕ) (d : Option ℕ) → slice_get keys j ≡ Some k → slice_index_or numbers k d ≡ Some number
+
+-- the same of each group
+abbrev pub AreGroups : List (Option ℕ) → ℕ → List (Vec ℕ Global) → Type 0
+AreGroups numbers count groups = (n : ℕ) → IsGroup numbers count n (keys_in groups n)
+
+-- The keys were dealt to their datasets.
+pub record AreDealt (os : List Open) (places : List Place) (ns : List (Option ℕ)) (gs : List (Vec ℕ Global)) : Type 0 where
+  pub numbers : AreNumbersOf os places ns
+  pub groups : AreGroups ns (length places) gs
+  pub long : length gs ≡ length os
+
+-- The places of the first keys, so many, in their order.
+pub record ArePlacesOf (places : List Place) (keys : List ℕ) (count : ℕ) (group : List Place) : Type 0 where
+  pub long : length group ≡ count
+  pub each : (j k : ℕ) (p : Place) → j < count → slice_get keys j ≡ Some k → (q : Place) × (slice_get group j ≡ Some q) × (seen_place q ≡ seen_place (slice_index_or places k p))
 
 abbrev pub located_in : ℕ → Option Spot → Option Located
 located_in number spot = option_map (λ s. record { number = number; spot = s }) spot
 
--- Each of the first keys, so many, whose dataset has the number is where it was found, and the others are where they were.
-pub record IsFilled (number : ℕ) (numbers : List (Option ℕ)) (positions : List ℕ) (found : List (Option Spot)) (count : ℕ) (before after : List (Option Located)) : Type 0 where
+-- Each of the first keys, so many, is where it was found, and those that aren't among the keys are where they were.
+pub record IsFilled (number : ℕ) (keys : List ℕ) (found : List (Option Spot)) (count : ℕ) (before after : List (Option Located)) : Type 0 where
   pub long : length after ≡ length before
-  pub own : (k : ℕ) (d : Option ℕ) (e : Option Located) → k < count → slice_index_or numbers k d ≡ Some number
-      → (s : Option Spot) × (slice_get found (slice_index_or positions k 0) ≡ Some s) × (slice_index_or after k e ≡ located_in number s)
-  pub others : (k : ℕ) (d : Option ℕ) (e : Option Located) → k < length before → (slice_index_or numbers k d ≡ Some number → ⊥) → slice_index_or after k e ≡ slice_index_or before k e
-  pub later : (k : ℕ) (e : Option Located) → count ≤ k → k < length before → slice_index_or after k e ≡ slice_index_or before k e
+  pub own : (j k : ℕ) (e : Option Located) → j < count → slice_get keys j ≡ Some k
+      → (i : ℕ) × (s : Option Spot) × (slice_get keys i ≡ Some k) × (slice_get found i ≡ Some s) × (slice_index_or after k e ≡ located_in number s)
+  pub others : (k : ℕ) (e : Option Located) → k < length before → ((j : ℕ) → slice_get keys j ≡ Some k → ⊥) → slice_index_or after k e ≡ slice_index_or before k e
 
 -- what is known of a key once the first datasets, so many, were searched
 abbrev pub IsLocatedBy : List Open → ℕ → Texts → Option ℕ → Option Located → Type 0

@@ -1,14 +1,11 @@
 -- A dataset that was opened, and what it says of the store.
-use Rattle.std.specs.Prelude.{◌≡◌, ◌<◌, length, ℕ, List, [], ◌∷◌, map, Option, Some, Ok, Contains, slice_get, if◌then◌else◌}
+use Rattle.std.specs.Prelude.{◌≡◌, ℕ, List, [], ◌∷◌, map, Option, Some, Ok, slice_get, if◌then◌else◌}
 use Rattle.std.specs.Str.{bytes_eq}
 use Rattle.fd_disk.specs.declared.file.File.{File}
 use Rattle.fd_disk.specs.Folders.{Contents, Holdings, folder_at}
 use Rattle.fd_entries.specs.declared.batch.Pair.{Pair}
 use Rattle.fd_entries.specs.declared.table.Entry.{Entry}
 use Rattle.fd_entries.specs.Table.{listed}
-use Rattle.fd_segment.specs.Held.{Standing}
-use Rattle.fd_segment.specs.declared.fault.Damage.{Damage}
-use Rattle.fd_retriever.specs.Answers.{StandsIn}
 use Rattle.fd_dataset.specs.Listed.{listing}
 pub use Rattle.fd_ahead.specs.Places.{Open}
 use Rattle.fd_recovery.specs.declared.fault.OpenFault.{OpenFault}
@@ -32,18 +29,6 @@ names_of os = map (λ o. o.name) os
 -- the first of the datasets with this text has this number, from 0
 abbrev pub IsFirstNamed : List Open → List ℕ → ℕ → Type 0
 IsFirstNamed os name n = (o : Open) × (slice_get os n ≡ Some o) × (o.name ≡ name) × (table_in os name ≡ table_of o)
-
--- the damage stands in the files of one of the segments
-abbrev pub IsDamaged : List Standing → List ℕ → Damage → Type 0
-IsDamaged ss key d = (s : Standing) × Contains ss s × StandsIn s.files key d
-
--- the same of the dataset with this number
-pub record IsDamagedAt (os : List Open) (n : ℕ) (d : Damage) : Type 0 where
-  pub inside : n < length os
-  pub dataset : Open
-  pub at : slice_get os n ≡ Some dataset
-  pub key : List ℕ
-  pub stands : IsDamaged dataset.shown key d
 
 -- the segments are those of the entries that the table lists, with the files that the folder has
 pub record AreListed (v : Contents) (o : Open) : Type 0 where

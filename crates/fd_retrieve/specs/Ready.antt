@@ -15,7 +15,7 @@ use Rattle.fd_telling.specs.declared.stop.Broken.{Broken}
 use Rattle.fd_telling.specs.declared.stop.Broken.TheVariants as brokens
 use Rattle.fd_telling.specs.declared.stop.Stop.{Stop}
 use Rattle.fd_telling.specs.declared.stop.Stop.TheVariants as stops
-use Rattle.fd_retrieve.specs.Finding.{asked_of_all}
+use Rattle.fd_answering.specs.Finding.{asked_of_all}
 use Rattle.fd_retrieve.specs.Open.{IsOpenIn, Open, names_of, table_in}
 use Rattle.fd_telling.specs.Stops.{seen_broken}
 use Rattle.fd_retrieve.specs.Tables.{datasets_in}

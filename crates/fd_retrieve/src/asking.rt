@@ -6,7 +6,7 @@ ghost use Rattle.fd_schema.specs.Reading.{seen_place};
 ghost use Rattle.fd_schema.specs.Rules.{place_from};
 ghost use Rattle.fd_request.specs.Expansion.{expand};
 ghost use Rattle.fd_outcome.specs.Asking.{placed, request_in};
-ghost use Rattle.fd_retrieve.specs.Finding.{asked_of_all};
+ghost use Rattle.fd_answering.specs.Finding.{asked_of_all};
 ghost use Rattle.fd_telling.specs.Stops.{LacksPlace, LacksRule, OnInput, OnRefusal, OnRequest};
 
 use fd_io::Source;

@@ -1,15 +1,12 @@
 //! `retrieve`: the newest fields of a request's keys, in its order, out of the datasets of a store.
 #![tactic(auto)]
 
-mod answering;
 mod asking;
 mod counting;
-mod datasets;
 mod locating;
 mod opened;
 mod preparing;
 mod retrieving;
-mod rounds;
 mod tables;
 
 pub use asking::request_of;

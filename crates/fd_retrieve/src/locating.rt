@@ -1,10 +1,11 @@
 // Where the newest fields of a request's keys stand.
-ghost use Rattle.std.specs.Prelude.{◌≡◌, ◌≤◌, ◌<◌, ◌+◌, ◌++◌, ◌∷◌, [], ℕ, Option, Some, None, length, slice_get, slice_index_or, true, false, IfOk, IfErr, OnOk};
+ghost use Rattle.std.specs.Prelude.{◌≡◌, ◌≤◌, ◌<◌, ◌+◌, ◌++◌, ◌∷◌, [], List, ℕ, Option, Some, None, cond, length, slice_get, slice_index_or, IfOk, IfErr, IfSome, OnOk};
+ghost use Rattle.std.specs.BTreeMap.{get_by_text};
+ghost use Rattle.std.specs.Str.{bytes_eq};
 ghost use Rattle.fd_schema.specs.Reading.{seen_place};
-ghost use Rattle.fd_retrieve.specs.Located.{AreLocated, AreLocatedBy, AreNumbersOf, IsFilled, IsGroup, OnLost, located_in};
-ghost use Rattle.fd_retrieve.specs.Open.{IsDamagedAt};
+ghost use Rattle.fd_retrieve.specs.Located.{AreDealt, AreGroups, AreLocated, AreLocatedBy, AreNumbersOf, ArePlacesOf, AreWithin, IsFilled, IsNumberOf, OnLost, keys_in, located_in};
+ghost use Rattle.fd_answering.specs.Damages.{IsDamagedAt};
 
-use crate::datasets::number_of;
 use fd_ahead::{Located, Opened};
 use fd_bytes::NoMemory;
 use fd_disk::Sealed;
@@ -13,8 +14,12 @@ use fd_io::Gate;
 use fd_schema::Place;
 use fd_segment::{Damage, LensFault};
 use std::alloc::Global;
+use std::collections::BTreeMap;
 use std::sync::Wait;
 use std::thread::Threads;
+
+/// For each text the number of the first dataset with it.
+type Numbers = BTreeMap<String, usize>;
 
 /// Why keys aren't located.
 #[derive(Drop)]
@@ -25,6 +30,13 @@ pub enum Lost<F> {
     Damaged(usize, Damage),
     /// An allocation was refused.
     NoMemory,
+}
+
+/// Keys by their datasets: for each key the number of its dataset, where that is open, and for each number its keys.
+#[derive(Drop)]
+struct Dealt {
+    numbers: Vec<Option<usize>>,
+    groups: Vec<Vec<usize>>,
 }
 
 /// Finds where the newest bytes of each place's key stand, all keys of one dataset at once, by so many workers.
@@ -41,7 +53,7 @@ where
     ensures located { IfOk result (λ v. AreLocated opened.now places.now v.items) }
     ensures damaged { IfErr result (λ e. OnLost e (IsDamagedAt opened.now)) }
 {
-    let Ok(numbers) = numbers_of(alloc, opened, places) else {
+    let Ok(dealt) = deal(alloc, opened, places) else {
         return Err(Lost::NoMemory);
     };
     let Ok(mut located) = nowhere(alloc, places.len()) else {
@@ -54,7 +66,7 @@ where
             opened,
             number,
             places,
-            &numbers,
+            &dealt,
             &mut located,
             workers,
             gate,
@@ -73,32 +85,73 @@ fn locate_in<F: Send + Drop, Z: Sealed<F>, G: Gate, R: Threads + Wait + Sync>(
     opened: &[Opened<F, Z>],
     number: usize,
     places: &[Place],
-    numbers: &[Option<usize>],
+    dealt: &Dealt,
     located: &mut [Option<Located>],
     workers: u32,
     gate: &G,
 ) -> Result<(), Lost<F>>
 where
     requires number { number < length opened.now }
-    requires numbers { AreNumbersOf opened.now places.now numbers.now }
+    requires dealt { AreDealt opened.now places.now dealt.now.numbers.items dealt.now.groups.items }
     requires long { length located.old ≡ length places.now }
     requires workers { (1 ≤ workers) × (workers ≤ 8) }
-    ensures located { OnOk result (AreLocatedBy opened.now places.now numbers.now number located.old → AreLocatedBy opened.now places.now numbers.now (number + 1) located.new) }
+    ensures located { OnOk result (AreLocatedBy opened.now places.now dealt.now.numbers.items number located.old → AreLocatedBy opened.now places.now dealt.now.numbers.items (number + 1) located.new) }
     ensures long { OnOk result (length located.new ≡ length located.old) }
     ensures damaged { IfErr result (λ e. OnLost e (IsDamagedAt opened.now)) }
 {
-    let Ok((group, positions)) = group_of(alloc, places, numbers, number) else {
+    let keys = keys_of(dealt.groups.as_slice(), number);
+    let Ok(group) = group_of(alloc, places, keys) else {
         return Err(Lost::NoMemory);
     };
     let dataset = &opened[number];
     match find_all(rt, alloc, dataset.snapshot(), &group, workers, gate) {
         Ok(found) => {
-            fill(numbers, number, &positions, &found, located);
+            fill(number, keys, &found, located);
             Ok(())
         }
         Err(LensFault::Fault(fault)) => Err(Lost::Disk(fault)),
         Err(LensFault::Damaged(damage)) => Err(Lost::Damaged(number, damage)),
         Err(LensFault::NoMemory) => Err(Lost::NoMemory),
+    }
+}
+
+/// Notes the number of a dataset at its text.
+fn note_number(
+    alloc: Global,
+    noted: &mut Numbers,
+    name: &str,
+    number: usize,
+) -> Result<(), NoMemory>
+    ensures { OnOk result ((t : List ℕ) → get_by_text noted.new t ≡ cond (bytes_eq name.now t) (Some number) (get_by_text noted.old t)) }
+{
+    let text = String::from_str(alloc, name)?;
+    noted.insert(text, number)?;
+    Ok(())
+}
+
+/// The numbers of the datasets by their texts, noted from the last dataset on.
+fn noted_numbers<F: Send, Z: Sealed<F>>(
+    alloc: Global,
+    opened: &[Opened<F, Z>],
+) -> Result<Numbers, NoMemory>
+    ensures { IfOk result (λ m. (t : List ℕ) → IsNumberOf opened.now t (get_by_text m t)) }
+{
+    let mut noted = BTreeMap::new(alloc);
+    let mut left = opened.len();
+    while left > 0 {
+        left -= 1;
+        note_number(alloc, &mut noted, opened[left].name(), left)?;
+    }
+    Ok(noted)
+}
+
+/// The number that is noted at a text.
+fn noted_number(noted: &Numbers, name: &str) -> Option<usize>
+    ensures { result ≡ get_by_text noted.now name.now }
+{
+    match noted.get(name) {
+        Some(number) => Some(*number),
+        None => None,
     }
 }
 
@@ -110,9 +163,10 @@ fn numbers_of<F: Send, Z: Sealed<F>>(
 ) -> Result<Vec<Option<usize>>, NoMemory>
     ensures { IfOk result (λ v. AreNumbersOf opened.now places.now v.items) }
 {
+    let noted = noted_numbers(alloc, opened)?;
     let mut numbers = Vec::new(alloc);
     for i in 0..places.len() {
-        numbers.push(number_of(opened, places[i].dataset.as_str()))?;
+        numbers.push(noted_number(&noted, places[i].dataset.as_str()))?;
     }
     Ok(numbers)
 }
@@ -129,15 +183,70 @@ fn nowhere(alloc: Global, count: usize) -> Result<Vec<Option<Located>>, NoMemory
     Ok(located)
 }
 
-/// Tells that a number is this one.
-fn is_of(of: Option<usize>, number: usize) -> bool
-    ensures yes { result ≡ true → of ≡ Some number }
-    ensures no { of ≡ Some number → result ≡ true }
+/// So many groups without keys.
+fn empty_groups(alloc: Global, count: usize) -> Result<Vec<Vec<usize>>, NoMemory>
+    ensures long { IfOk result (λ v. length v.items ≡ count) }
+    ensures none { IfOk result (λ v. (n : ℕ) → keys_in v.items n ≡ []) }
+{
+    let mut groups = Vec::new(alloc);
+    for i in 0..count {
+        groups.push(Vec::new(alloc))?;
+    }
+    Ok(groups)
+}
+
+/// Puts a key behind the others of its dataset, where that is open.
+fn put_key(groups: &mut Vec<Vec<usize>>, of: Option<usize>, key: usize) -> Result<(), NoMemory>
+    requires { IfSome of (λ n. n < length groups.old.items) }
+    ensures own { OnOk result ((n : ℕ) → of ≡ Some n → keys_in groups.new.items n ≡ keys_in groups.old.items n ++ key ∷ []) }
+    ensures others { OnOk result ((n : ℕ) → (of ≡ Some n → ⊥) → keys_in groups.new.items n ≡ keys_in groups.old.items n) }
+    ensures long { OnOk result (length groups.new.items ≡ length groups.old.items) }
 {
     match of {
-        Some(of) => of == number,
-        None => false,
+        Some(number) => {
+            groups[number].push(key)?;
+            Ok(())
+        }
+        None => Ok(()),
     }
+}
+
+/// For each dataset its keys, in their order: all keys are gone over once.
+fn groups_of(
+    alloc: Global,
+    count: usize,
+    numbers: &[Option<usize>],
+) -> Result<Vec<Vec<usize>>, NoMemory>
+    requires { (k : ℕ) (d : Option ℕ) → k < length numbers.now → IfSome (slice_index_or numbers.now k d) (λ n. n < count) }
+    ensures long { IfOk result (λ v. length v.items ≡ count) }
+    ensures groups { IfOk result (λ v. AreGroups numbers.now (length numbers.now) v.items) }
+{
+    let mut groups = empty_groups(alloc, count)?;
+    for i in 0..numbers.len() {
+        put_key(&mut groups, numbers[i], i)?;
+    }
+    Ok(groups)
+}
+
+/// The keys of the places by their datasets.
+fn deal<F: Send, Z: Sealed<F>>(
+    alloc: Global,
+    opened: &[Opened<F, Z>],
+    places: &[Place],
+) -> Result<Dealt, NoMemory>
+    ensures { IfOk result (λ d. AreDealt opened.now places.now d.numbers.items d.groups.items) }
+{
+    let numbers = numbers_of(alloc, opened, places)?;
+    let groups = groups_of(alloc, opened.len(), numbers.as_slice())?;
+    Ok(Dealt { numbers, groups })
+}
+
+/// The keys of the dataset with this number.
+fn keys_of(groups: &[Vec<usize>], number: usize) -> &[usize]
+    requires { number < length groups.now }
+    ensures { result.now ≡ keys_in groups.now number }
+{
+    groups[number].as_slice()
 }
 
 /// A place of the same texts.
@@ -152,75 +261,49 @@ fn again(alloc: Global, place: &Place) -> Result<Place, NoMemory>
     })
 }
 
-/// Puts a place of the same texts into the group, where it is wanted.
-fn put_if(
-    alloc: Global,
-    group: &mut Vec<Place>,
-    place: &Place,
-    is_wanted: bool,
-) -> Result<(), NoMemory>
-    ensures wanted { OnOk result (is_wanted ≡ true → (q : Place) × (group.new.items ≡ group.old.items ++ q ∷ []) × (seen_place q ≡ seen_place place.now)) }
-    ensures left { OnOk result (is_wanted ≡ false → group.new.items ≡ group.old.items) }
+/// The key at a place of these, which are among so many.
+fn key_at(keys: &[usize], place: usize, count: usize) -> usize
+    requires place { place < length keys.now }
+    requires within { AreWithin count keys.now }
+    ensures is { slice_get keys.now place ≡ Some result }
+    ensures within { result < count }
 {
-    if is_wanted {
-        group.push(again(alloc, place)?)?;
-    }
-    Ok(())
+    keys[place]
 }
 
-/// The places of the dataset with this number, and for each place where it stands among them, if it does.
-fn group_of(
-    alloc: Global,
-    places: &[Place],
-    numbers: &[Option<usize>],
-    number: usize,
-) -> Result<(Vec<Place>, Vec<usize>), NoMemory>
-    requires long { length numbers.now ≡ length places.now }
-    ensures { IfOk result (λ r. IsGroup number places.now numbers.now (length places.now) r.0.items r.1.items) }
+/// The places of these keys, in their order.
+fn group_of(alloc: Global, places: &[Place], keys: &[usize]) -> Result<Vec<Place>, NoMemory>
+    requires { AreWithin (length places.now) keys.now }
+    ensures { IfOk result (λ v. ArePlacesOf places.now keys.now (length keys.now) v.items) }
 {
     let mut group = Vec::new(alloc);
-    let mut positions = Vec::new(alloc);
-    for i in 0..places.len() {
-        positions.push(group.len())?;
-        put_if(alloc, &mut group, &places[i], is_of(numbers[i], number))?;
+    for i in 0..keys.len() {
+        let key = key_at(keys, i, places.len());
+        group.push(again(alloc, &places[key])?)?;
     }
-    Ok((group, positions))
+    Ok(group)
 }
 
-/// Where a key is located after its dataset was searched, if that has the number; else as before.
-fn filled(
-    of: Option<usize>,
-    number: usize,
-    found: &[Option<Spot>],
-    position: usize,
-    before: Option<Located>,
-) -> Option<Located>
-    requires { of ≡ Some number → position < length found.now }
-    ensures own { of ≡ Some number → (s : Option Spot) × (slice_get found.now position ≡ Some s) × (result ≡ located_in number s) }
-    ensures other { (of ≡ Some number → ⊥) → result ≡ before }
+/// Where a key is located of which this was found, the one at a place of these, in the dataset with this number.
+fn located_at(number: usize, found: &[Option<Spot>], place: usize) -> Option<Located>
+    requires { place < length found.now }
+    ensures { (s : Option Spot) × (slice_get found.now place ≡ Some s) × (result ≡ located_in number s) }
 {
-    if !is_of(of, number) {
-        return before;
-    }
-    match found[position] {
+    match found[place] {
         Some(spot) => Some(Located { number, spot }),
         None => None,
     }
 }
 
-/// Notes for each key of the dataset with this number where it was found.
-fn fill(
-    numbers: &[Option<usize>],
-    number: usize,
-    positions: &[usize],
-    found: &[Option<Spot>],
-    located: &mut [Option<Located>],
-)
-    requires long { (length positions.now ≡ length numbers.now) × (length located.old ≡ length numbers.now) }
-    requires within { (k : ℕ) (d : Option ℕ) → k < length numbers.now → slice_index_or numbers.now k d ≡ Some number → slice_index_or positions.now k 0 < length found.now }
-    ensures { IsFilled number numbers.now positions.now found.now (length numbers.now) located.old located.new }
+/// Notes for these keys of the dataset with this number where they were found.
+fn fill(number: usize, keys: &[usize], found: &[Option<Spot>], located: &mut [Option<Located>])
+    requires long { length found.now ≡ length keys.now }
+    requires within { AreWithin (length located.old) keys.now }
+    ensures { IsFilled number keys.now found.now (length keys.now) located.old located.new }
 {
-    for i in 0..numbers.len() {
-        located[i] = filled(numbers[i], number, found, positions[i], located[i]);
+    let count = located.len();
+    for i in 0..keys.len() {
+        let key = key_at(keys, i, count);
+        located[key] = located_at(number, found, i);
     }
 }

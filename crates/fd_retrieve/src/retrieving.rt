@@ -17,16 +17,17 @@ ghost use Rattle.fd_outcome.specs.declared.status.Status.TheVariants.{Done, Miss
 ghost use Rattle.fd_objects.specs.Given.{Over, sink_of, source_of, store_of, store_since};
 ghost use Rattle.fd_ahead.specs.Places.{AreIn};
 ghost use Rattle.fd_retrieve.specs.Commands.{Begins, retrieving};
-ghost use Rattle.fd_retrieve.specs.Located.{AreAt, OnLost};
-ghost use Rattle.fd_retrieve.specs.Open.{IsDamagedAt, table_in};
+ghost use Rattle.fd_answering.specs.Located.{AreAt};
+ghost use Rattle.fd_retrieve.specs.Located.{OnLost};
+ghost use Rattle.fd_answering.specs.Damages.{IsDamagedAt};
+ghost use Rattle.fd_retrieve.specs.Open.{table_in};
 ghost use Rattle.fd_retrieve.specs.Ready.{IsReady, asked_at};
 ghost use Rattle.fd_retrieve.specs.Telling.{counts_status, counts_text};
 
-use crate::answering::Halt;
 use crate::locating::{Lost, locate};
 use crate::preparing::{Ready, prepared};
-use crate::rounds::answer_all;
 use fd_ahead::{Located, Opened};
+use fd_answering::{Halt, answer_all};
 use fd_disk::{Folder, Sealed, Store};
 use fd_io::{Gate, Sink, Source};
 use fd_outcome::{Status, tell, tell_disk_failed, tell_no_memory, tell_output_failed};

@@ -1,6 +1,7 @@
-ghost use Rattle.std.specs.Prelude.{◌≡◌};
+ghost use Rattle.std.specs.Prelude.{◌≡◌, Some};
 ghost use Rattle.fd_schema.specs.declared.fault.Refusal.TheVariants as refusals;
 ghost use Rattle.fd_schema.specs.declared.fault.PlaceFault.TheVariants as place_faults;
+ghost use Rattle.fd_schema.specs.FaultTexts.{schema_kind_text, schema_fault_text, place_fault_text};
 
 use fd_bytes::Starved;
 use std::error::Error;
@@ -90,9 +91,6 @@ impl From<fd_bytes::NoMemory> for PlaceFault {
 }
 
 impl fmt::Display for SchemaKind {
-    ghost use Rattle.std.specs.Prelude.{Some};
-    ghost use Rattle.fd_schema.specs.FaultTexts.{schema_kind_text};
-
     ghost output = { λ kind. Some (schema_kind_text kind) };
 
     fn fmt<W: fmt::Write>(&self, f: &mut fmt::Formatter<W>) -> fmt::Result {
@@ -113,9 +111,6 @@ impl fmt::Display for SchemaKind {
 }
 
 impl fmt::Display for SchemaFault {
-    ghost use Rattle.std.specs.Prelude.{Some};
-    ghost use Rattle.fd_schema.specs.FaultTexts.{schema_fault_text};
-
     ghost output = { λ fault. Some (schema_fault_text fault) };
 
     fn fmt<W: fmt::Write>(&self, f: &mut fmt::Formatter<W>) -> fmt::Result {
@@ -129,9 +124,6 @@ impl fmt::Display for SchemaFault {
 impl Error for SchemaFault {}
 
 impl fmt::Display for PlaceFault {
-    ghost use Rattle.std.specs.Prelude.{Some};
-    ghost use Rattle.fd_schema.specs.FaultTexts.{place_fault_text};
-
     ghost output = { λ fault. Some (place_fault_text fault) };
 
     fn fmt<W: fmt::Write>(&self, f: &mut fmt::Formatter<W>) -> fmt::Result {

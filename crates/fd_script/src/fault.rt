@@ -1,5 +1,6 @@
-ghost use Rattle.std.specs.Prelude.{◌≡◌};
+ghost use Rattle.std.specs.Prelude.{◌≡◌, Some};
 ghost use Rattle.fd_script.specs.declared.fault.Refusal.TheVariants as refusals;
+ghost use Rattle.fd_script.specs.FaultTexts.{script_kind_text, script_fault_text};
 
 use fd_bytes::Starved;
 use fd_key::GivenFault;
@@ -57,9 +58,6 @@ impl<N: Starved> From<N> for Refusal {
 }
 
 impl fmt::Display for ScriptKind {
-    ghost use Rattle.std.specs.Prelude.{Some};
-    ghost use Rattle.fd_script.specs.FaultTexts.{script_kind_text};
-
     ghost output = { λ kind. Some (script_kind_text kind) };
 
     fn fmt<W: fmt::Write>(&self, f: &mut fmt::Formatter<W>) -> fmt::Result {
@@ -79,9 +77,6 @@ impl fmt::Display for ScriptKind {
 }
 
 impl fmt::Display for ScriptFault {
-    ghost use Rattle.std.specs.Prelude.{Some};
-    ghost use Rattle.fd_script.specs.FaultTexts.{script_fault_text};
-
     ghost output = { λ fault. Some (script_fault_text fault) };
 
     fn fmt<W: fmt::Write>(&self, f: &mut fmt::Formatter<W>) -> fmt::Result {

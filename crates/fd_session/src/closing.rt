@@ -165,37 +165,50 @@ pub fn tell_session<F, X: Drop, K: Sink<X>, E: Sink<X>>(
 /// Counts the fault of a step in the store, if it ended in one.
 fn note_end<F: Send, S: Store<F>>(store: &mut S, end: End<F>)
 where
-    F: Drop,
     ensures has { S.has store.new ≡ S.has store.old }
     ensures out { S.out store.new ≡ S.out store.old }
     ensures counted { HasCounted (one_if (is_fault end)) (S.faults store.old) (S.faults store.new) }
 {
     match end {
         End::Fault(fault) => store.note(fault),
-        _ => {}
+        End::PutOk => {}
+        End::PutUnlisted => {}
+        End::Listed(_) => {}
+        End::Nothing => {}
+        End::TableFull => {}
+        End::NoMemory => {}
+        End::Damaged(_) => {}
+        End::Got {
+            seen: _,
+            answers: _,
+        } => {}
     }
 }
 
 /// Counts the faults of a lane's steps in the store.
-fn note_lane<F: Send + Drop, S: Store<F>>(store: &mut S, ends: Items<End<F>>)
+fn note_lane<F: Send, S: Store<F>>(store: &mut S, ends: Items<End<F>>)
 where
     ensures has { S.has store.new ≡ S.has store.old }
     ensures out { S.out store.new ≡ S.out store.old }
     ensures counted { HasCounted (lane_faults ends) (S.faults store.old) (S.faults store.new) }
 {
-    for end in ends.into_vec() {
+    let mut left = ends.into_vec();
+    while let Some(end) = left.pop() {
         note_end(store, end);
     }
+    left.destroy_empty();
 }
 
 /// Counts the faults of all steps in the store.
-pub fn note_all<F: Send + Drop, S: Store<F>>(store: &mut S, ends: Ends<F>)
+pub fn note_all<F: Send, S: Store<F>>(store: &mut S, ends: Ends<F>)
 where
     ensures has { S.has store.new ≡ S.has store.old }
     ensures out { S.out store.new ≡ S.out store.old }
     ensures counted { HasCounted (count_faults ends) (S.faults store.old) (S.faults store.new) }
 {
-    for lane in ends.into_vec() {
+    let mut left = ends.into_vec();
+    while let Some(lane) = left.pop() {
         note_lane(store, lane);
     }
+    left.destroy_empty();
 }

@@ -41,7 +41,7 @@ use std::thread::Threads;
 /// the store is out, and none is out afterwards. Nothing is archived and no table is founded before the whole input was
 /// accepted; and nothing of the input is read where the store has no schema, or one that is none.
 pub fn session<
-    F: Send + Drop,
+    F: Send,
     X: Drop,
     S: Store<F>,
     I: Source<X>,
@@ -79,7 +79,7 @@ where
 
 /// The same, by the store's rules.
 fn session_by<
-    F: Send + Drop,
+    F: Send,
     X: Drop,
     S: Store<F>,
     I: Source<X>,
@@ -120,7 +120,7 @@ where
 
 /// The same, of an input that was read.
 fn session_of<
-    F: Send + Drop,
+    F: Send,
     X: Drop,
     S: Store<F>,
     K: Sink<X>,
@@ -160,7 +160,7 @@ where
 
 /// Runs a script that was accepted, and tells what it did.
 fn run_script<
-    F: Send + Drop,
+    F: Send,
     X: Drop,
     S: Store<F>,
     K: Sink<X>,

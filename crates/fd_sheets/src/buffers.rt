@@ -6,7 +6,7 @@ use std::alloc::Global;
 
 /// From how many octets on a message is copied into a buffer that was kept. One that is taken anew costs more than the copy, since
 /// the host hands it out page by page.
-const LEAST: usize = 32_768;
+pub const LEAST_KEPT: usize = 32_768;
 
 /// Up to how many octets a buffer is kept, and how many are.
 const MOST: usize = 1_048_576;
@@ -31,7 +31,7 @@ impl Buffers {
     pub fn copied(&mut self, alloc: Global, octets: &[u8]) -> Result<Bytes, NoMemory>
         ensures { IfOk result (λ b. b ≡ octets.now) }
     {
-        if octets.len() < LEAST {
+        if octets.len() < LEAST_KEPT {
             return Bytes::from_slice(alloc, octets);
         }
         match self.kept.pop() {
@@ -48,7 +48,7 @@ impl Buffers {
     pub fn keep(&mut self, bytes: Bytes) {
         let buffer = bytes.into_vec();
         let size = buffer.capacity();
-        if size >= LEAST && size <= MOST && self.kept.len() < COUNT {
+        if size >= LEAST_KEPT && size <= MOST && self.kept.len() < COUNT {
             match self.kept.push(buffer) {
                 Ok(()) => {}
                 Err(_) => {}

@@ -1,16 +1,17 @@
-//! The fields of the messages that are whole in what came of an input, each with its place by a schema and its digest, which a reader takes
-//! while others are stored. The places and the digests are looked for by several threads side by side. By its place each field goes to one
-//! of several workers.
+//! The fields of the messages that are whole in what came of an input, each with its place by a schema, which a reader takes while others
+//! are stored. The places are looked for by several threads side by side. By its place each field goes to one of several workers.
 #![tactic(auto)]
 
 mod buffers;
 mod dealing;
 mod names;
 mod opened;
+mod pieces;
 mod reader;
 mod rounds;
 mod sheets;
 
+pub use buffers::LEAST_KEPT;
 pub use dealing::dealt;
 pub use names::Names;
 pub use reader::{Batch, Reach, Reader, Stop, read_on};

@@ -11,12 +11,13 @@ ghost use Rattle.fd_sheets.specs.Reading.{HasRead, HasTaken, IsFed, IsStop, Read
 use crate::buffers::Buffers;
 use crate::names::Names;
 use crate::opened::Opened;
+use crate::pieces::{new_piece, read_piece};
 use crate::rounds::Rounds;
 use crate::sheets::{Sheet, Unsplit, find_digests, look_up_all, take_sheets};
 use fd_bytes::{Bytes, NoMemory};
 use fd_io::Source;
 use fd_key::Given;
-use fd_outcome::{INPUT_LIMIT, new_buffer, read_piece};
+use fd_outcome::INPUT_LIMIT;
 use fd_schema::Schema;
 use fd_sections::{BadAt, Splitter, Truncated};
 use std::alloc::Global;
@@ -111,7 +112,7 @@ impl Model for Reader {
 
     ghost view = { λ r. record { split = r.splitter; rest = r.opened; count = r.fields } };
 
-    ghost invariant = { λ r. (r.splitter.fed ≡ r.total) × (r.total ≤ 68719476736) × (vec_len r.piece ≡ 65536) × (16 * r.fields + (length r.splitter.rest + 16 * length r.opened) ≤ r.total) × (0 < length r.opened → 1 ≤ r.splitter.given) };
+    ghost invariant = { λ r. (r.splitter.fed ≡ r.total) × (r.total ≤ 68719476736) × (vec_len r.piece ≡ 262144) × (16 * r.fields + (length r.splitter.rest + 16 * length r.opened) ≤ r.total) × (0 < length r.opened → 1 ≤ r.splitter.given) };
 }
 
 impl Reader {
@@ -122,7 +123,7 @@ impl Reader {
         Ok(Reader {
             splitter: Splitter::new(alloc)?,
             opened: Opened::new(alloc),
-            piece: new_buffer(alloc)?,
+            piece: new_piece(alloc)?,
             total: 0,
             fields: 0,
             rounds: Rounds::new(),
@@ -262,7 +263,7 @@ impl Reader {
     }
 }
 
-/// Reads fields with their places and their digests, which so many threads look for. It stops behind 1,024 fields or 4 MiB, also where
+/// Reads fields with their places, which so many threads look for, and, for one worker, their digests. It stops behind 2,048 fields or 4 MiB, also where
 /// others of the same message are still to come, and where a field has no place, or its dataset isn't one of these: so where a read
 /// fails, each field that was read before has a place in one of these datasets. (What is lent for writing comes last, as a closure wants it.)
 pub fn read_on<X, I: Source<X>, R: Threads + Sync>(
@@ -282,7 +283,6 @@ pub fn read_on<X, I: Source<X>, R: Threads + Sync>(
     let mut sheets = Vec::new(alloc);
     reader.rounds.hand_on();
     let end = reader.fill(rt, alloc, input, schema, given, workers, names, &mut sheets);
-    let threads = reader.rounds.threads(workers);
-    find_digests(rt, threads, sheets.as_mut_slice());
+    find_digests(rt, workers, sheets.as_mut_slice());
     Batch { sheets, end }
 }

@@ -1,5 +1,4 @@
 //! Rounds: which messages a worker stores before it passes the gate again, and how many are read before they are stored.
-ghost use Rattle.std.specs.Prelude.{◌<◌};
 
 /// How many messages a round has, and by how many octets it ends before.
 const MESSAGES: u32 = 64;
@@ -7,12 +6,9 @@ const MESSAGES: u32 = 64;
 const OCTETS: u64 = 134_217_728;
 
 /// How many messages are read ahead, and by how many octets that ends before.
-const AHEAD: u32 = 1024;
+const AHEAD: u32 = 2048;
 
 const AHEAD_OCTETS: u64 = 4_194_304;
-
-/// From how many octets on their digests are found in several threads. A start of threads takes as long as the digest of some 20,000.
-const ENOUGH_OCTETS: u64 = 131_072;
 
 /// The round of the next message: its number, from 1, and how many messages and octets it has; and how many were counted since the
 /// last ones were handed on.
@@ -58,17 +54,6 @@ impl Rounds {
     /// So many were counted that they are handed on.
     pub fn is_full(&self) -> bool {
         self.ahead >= AHEAD || self.ahead_octets >= AHEAD_OCTETS
-    }
-
-    /// In how many threads the digests of those that were counted are found, of so many that there may be.
-    pub fn threads(&self, workers: usize) -> usize
-        ensures { 0 < workers → 0 < result }
-    {
-        if self.ahead_octets < ENOUGH_OCTETS {
-            1
-        } else {
-            workers
-        }
     }
 
     /// They are handed on.

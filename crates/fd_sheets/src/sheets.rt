@@ -23,7 +23,7 @@ use std::thread::Threads;
 const ENOUGH_SHEETS: usize = 64;
 
 /// A field of the input, as a message of its own, with the number of its message and that of its round, from 1, and its place, once that
-/// was looked for. Its bytes have their digest before they are handed on.
+/// was looked for.
 #[derive(Drop)]
 pub struct Sheet {
     pub number: u64,
@@ -302,17 +302,26 @@ fn find_digest(sheet: &mut Sheet)
     sheet.bytes.find_digest();
 }
 
-/// Finds the digests of sheets, in so many threads. Nothing else of them changes.
-pub(crate) fn find_digests<R: Threads + Sync>(rt: &R, threads: usize, sheets: &mut [Sheet])
-    requires threads { 0 < threads }
+// Finds the digests of sheets. Nothing else of them changes.
+fn find_all<R: Threads + Sync>(rt: &R, sheets: &mut [Sheet])
     ensures same { sheets.new ≡ sheets.old }
 {
     thread::for_each_mut(
         rt,
         sheets,
-        threads,
+        1,
         &|_i: usize, sheet: &mut Sheet|
             ensures { sheet.new ≡ sheet.old }
         { find_digest(sheet) },
     );
+}
+
+/// Finds the digests of sheets where one worker stores them, which waits for the disk. Several find them before they store.
+/// Nothing else of the sheets changes.
+pub(crate) fn find_digests<R: Threads + Sync>(rt: &R, workers: usize, sheets: &mut [Sheet])
+    ensures same { sheets.new ≡ sheets.old }
+{
+    if workers == 1 {
+        find_all(rt, sheets);
+    }
 }

@@ -9,6 +9,7 @@ pub mod AgainTimes
 pub mod AgainLevels
 pub mod AgainSteps
 pub mod Shorter
+pub mod ShortTexts
 pub mod StatLaws
 pub mod AgainStats
 pub mod Spelled

@@ -43,6 +43,17 @@ fn digit(number: u32) -> char
     char::from(b'0' + (number % 10) as u8)
 }
 
+/// Appends `YYYYMMDD`.
+#[tactic(auto, unfolding(crate::specs::Civil::date_text))]
+pub fn push_date(out: &mut String, year: u32, month: u32, day: u32) -> Result<(), NoMemory>
+    ensures { OnOk result (string_bytes out.new ≡ string_bytes out.old ++ date_text year month day) }
+{
+    push_two_digits(out, year / 100)?;
+    push_two_digits(out, year)?;
+    push_two_digits(out, month)?;
+    push_two_digits(out, day)
+}
+
 /// `YYYYMMDD`.
 #[tactic(auto, unfolding(crate::specs::Civil::date_text))]
 pub fn date_text(alloc: Global, year: u32, month: u32, day: u32) -> Result<String, NoMemory>
@@ -50,12 +61,22 @@ pub fn date_text(alloc: Global, year: u32, month: u32, day: u32) -> Result<Strin
     ensures short { IfOk result (λ s. length (string_bytes s) ≤ 8) }
     ensures value { IfOk result (λ s. IsTrue (is_value (string_bytes s))) }
 {
-    let mut out = String::new(alloc);
-    push_two_digits(&mut out, year / 100)?;
-    push_two_digits(&mut out, year)?;
-    push_two_digits(&mut out, month)?;
-    push_two_digits(&mut out, day)?;
+    let mut out = String::with_capacity(alloc, 8)?;
+    push_date(&mut out, year, month, day)?;
     Ok(out)
+}
+
+/// Appends `HHMM`, and `SS` behind it where the seconds aren't 0.
+#[tactic(auto, unfolding(crate::specs::Civil::time_text))]
+pub fn push_time(out: &mut String, hour: u32, minute: u32, second: u32) -> Result<(), NoMemory>
+    ensures { OnOk result (string_bytes out.new ≡ string_bytes out.old ++ time_text hour minute second) }
+{
+    push_two_digits(out, hour)?;
+    push_two_digits(out, minute)?;
+    if second == 0 {
+        return Ok(());
+    }
+    push_two_digits(out, second)
 }
 
 /// `HHMM`, and `SS` behind it where the seconds aren't 0.
@@ -65,13 +86,8 @@ pub fn time_text(alloc: Global, hour: u32, minute: u32, second: u32) -> Result<S
     ensures short { IfOk result (λ s. length (string_bytes s) ≤ 6) }
     ensures value { IfOk result (λ s. IsTrue (is_value (string_bytes s))) }
 {
-    let mut out = String::new(alloc);
-    push_two_digits(&mut out, hour)?;
-    push_two_digits(&mut out, minute)?;
-    if second == 0 {
-        return Ok(out);
-    }
-    push_two_digits(&mut out, second)?;
+    let mut out = String::with_capacity(alloc, 6)?;
+    push_time(&mut out, hour, minute, second)?;
     Ok(out)
 }
 

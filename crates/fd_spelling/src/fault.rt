@@ -1,5 +1,6 @@
-ghost use Rattle.std.specs.Prelude.{◌≡◌};
+ghost use Rattle.std.specs.Prelude.{◌≡◌, Some};
 ghost use Rattle.fd_spelling.specs.declared.fault.ValueFault.TheVariants as value_faults;
+ghost use Rattle.fd_spelling.specs.FaultTexts.{value_fault_text};
 
 use std::error::Error;
 use std::fmt;
@@ -22,9 +23,6 @@ impl From<fd_bytes::NoMemory> for ValueFault {
 }
 
 impl fmt::Display for ValueFault {
-    ghost use Rattle.std.specs.Prelude.{Some};
-    ghost use Rattle.fd_spelling.specs.FaultTexts.{value_fault_text};
-
     ghost output = { λ fault. Some (value_fault_text fault) };
 
     fn fmt<W: fmt::Write>(&self, f: &mut fmt::Formatter<W>) -> fmt::Result {

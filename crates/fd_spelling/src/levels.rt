@@ -12,21 +12,34 @@ ghost use Rattle.fd_spelling.specs.Canonical.{GivesText};
 use crate::fault::ValueFault;
 use crate::names::push_bytes;
 use crate::numerals::{cut, is_numeral, number_up_to};
+use crate::values::push_number;
+use arrayvec::ArrayString;
 use fd_bytes::NoMemory;
+use itoa::Buffer;
 use std::alloc::Global;
 
-/// The type of the first surface, and that of the second unless it is missing.
+/// Appends the type of the first surface, and that of the second unless it is missing.
 #[tactic(auto, unfolding(crate::specs::Levels::levtype_text))]
+pub fn push_levtype(out: &mut String, first: u8, second: u8) -> Result<(), NoMemory>
+    ensures { OnOk result (string_bytes out.new ≡ string_bytes out.old ++ levtype_text first second) }
+{
+    push_number(out, u32::from(first))?;
+    if second == 255 {
+        return Ok(());
+    }
+    out.push('-')?;
+    push_number(out, u32::from(second))
+}
+
+/// The type of the first surface, and that of the second unless it is missing.
 pub fn levtype_text(alloc: Global, first: u8, second: u8) -> Result<String, NoMemory>
     ensures text { IfOk result (λ s. string_bytes s ≡ levtype_text first second) }
     ensures short { IfOk result (λ s. length (string_bytes s) ≤ 32) }
     ensures value { IfOk result (λ s. IsTrue (is_value (string_bytes s))) }
 {
-    if second == 255 {
-        Ok(format!(in alloc; "{first}")?)
-    } else {
-        Ok(format!(in alloc; "{first}-{second}")?)
-    }
+    let mut out = String::with_capacity(alloc, 7)?;
+    push_levtype(&mut out, first, second)?;
+    Ok(out)
 }
 
 /// The types that two texts write, in their one spelling.
@@ -124,8 +137,24 @@ fn sign_of(negative: bool, whole: &[u8], fraction: &[u8]) -> &'static str
     }
 }
 
-/// The decimal with these digits before its point and these behind it, in its one spelling.
+/// Appends the decimal with these digits before its point and these behind it, in its one spelling.
 #[tactic(auto, unfolding(crate::specs::Levels::level_text))]
+fn push_level(
+    out: &mut String,
+    negative: bool,
+    whole: &[u8],
+    fraction: &[u8],
+) -> Result<(), NoMemory>
+    requires whole { list_all is_ascii_digit whole.now ≡ true }
+    requires fraction { list_all is_ascii_digit fraction.now ≡ true }
+    ensures { OnOk result (string_bytes out.new ≡ string_bytes out.old ++ level_text negative whole.now fraction.now) }
+{
+    out.push_str(sign_of(negative, whole, fraction))?;
+    push_whole(out, without_first_zeros(whole))?;
+    push_fraction(out, without_last_zeros(fraction))
+}
+
+/// The decimal with these digits before its point and these behind it, in its one spelling.
 fn level_text(
     alloc: Global,
     negative: bool,
@@ -136,9 +165,8 @@ fn level_text(
     requires fraction { list_all is_ascii_digit fraction.now ≡ true }
     ensures { IfOk result (λ s. string_bytes s ≡ level_text negative whole.now fraction.now) }
 {
-    let mut out = String::from_str(alloc, sign_of(negative, whole, fraction))?;
-    push_whole(&mut out, without_first_zeros(whole))?;
-    push_fraction(&mut out, without_last_zeros(fraction))?;
+    let mut out = String::new(alloc);
+    push_level(&mut out, negative, whole, fraction)?;
     Ok(out)
 }
 
@@ -214,58 +242,55 @@ pub fn both_levels(alloc: Global, first: &str, second: &str) -> Result<String, N
     Ok(format!(in alloc; "{first}_{second}")?)
 }
 
-/// So many zeros.
-fn zeros(alloc: Global, count: u64) -> Result<String, NoMemory>
-    ensures zeros { IfOk result (λ s. string_bytes s ≡ replicate count 48) }
-    ensures digits { IfOk result (λ s. list_all is_ascii_digit (string_bytes s) ≡ true) }
+/// Appends so many zeros.
+fn push_zeros(out: &mut ArrayString<276>, count: u64)
+    requires room { length out.old.bytes + count ≤ 276 }
+    requires digits { list_all is_ascii_digit out.old.bytes ≡ true }
+    ensures zeros { out.new.bytes ≡ out.old.bytes ++ replicate count 48 }
+    ensures digits { list_all is_ascii_digit out.new.bytes ≡ true }
 {
-    let mut out = String::new(alloc);
     for _i in 0..count {
-        out.push('0')?;
+        out.push_str("0");
     }
-    Ok(out)
 }
 
-/// The number of these digits with zeros behind them.
-fn enlarged(alloc: Global, negative: bool, digits: &str, zeros: &str) -> Result<String, NoMemory>
+/// Appends the number of these digits with so many zeros behind them.
+fn push_enlarged(out: &mut String, negative: bool, digits: &str, zeros: u64) -> Result<(), NoMemory>
+    requires room { length digits.now + zeros ≤ 276 }
     requires digits { list_all is_ascii_digit digits.now ≡ true }
-    requires zeros { list_all is_ascii_digit zeros.now ≡ true }
-    ensures { IfOk result (λ s. string_bytes s ≡ level_text negative (digits.now ++ zeros.now) []) }
+    ensures { OnOk result (string_bytes out.new ≡ string_bytes out.old ++ level_text negative (digits.now ++ replicate zeros 48) []) }
 {
-    let whole = format!(in alloc; "{digits}{zeros}")?;
-    level_text(alloc, negative, whole.as_bytes(), b"")
+    let mut all = ArrayString::new();
+    all.push_str(digits);
+    push_zeros(&mut all, zeros);
+    push_level(out, negative, all.as_str().as_bytes(), b"")
 }
 
-/// The number of these digits with zeros before them, and the point behind as many digits as it had.
-fn reduced(alloc: Global, negative: bool, digits: &str, zeros: &str) -> Result<String, NoMemory>
+/// Appends the number of these digits with so many zeros before them, and the point behind as many digits as it had.
+fn push_reduced(out: &mut String, negative: bool, digits: &str, zeros: u64) -> Result<(), NoMemory>
+    requires room { length digits.now + zeros ≤ 276 }
     requires digits { list_all is_ascii_digit digits.now ≡ true }
-    requires zeros { list_all is_ascii_digit zeros.now ≡ true }
-    ensures { IfOk result (λ s. string_bytes s ≡ level_text negative (take (length digits.now) (zeros.now ++ digits.now)) (drop (length digits.now) (zeros.now ++ digits.now))) }
+    ensures { OnOk result (string_bytes out.new ≡ string_bytes out.old ++ level_text negative (take (length digits.now) (replicate zeros 48 ++ digits.now)) (drop (length digits.now) (replicate zeros 48 ++ digits.now))) }
 {
-    let all = format!(in alloc; "{zeros}{digits}")?;
-    let (whole, fraction) = all.as_bytes().split_at(digits.len());
-    level_text(alloc, negative, whole, fraction)
+    let mut all = ArrayString::new();
+    push_zeros(&mut all, zeros);
+    all.push_str(digits);
+    let (whole, fraction) = all.as_str().as_bytes().split_at(digits.len());
+    push_level(out, negative, whole, fraction)
 }
 
-/// The digits of a number.
-fn digits_of(alloc: Global, number: u64) -> Result<String, NoMemory>
-    ensures text { IfOk result (λ s. string_bytes s ≡ decimal number) }
-    ensures digits { IfOk result (λ s. list_all is_ascii_digit (string_bytes s) ≡ true) }
-{
-    Ok(format!(in alloc; "{number}")?)
-}
-
-/// The text of value × 10 ^ -factor.
+/// Appends the text of value × 10 ^ -factor.
 #[tactic(auto, unfolding(crate::specs::Levels::scaled_text))]
-pub fn scaled_text(alloc: Global, factor: &i64, value: &i64) -> Result<String, NoMemory>
-    requires { unsigned_abs factor.now < 256 }
-    ensures { IfOk result (λ s. string_bytes s ≡ scaled_text factor.now value.now) }
+pub fn push_scaled(out: &mut String, factor: i64, value: i64) -> Result<(), NoMemory>
+    requires { unsigned_abs factor < 256 }
+    ensures { OnOk result (string_bytes out.new ≡ string_bytes out.old ++ scaled_text factor value) }
 {
-    let digits = digits_of(alloc, value.unsigned_abs())?;
-    let zeros = zeros(alloc, factor.unsigned_abs())?;
+    let mut buffer = Buffer::new();
+    let digits = buffer.format(value.unsigned_abs());
+    let zeros = factor.unsigned_abs();
     if factor.is_negative() {
-        enlarged(alloc, value.is_negative(), digits.as_str(), zeros.as_str())
+        push_enlarged(out, value.is_negative(), digits, zeros)
     } else {
-        reduced(alloc, value.is_negative(), digits.as_str(), zeros.as_str())
+        push_reduced(out, value.is_negative(), digits, zeros)
     }
 }

@@ -12,13 +12,13 @@ mod stats;
 mod steps;
 mod values;
 
-pub use civil::{date_text, is_date, is_time, time_text};
+pub use civil::{date_text, is_date, is_time, push_date, push_time, time_text};
 pub use fault::ValueFault;
-pub use levels::{both_levels, levtype_text, scaled_text, second_alone};
+pub use levels::{both_levels, levtype_text, push_levtype, push_scaled, second_alone};
 pub use meaning::{Meaning, meaning_of};
 pub use names::{is_name, is_name_byte, is_value, is_value_byte, lower, text_from};
 pub use numerals::{cut, is_numeral, number_of, number_up_to};
 pub use pieces::{comma_piece, first_piece};
 pub use stats::{none_text, part_text, push_part};
-pub use steps::step_text;
-pub use values::{canonical, number_text, param_text, read_pair};
+pub use steps::{push_step, step_text};
+pub use values::{canonical, number_text, param_text, push_number, push_param, read_pair};

@@ -1,5 +1,5 @@
 // Forecast times with their unit.
-ghost use Rattle.std.specs.Prelude.{◌≡◌, ◌≤◌, ◌<◌, ◌^◌, IfOk, IsTrue, IfSome, length, string_bytes};
+ghost use Rattle.std.specs.Prelude.{◌≡◌, ◌≤◌, ◌<◌, ◌^◌, ◌++◌, IfOk, OnOk, IsTrue, IfSome, length, string_bytes};
 ghost use Rattle.fd_spelling.specs.Steps.{unit_seconds, sign_text, seconds_text, magnitude_text, step_text, unit_of, unsigned_step, step_spelling, without_seconds};
 ghost use Rattle.fd_spelling.specs.Numerals.{number_up_to};
 ghost use Rattle.fd_spelling.specs.Names.{is_value};
@@ -35,46 +35,54 @@ fn sign_text(negative: bool, number: u64) -> &'static str
     if negative && 0 < number { "-" } else { "" }
 }
 
-/// Whole hours, else whole minutes, else seconds.
-fn seconds_text(alloc: Global, seconds: u128) -> Result<String, NoMemory>
-    requires { seconds < 10 ^ 22 }
-    ensures text { IfOk result (λ s. string_bytes s ≡ seconds_text seconds) }
-    ensures short { IfOk result (λ s. length (string_bytes s) ≤ 23) }
+/// Appends whole hours, else whole minutes, else seconds.
+fn push_seconds(out: &mut String, seconds: u128) -> Result<(), NoMemory>
+    ensures { OnOk result (string_bytes out.new ≡ string_bytes out.old ++ seconds_text seconds) }
 {
     if seconds % 3600 == 0 {
         let hours = seconds / 3600;
-        return Ok(format!(in alloc; "{hours}")?);
-    }
-    if seconds % 60 == 0 {
+        write!(out, "{hours}")?;
+    } else if seconds % 60 == 0 {
         let minutes = seconds / 60;
-        return Ok(format!(in alloc; "{minutes}m")?);
+        write!(out, "{minutes}m")?;
+    } else {
+        write!(out, "{seconds}s")?;
     }
-    Ok(format!(in alloc; "{seconds}s")?)
+    Ok(())
 }
 
-/// A number of units of time (code table 4.4).
-fn magnitude_text(alloc: Global, number: u64, unit: u8) -> Result<String, NoMemory>
-    requires { number < 2 ^ 52 }
-    ensures text { IfOk result (λ s. string_bytes s ≡ magnitude_text number unit (unit_seconds unit)) }
-    ensures short { IfOk result (λ s. length (string_bytes s) ≤ 23) }
+/// Appends a number of units of time (code table 4.4).
+fn push_magnitude(out: &mut String, number: u64, unit: u8) -> Result<(), NoMemory>
+    ensures { OnOk result (string_bytes out.new ≡ string_bytes out.old ++ magnitude_text number unit (unit_seconds unit)) }
 {
     match unit_seconds(unit) {
-        Some(seconds) => seconds_text(alloc, u128::from(number) * u128::from(seconds)),
-        None => Ok(format!(in alloc; "{number}u{unit}")?),
+        Some(seconds) => push_seconds(out, u128::from(number) * u128::from(seconds)),
+        None => {
+            write!(out, "{number}u{unit}")?;
+            Ok(())
+        }
     }
+}
+
+/// Appends a number of units of time, with its sign.
+#[tactic(auto, unfolding(crate::specs::Steps::step_text))]
+pub fn push_step(out: &mut String, negative: bool, number: u64, unit: u8) -> Result<(), NoMemory>
+    ensures { OnOk result (string_bytes out.new ≡ string_bytes out.old ++ step_text negative number unit) }
+{
+    out.push_str(sign_text(negative, number))?;
+    push_magnitude(out, number, unit)
 }
 
 /// The one spelling of a number of units of time, with its sign.
-#[tactic(auto, unfolding(crate::specs::Steps::step_text))]
 pub fn step_text(alloc: Global, negative: bool, number: u64, unit: u8) -> Result<String, NoMemory>
     requires { number < 2 ^ 52 }
     ensures text { IfOk result (λ s. string_bytes s ≡ step_text negative number unit) }
     ensures short { IfOk result (λ s. length (string_bytes s) ≤ 24) }
     ensures value { IfOk result (λ s. IsTrue (is_value (string_bytes s))) }
 {
-    let sign = sign_text(negative, number);
-    let text = magnitude_text(alloc, number, unit)?;
-    Ok(format!(in alloc; "{sign}{text}")?)
+    let mut out = String::with_capacity(alloc, 24)?;
+    push_step(&mut out, negative, number, unit)?;
+    Ok(out)
 }
 
 /// The unit that stands behind a number.

@@ -1,4 +1,4 @@
-ghost use Rattle.std.specs.Prelude.{◌≡◌, ◌≤◌, IfOk, OnOk, IsTrue, IfSome, Some, length, string_bytes, option_map};
+ghost use Rattle.std.specs.Prelude.{◌≡◌, ◌≤◌, ◌++◌, IfOk, OnOk, IsTrue, IfSome, Some, length, string_bytes, option_map};
 ghost use Rattle.std.specs.Fmt.{decimal};
 ghost use Rattle.fd_spelling.specs.Numerals.{number_up_to, cut};
 ghost use Rattle.fd_spelling.specs.Names.{lower, is_name, is_value};
@@ -13,6 +13,7 @@ use crate::numerals::{cut, number_up_to};
 use crate::stats::stat_spelling;
 use crate::steps::step_spelling;
 use fd_bytes::NoMemory;
+use itoa::Buffer;
 use std::alloc::Global;
 
 /// A number in decimal digits.
@@ -21,7 +22,9 @@ pub fn number_text(alloc: Global, number: u32) -> Result<String, NoMemory>
     ensures short { IfOk result (λ s. length (string_bytes s) ≤ 10) }
     ensures value { IfOk result (λ s. IsTrue (is_value (string_bytes s))) }
 {
-    Ok(format!(in alloc; "{number}")?)
+    let mut out = String::with_capacity(alloc, 10)?;
+    push_number(&mut out, number)?;
+    Ok(out)
 }
 
 /// A number up to this one, without leading zeros.
@@ -35,13 +38,34 @@ fn number_spelling(alloc: Global, text: &[u8], most: u32) -> Result<String, Valu
     Ok(number_text(alloc, number)?)
 }
 
+/// Appends a number in decimal digits.
+pub fn push_number(out: &mut String, number: u32) -> Result<(), NoMemory>
+    ensures { OnOk result (string_bytes out.new ≡ string_bytes out.old ++ decimal number) }
+{
+    out.push_str(Buffer::new().format(number))?;
+    Ok(())
+}
+
+/// Appends the text `d.c.n` of a parameter: its discipline, category and number.
+pub fn push_param(out: &mut String, d: u8, c: u8, n: u8) -> Result<(), NoMemory>
+    ensures { OnOk result (string_bytes out.new ≡ string_bytes out.old ++ param_text d c n) }
+{
+    push_number(out, u32::from(d))?;
+    out.push('.')?;
+    push_number(out, u32::from(c))?;
+    out.push('.')?;
+    push_number(out, u32::from(n))
+}
+
 /// The text `d.c.n` of a parameter: its discipline, category and number.
 pub fn param_text(alloc: Global, d: u8, c: u8, n: u8) -> Result<String, NoMemory>
     ensures text { IfOk result (λ s. string_bytes s ≡ param_text d c n) }
     ensures short { IfOk result (λ s. length (string_bytes s) ≤ 32) }
     ensures value { IfOk result (λ s. IsTrue (is_value (string_bytes s))) }
 {
-    Ok(format!(in alloc; "{d}.{c}.{n}")?)
+    let mut out = String::with_capacity(alloc, 11)?;
+    push_param(&mut out, d, c, n)?;
+    Ok(out)
 }
 
 /// Three numbers up to 255 with points between them.

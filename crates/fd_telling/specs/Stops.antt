@@ -15,6 +15,8 @@ use Rattle.fd_listing.specs.Lines.{blank, line}
 use Rattle.fd_outcome.specs.Told.{Told, ToldOrNoMemory}
 use Rattle.fd_outcome.specs.declared.status.Status.{Status}
 use Rattle.fd_outcome.specs.declared.status.Status.TheVariants as statuses
+use Rattle.fd_outcome.specs.declared.stored.Unruled.{Unruled}
+use Rattle.fd_outcome.specs.declared.stored.Unruled.TheVariants as unruled
 use Rattle.fd_outcome.specs.Store.{Stands}
 use Rattle.fd_telling.specs.declared.stop.Broken.{Broken}
 use Rattle.fd_telling.specs.declared.stop.Broken.TheVariants as brokens
@@ -32,6 +34,13 @@ ToldAs cause result c d m n = ToldOrNoMemory (causes.telling cause).status (caus
 -- a line of what is wrong in the stored schema was told, or of want of memory
 abbrev pub ToldSome : Status → Option (List ℕ) → Option (List ℕ) → ℕ → ℕ → Type 0
 ToldSome result c d m n = (s : Status) × (text : List ℕ) × ((s ≡ statuses.Damaged) ⊎ ((s ≡ statuses.Limit) ⊎ (s ≡ statuses.NoMemory))) × Told s text result c d m n
+
+-- The line of why a store has no rules was written, or a front of it; or that of want of memory in its place.
+abbrev pub ToldUnruled : {F : Type 0} → Unruled F → Status → Option (List ℕ) → Option (List ℕ) → ℕ → ℕ → Type 0
+ToldUnruled (unruled.Disk f) result c d m n = Told statuses.DiskFault disk_failed result c d m n
+ToldUnruled unruled.Missing result c d m n = Told statuses.Refused (causes.telling causes.SchemaMissing).line result c d m n
+ToldUnruled (unruled.At line kind) result c d m n = ToldSome result c d m n × ((text : List ℕ) (fault : schemas.Fault) → IsFirst text line kind fault → ToldAs (causes.InStored text fault) result c d m n)
+ToldUnruled unruled.NoMemory result c d m n = Told statuses.NoMemory no_memory result c d m n
 
 -- what is asked is refused for this cause
 abbrev pub IsRefused : {A : Type 0} → Result A causes.Cause → causes.Cause → Type 0

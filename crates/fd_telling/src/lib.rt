@@ -5,4 +5,4 @@ mod stop;
 mod telling;
 
 pub use stop::{Broken, Stop};
-pub use telling::{tell_broken, tell_schema, tell_stop};
+pub use telling::{tell_broken, tell_schema, tell_stop, tell_unruled};

@@ -7,14 +7,15 @@ ghost use Rattle.fd_request.specs.Reading.{seen_kind};
 ghost use Rattle.fd_outcome.specs.Causes as causes;
 ghost use Rattle.fd_outcome.specs.Causes.{InRequest, InStored, broken_text, damaged_line, file_text, hex_text, kind_text, telling};
 ghost use Rattle.fd_outcome.specs.Told.{ToldOrNoMemory};
-ghost use Rattle.fd_telling.specs.Stops.{OnDisk, ToldSome, ToldStop, seen_broken};
+ghost use Rattle.fd_outcome.specs.Unruled as rulings;
+ghost use Rattle.fd_telling.specs.Stops.{OnDisk, ToldSome, ToldStop, ToldUnruled, seen_broken};
 
 use crate::stop::{Broken, Stop};
 use fd_disk::{FileKind, FileName, Store};
 use fd_io::Sink;
 use fd_outcome::{
-    Status, is_request_limit, is_schema_limit, request_kind, schema_kind, tell, tell_input_failed,
-    tell_limit, tell_no_memory, tell_noted, tell_place, tell_text,
+    Status, Unruled, is_request_limit, is_schema_limit, request_kind, schema_kind, tell,
+    tell_input_failed, tell_limit, tell_no_memory, tell_noted, tell_place, tell_text,
 };
 use fd_request::RequestKind;
 use fd_schema::SchemaKind;
@@ -57,6 +58,26 @@ pub fn tell_stop<F: Send, X: Drop, S: Store<F>, E: Sink<X>>(
         Stop::TooMany => tell(report, "limit TooMany 2049\n", Status::Limit),
         Stop::Broken { dataset, broken } => tell_broken(alloc, report, dataset.as_str(), broken),
         Stop::NoMemory => tell_no_memory(report),
+    }
+}
+
+/// Writes the line of why a store has no rules. A fault of the store is counted.
+pub fn tell_unruled<F: Send, X: Drop, S: Store<F>, E: Sink<X>>(
+    alloc: Global,
+    store: &mut S,
+    report: &mut E,
+    unruled: Unruled<F>,
+) -> Status
+    ensures told { ToldUnruled unruled result (E.taken report.old) (E.taken report.new) (E.faults report.old) (E.faults report.new) }
+    ensures noted { rulings.OnDisk unruled (Rose (S.faults store.old) (S.faults store.new)) }
+    ensures has { S.has store.new ≡ S.has store.old }
+    ensures out { S.out store.new ≡ S.out store.old }
+{
+    match unruled {
+        Unruled::Disk(fault) => tell_noted(store, report, fault),
+        Unruled::Missing => tell(report, "refused SchemaMissing\n", Status::Refused),
+        Unruled::At { line, kind } => tell_schema(alloc, report, line, &kind),
+        Unruled::NoMemory => tell_no_memory(report),
     }
 }
 

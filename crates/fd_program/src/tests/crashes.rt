@@ -113,15 +113,8 @@ disk failed
 };
 
 /// A store over which the lane has run, and which lists no batch after a crash.
-const ABSENT: Case = Case {
-    fails: Some((TABLE, Op::Sync, 3)),
-    rows: &[CREATED, ONCE],
-    after: &[Row {
-        output: &[],
-        ..LISTED
-    }],
-    ..CASE
-};
+const ABSENT: Case =
+    case!(fails: Some((TABLE, Op::Sync, 3)), rows: &[CREATED, ONCE], after: &[row!(LISTED, output: &[])]);
 
 /// The same, where it lists the batch.
 const WHOLE: Case = Case {

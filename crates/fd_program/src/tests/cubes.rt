@@ -22,26 +22,14 @@ const CUBE: Row = Row {
 };
 
 /// Keys of no message.
-const NOTHING: Row = Row {
-    words: &["cubes", "s"],
-    input: &[Part::Text("list,step=7")],
-    ..ROW
-};
+const NOTHING: Row = row!(ROW, words: &["cubes", "s"], input: &[Part::Text("list,step=7")]);
 
 /// A request that is none.
-const REFUSED: Row = Row {
-    words: &["cubes", "s"],
-    input: &[Part::Text("retrieve,step=7")],
-    report: "refused request 0 Verb\n",
-    status: 3,
-    ..ROW
-};
+const REFUSED: Row =
+    row!(ROW, words: &["cubes", "s"], input: &[Part::Text("retrieve,step=7")], report: "refused request 0 Verb\n", status: 3);
 
 /// A field of a class that is a word of ranges.
-const RANGED: Row = Row {
-    words: &["archive", "s", "--with=class=to,expver=0001"],
-    ..ARCHIVED
-};
+const RANGED: Row = row!(ARCHIVED, words: &["archive", "s", "--with=class=to,expver=0001"]);
 
 /// Keys that requests can name, and one that they can't.
 const UNNAMED: Row = Row {
@@ -63,39 +51,18 @@ const NAMED: Row = Row {
 };
 
 const CUBES: &[Case] = &[
-    Case {
-        size: 262_144,
-        calls: 4096,
-        rows: &[CREATED, NOTHING, REFUSED, ARCHIVED_MANY, CUBE, NOTHING],
-        ..CASE
-    },
+    case!(size: 262_144, calls: 4096, rows: &[CREATED, NOTHING, REFUSED, ARCHIVED_MANY, CUBE, NOTHING]),
     Case {
         rows: &[
-            Row {
-                report: "refused SchemaMissing\n",
-                status: 3,
-                ..UNNAMED
-            },
+            row!(UNNAMED, report: "refused SchemaMissing\n", status: 3),
             CREATED,
             ARCHIVED,
             ARCHIVED,
             RANGED,
             UNNAMED,
             NAMED,
-            Row {
-                output: &[],
-                report: "output failed\n",
-                status: 5,
-                writes: &[1],
-                ..NAMED
-            },
-            Row {
-                report: "input failed\n",
-                status: 4,
-                output: &[],
-                reads: &[1],
-                ..NAMED
-            },
+            row!(NAMED, output: &[], report: "output failed\n", status: 5, writes: &[1]),
+            row!(NAMED, report: "input failed\n", status: 4, output: &[], reads: &[1]),
         ],
         ..CASE
     },

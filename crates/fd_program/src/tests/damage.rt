@@ -38,37 +38,27 @@ const DIGEST: &[u8] = &[
 ];
 
 /// A store in which the field is archived, and found.
-const SOUND: Case = Case {
-    rows: &[CREATED, ARCHIVED],
-    after: &[RETRIEVED],
-    ..CASE
-};
+const SOUND: Case = case!(rows: &[CREATED, ARCHIVED], after: &[RETRIEVED]);
 
 /// The table has an entry of kind 1.
 const OLD: (&str, &[Part], &[Part]) = (TABLE, TABLE_FILE, &[]);
 
 /// A retrieve that tells of damage.
-const DAMAGED: Row = Row {
-    output: &[],
-    status: 8,
-    ..RETRIEVED
-};
+const DAMAGED: Row = row!(RETRIEVED, output: &[], status: 8);
 
 const FIELD_FILES: &[Case] = &[
     Case {
         event: Event::Removed(FIELDS),
-        after: &[Row {
-            report: "damaged class=od,expver=0001,date=20240101,time=0000 Absent 1-1.fields\n",
-            ..DAMAGED
-        }],
+        after: &[
+            row!(DAMAGED, report: "damaged class=od,expver=0001,date=20240101,time=0000 Absent 1-1.fields\n"),
+        ],
         ..SOUND
     },
     Case {
         event: Event::BothReplaced(&[OLD, (FIELDS, &[Part::Field(&[])], &[Part::Length(182)])]),
-        after: &[Row {
-            report: "damaged class=od,expver=0001,date=20240101,time=0000 Length 1-1.fields 183 182\n",
-            ..DAMAGED
-        }],
+        after: &[
+            row!(DAMAGED, report: "damaged class=od,expver=0001,date=20240101,time=0000 Length 1-1.fields 183 182\n"),
+        ],
         ..SOUND
     },
 ];
@@ -85,26 +75,23 @@ const INDEX_FILES: &[Case] = &[
     },
     Case {
         event: Event::BothReplaced(&[OLD, (INDEX, INDEX_FILE, &[Part::Length(4000)])]),
-        after: &[Row {
-            report: "damaged class=od,expver=0001,date=20240101,time=0000 Length 1-1.index 4120 4000\n",
-            ..DAMAGED
-        }],
+        after: &[
+            row!(DAMAGED, report: "damaged class=od,expver=0001,date=20240101,time=0000 Length 1-1.index 4120 4000\n"),
+        ],
         ..SOUND
     },
     Case {
         event: Event::BothReplaced(&[OLD, (INDEX, INDEX_FILE, &[Part::At(0, 0)])]),
-        after: &[Row {
-            report: "damaged class=od,expver=0001,date=20240101,time=0000 Index 1-1.index 0\n",
-            ..DAMAGED
-        }],
+        after: &[
+            row!(DAMAGED, report: "damaged class=od,expver=0001,date=20240101,time=0000 Index 1-1.index 0\n"),
+        ],
         ..SOUND
     },
     Case {
         event: Event::BothReplaced(&[OLD, (INDEX, INDEX_FILE, &[Part::At(90, 0xB8)])]),
-        after: &[Row {
-            report: "damaged class=od,expver=0001,date=20240101,time=0000 Beyond 1-1.fields 184 183\n",
-            ..DAMAGED
-        }],
+        after: &[
+            row!(DAMAGED, report: "damaged class=od,expver=0001,date=20240101,time=0000 Beyond 1-1.fields 184 183\n"),
+        ],
         ..SOUND
     },
 ];
@@ -142,10 +129,9 @@ const DIGESTS: &[Case] = &[
     },
     Case {
         event: Event::Replaced(FIELDS, &[Part::Field(&[])], &[Part::Length(214)]),
-        after: &[Row {
-            report: "damaged class=od,expver=0001,date=20240101,time=0000 Length 1-1.fields 215 214\n",
-            ..DAMAGED
-        }],
+        after: &[
+            row!(DAMAGED, report: "damaged class=od,expver=0001,date=20240101,time=0000 Length 1-1.fields 215 214\n"),
+        ],
         ..SOUND
     },
 ];
@@ -160,10 +146,7 @@ fn a_digest_that_differs_is_named(rt: HostRuntime) {
 const MIXED: &[Case] = &[Case {
     event: Event::BothReplaced(&[OLD]),
     after: &[
-        Row {
-            input: &[UPPER],
-            ..ARCHIVED
-        },
+        row!(ARCHIVED, input: &[UPPER]),
         Row {
             input: &[Part::Text(
                 "retrieve,class=od,expver=0001,date=20240101,time=00,centre=98,type=1,levtype=100,param=0.0.0,step=0,levelist=100000/92500",
@@ -190,38 +173,23 @@ const TABLES: &[Case] = &[
     Case {
         event: Event::Replaced(TABLE, TABLE_FILE, &[Part::At(0, 0)]),
         after: &[
-            Row {
-                report: "damaged class=od,expver=0001,date=20240101,time=0000 NotATable 0 70 0\n",
-                ..DAMAGED
-            },
-            Row {
-                report: "damaged class=od,expver=0001,date=20240101,time=0000 NotATable 0 70 0\n",
-                status: 8,
-                ..ARCHIVED
-            },
+            row!(DAMAGED, report: "damaged class=od,expver=0001,date=20240101,time=0000 NotATable 0 70 0\n"),
+            row!(ARCHIVED, report: "damaged class=od,expver=0001,date=20240101,time=0000 NotATable 0 70 0\n", status: 8),
         ],
         ..SOUND
     },
     Case {
         event: Event::Replaced(TABLE, TABLE_FILE, &[Part::Length(5)]),
-        after: &[Row {
-            report: "damaged class=od,expver=0001,date=20240101,time=0000 NotATable 5 48 -\n",
-            ..DAMAGED
-        }],
+        after: &[
+            row!(DAMAGED, report: "damaged class=od,expver=0001,date=20240101,time=0000 NotATable 5 48 -\n"),
+        ],
         ..SOUND
     },
     Case {
         event: Event::Replaced("schema", &[Part::Text("[a")], &[]),
         after: &[
-            Row {
-                report: "damaged schema 1 End\n",
-                ..DAMAGED
-            },
-            Row {
-                report: "damaged schema 1 End\n",
-                status: 8,
-                ..ARCHIVED
-            },
+            row!(DAMAGED, report: "damaged schema 1 End\n"),
+            row!(ARCHIVED, report: "damaged schema 1 End\n", status: 8),
         ],
         ..SOUND
     },
@@ -238,12 +206,7 @@ const FAILING_READ: &[Case] = &[Case {
     rows: &[
         CREATED,
         ARCHIVED,
-        Row {
-            output: &[],
-            report: "disk failed\n",
-            status: 6,
-            ..RETRIEVED
-        },
+        row!(RETRIEVED, output: &[], report: "disk failed\n", status: 6),
     ],
     event: Event::Crash(0),
     ..SOUND
@@ -258,13 +221,7 @@ fn a_read_that_fails_changes_nothing(rt: HostRuntime) {
 const FAILING_STREAMS: &[Case] = &[
     Case {
         piece: 183,
-        after: &[Row {
-            output: &[],
-            report: "output failed\n",
-            status: 5,
-            writes: &[1],
-            ..RETRIEVED
-        }],
+        after: &[row!(RETRIEVED, output: &[], report: "output failed\n", status: 5, writes: &[1])],
         ..SOUND
     },
     // The input gives the first of two fields, and fails.
@@ -272,13 +229,7 @@ const FAILING_STREAMS: &[Case] = &[
         piece: 183,
         rows: &[
             CREATED,
-            Row {
-                input: &[Part::Field(&[]), Part::Field(&[(130, 6)])],
-                report: "input failed\n",
-                status: 4,
-                reads: &[2],
-                ..ARCHIVED
-            },
+            row!(ARCHIVED, input: &[Part::Field(&[]), Part::Field(&[(130, 6)])], report: "input failed\n", status: 4, reads: &[2]),
         ],
         ..SOUND
     },

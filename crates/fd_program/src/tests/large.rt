@@ -5,12 +5,8 @@ use super::octets::Part;
 use super::stores::CREATED;
 
 /// A schema by which the generated messages of all days are of one dataset.
-const BY_CENTRE: Row = Row {
-    input: &[Part::Text(
-        "[class, expver, centre [type, levtype [date, time, param, step, levelist?]]]",
-    )],
-    ..CREATED
-};
+const BY_CENTRE: Row =
+    row!(CREATED, input: &[Part::Text("[class, expver, centre [type, levtype [date, time, param, step, levelist?]]]")]);
 
 /// A message of 100,000 octets, of another centre.
 const LONG: Part = Part::Field(&[
@@ -32,8 +28,8 @@ const MANY: &[Part] = &[
     Part::Generated(0, 3000),
 ];
 
-/// The eighth round of the first and of the second worker waits until both have come so far; and that of the third and the seventh read of
-/// the input, which more than fill what is read ahead, wait for one another.
+/// The eighth round of the first and of the second worker waits until both have come so far; and that of the third and the ninth read of
+/// the input, before which came more than is read ahead, wait for one another.
 const MEETING: &[Hold] = &[
     Hold {
         lane: 1,
@@ -48,21 +44,17 @@ const MEETING: &[Hold] = &[
     Hold {
         lane: 3,
         step: 8,
-        until: 7,
+        until: 9,
     },
     Hold {
         lane: 0,
-        step: 7,
+        step: 9,
         until: 8,
     },
 ];
 
-const STORED: Row = Row {
-    words: &["archive", "s", "--with=class=od,expver=0001"],
-    input: MANY,
-    report: "archived 3001 datasets 2 junk 0\n",
-    ..ROW
-};
+const STORED: Row =
+    row!(ROW, words: &["archive", "s", "--with=class=od,expver=0001"], input: MANY, report: "archived 3001 datasets 2 junk 0\n");
 
 /// A request of the long message, and one of the last ones of the others.
 const FOUND: Row = Row {
@@ -116,12 +108,7 @@ const REFUSED: Row = Row {
     ..STORED
 };
 
-const LARGE: Case = Case {
-    piece: 65_536,
-    size: 1_048_576,
-    calls: 16_384,
-    ..CASE
-};
+const LARGE: Case = case!(piece: 65_536, size: 1_048_576, calls: 16_384);
 
 const WORKERS: &[&str] = &["archive", "s", "--with=class=od,expver=0001", "--workers=4"];
 
@@ -133,26 +120,14 @@ const ARCHIVING: &[Case] = &[
     Case {
         rows: &[
             BY_CENTRE,
-            Row {
-                words: WORKERS,
-                holds: MEETING,
-                ..STORED
-            },
+            row!(STORED, words: WORKERS, holds: MEETING),
             BY_FOUR,
             FOUND,
         ],
         ..LARGE
     },
     Case {
-        rows: &[
-            BY_CENTRE,
-            Row {
-                words: WORKERS,
-                ..REFUSED
-            },
-            BY_FOUR,
-            FOUND,
-        ],
+        rows: &[BY_CENTRE, row!(REFUSED, words: WORKERS), BY_FOUR, FOUND],
         ..LARGE
     },
 ];
@@ -238,13 +213,7 @@ const LENGTHY: &[Case] = &[Case {
     size: 8_388_608,
     rows: &[
         BY_CENTRE,
-        Row {
-            words: WORKERS,
-            input: LONG_ONES,
-            report: "archived 7 datasets 2 junk 0\n",
-            holds: BEGINNING,
-            ..STORED
-        },
+        row!(STORED, words: WORKERS, input: LONG_ONES, report: "archived 7 datasets 2 junk 0\n", holds: BEGINNING),
         Row {
             output: &[Part::Text(
                 "class=od,expver=0001,centre=98 entries 1 fields 1 keys 1 bytes 5243040

@@ -4,18 +4,12 @@ use super::octets::{FIELD, NEWER, Part};
 use super::stores::{ARCHIVED, CREATED};
 
 /// The archiving of the next level under another experiment.
-const OTHER: Row = Row {
-    words: &["archive", "s", "--with=class=od,expver=0002"],
-    input: &[Part::Generated(1, 2)],
-    ..ARCHIVED
-};
+const OTHER: Row =
+    row!(ARCHIVED, words: &["archive", "s", "--with=class=od,expver=0002"], input: &[Part::Generated(1, 2)]);
 
 /// The archiving of other values of the field under a third one.
-const THIRD: Row = Row {
-    words: &["archive", "s", "--with=class=od,expver=0003"],
-    input: NEWER,
-    ..ARCHIVED
-};
+const THIRD: Row =
+    row!(ARCHIVED, words: &["archive", "s", "--with=class=od,expver=0003"], input: NEWER);
 
 /// A request of two levels of the second experiment, over the first.
 const OVER: Row = Row {
@@ -29,11 +23,8 @@ const OVER: Row = Row {
 };
 
 /// The same over the third experiment, and then the first.
-const NEARER: Row = Row {
-    words: &["retrieve", "s", "--over", "expver=0003/expver=0001"],
-    output: &[Part::Field(&[(178, 43)]), Part::Generated(1, 2)],
-    ..OVER
-};
+const NEARER: Row =
+    row!(OVER, words: &["retrieve", "s", "--over", "expver=0003/expver=0001"], output: &[Part::Field(&[(178, 43)]), Part::Generated(1, 2)]);
 
 /// The same of a level that none of them has.
 const MISSED: Row = Row {
@@ -66,10 +57,7 @@ const LOWEST: Row = Row {
 
 const LAYERED: &[Case] = &[Case {
     rows: &[
-        Row {
-            report: "refused SchemaMissing\n",
-            ..REFUSED
-        },
+        row!(REFUSED, report: "refused SchemaMissing\n"),
         CREATED,
         ARCHIVED,
         OTHER,
@@ -83,35 +71,11 @@ const LAYERED: &[Case] = &[Case {
             ..REFUSED
         },
         MISSED,
-        Row {
-            words: &[
-                "retrieve",
-                "s",
-                "--over=expver=0009/expver=0002/expver=0001",
-            ],
-            ..OVER
-        },
-        Row {
-            words: &[
-                "retrieve",
-                "s",
-                "--over=expver=0003/expver=0004/expver=0005/expver=0006/expver=0007/expver=0008/expver=0001",
-                "--workers=8",
-            ],
-            ..OVER
-        },
+        row!(OVER, words: &["retrieve", "s", "--over=expver=0009/expver=0002/expver=0001"]),
+        row!(OVER, words: &["retrieve", "s", "--over=expver=0003/expver=0004/expver=0005/expver=0006/expver=0007/expver=0008/expver=0001", "--workers=8"]),
         THIRD,
         NEARER,
-        Row {
-            words: &[
-                "retrieve",
-                "s",
-                "--workers",
-                "2",
-                "--over=expver=0001/expver=0003",
-            ],
-            ..OVER
-        },
+        row!(OVER, words: &["retrieve", "s", "--workers", "2", "--over=expver=0001/expver=0003"]),
     ],
     ..CASE
 }];

@@ -9,36 +9,19 @@ const DATASET: &str = "class=od,expver=0001,date=20240101,time=0000";
 const FIELDS: &str = "class=od,expver=0001,date=20240101,time=0000/1-1.fields";
 
 /// A purge that drops one batch and keeps another.
-const PURGED: Row = Row {
-    words: &["purge", "s", DATASET],
-    report: "purged 1 kept 1\n",
-    ..ROW
-};
+const PURGED: Row = row!(ROW, words: &["purge", "s", DATASET], report: "purged 1 kept 1\n");
 
 /// A purge that has nothing to drop.
-const PURGED_AGAIN: Row = Row {
-    report: "purged 0 kept 1\n",
-    ..PURGED
-};
+const PURGED_AGAIN: Row = row!(PURGED, report: "purged 0 kept 1\n");
 
 /// A wipe of one batch.
-const WIPED: Row = Row {
-    words: &["wipe", "s", DATASET],
-    report: "wiped 1\n",
-    ..ROW
-};
+const WIPED: Row = row!(ROW, words: &["wipe", "s", DATASET], report: "wiped 1\n");
 
 /// The archiving of a newer field of the same key.
-const RENEWED: Row = Row {
-    input: NEWER,
-    ..ARCHIVED
-};
+const RENEWED: Row = row!(ARCHIVED, input: NEWER);
 
 /// The retrieve that finds it.
-const FOUND: Row = Row {
-    output: NEWER,
-    ..RETRIEVED
-};
+const FOUND: Row = row!(RETRIEVED, output: NEWER);
 
 /// The retrieve that finds nothing.
 const MISSED: Row = Row {
@@ -54,36 +37,8 @@ found 0 missed 1
 const ABSENT: &str = "refused NoDataset\n";
 
 const RECLAIMING: &[Case] = &[
-    Case {
-        rows: &[
-            CREATED,
-            ARCHIVED,
-            PURGED_AGAIN,
-            RENEWED,
-            PURGED,
-            FOUND,
-            PURGED_AGAIN,
-            FOUND,
-        ],
-        ..CASE
-    },
-    Case {
-        rows: &[
-            CREATED,
-            ARCHIVED,
-            WIPED,
-            MISSED,
-            Row {
-                report: ABSENT,
-                status: 3,
-                ..WIPED
-            },
-            EMPTY,
-            RENEWED,
-            FOUND,
-        ],
-        ..CASE
-    },
+    case!(rows: &[CREATED, ARCHIVED, PURGED_AGAIN, RENEWED, PURGED, FOUND, PURGED_AGAIN, FOUND]),
+    case!(rows: &[CREATED, ARCHIVED, WIPED, MISSED, row!(WIPED, report: ABSENT, status: 3), EMPTY, RENEWED, FOUND]),
 ];
 
 /// A purge keeps the newest field of each key, and a wipe none; a second one has nothing to do.
@@ -94,53 +49,25 @@ fn drops_what_is_masked_or_all(rt: HostRuntime) {
 
 /// Without a schema, and without a dataset.
 const UNREADY: &[Row] = &[
-    Row {
-        report: "refused SchemaMissing\n",
-        status: 3,
-        ..PURGED
-    },
-    Row {
-        report: "refused SchemaMissing\n",
-        status: 3,
-        ..WIPED
-    },
+    row!(PURGED, report: "refused SchemaMissing\n", status: 3),
+    row!(WIPED, report: "refused SchemaMissing\n", status: 3),
     CREATED,
-    Row {
-        report: ABSENT,
-        status: 3,
-        ..PURGED
-    },
+    row!(PURGED, report: ABSENT, status: 3),
     ARCHIVED,
-    Row {
-        words: &["purge", "s", "class=od"],
-        report: ABSENT,
-        status: 3,
-        ..PURGED
-    },
+    row!(PURGED, words: &["purge", "s", "class=od"], report: ABSENT, status: 3),
 ];
 
 /// A listed file is away.
 const DAMAGED: &str = "damaged class=od,expver=0001,date=20240101,time=0000 Absent 1-1.fields\n";
 
 const REFUSING: &[Case] = &[
-    Case {
-        rows: UNREADY,
-        ..CASE
-    },
+    case!(rows: UNREADY),
     Case {
         rows: &[CREATED, ARCHIVED],
         event: Event::Removed(FIELDS),
         after: &[
-            Row {
-                report: DAMAGED,
-                status: 8,
-                ..PURGED
-            },
-            Row {
-                report: DAMAGED,
-                status: 8,
-                ..WIPED
-            },
+            row!(PURGED, report: DAMAGED, status: 8),
+            row!(WIPED, report: DAMAGED, status: 8),
         ],
         ..CASE
     },
@@ -152,18 +79,10 @@ fn refuses_what_is_not_there(rt: HostRuntime) {
 }
 
 /// A store in which the second batch masks the first.
-const MASKED: Case = Case {
-    rows: &[CREATED, ARCHIVED, RENEWED],
-    after: &[FOUND],
-    ..CASE
-};
+const MASKED: Case = case!(rows: &[CREATED, ARCHIVED, RENEWED], after: &[FOUND]);
 
 /// A purge that fails.
-const HALTED: Row = Row {
-    report: "disk failed\n",
-    status: 6,
-    ..PURGED
-};
+const HALTED: Row = row!(PURGED, report: "disk failed\n", status: 6);
 
 /// How many calls of the store a purge of two batches makes that the fuse counts.
 const CALLS: u64 = 15;

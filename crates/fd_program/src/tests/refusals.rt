@@ -6,61 +6,20 @@ use super::stores::{ARCHIVED, CREATED, EMPTY, LISTED, ONE_FIELD};
 use fd_disk_mem::Op;
 
 /// An archive that stores the first of its two messages.
-const FIRST: Row = Row {
-    report: "input failed\n",
-    status: 3,
-    ..ARCHIVED
-};
+const FIRST: Row = row!(ARCHIVED, report: "input failed\n", status: 3);
 
 const STREAMS: &[Case] = &[
+    case!(rows: &[CREATED, row!(FIRST, input: &[Part::Field(&[]), Part::Field(&[(117, 2)])], report: "refused key 2 Product 2\n"), ONE_FIELD]),
+    case!(rows: &[CREATED, row!(FIRST, input: &[Part::Field(&[]), Part::Field(&[(41, 4)])], report: "refused message 2 Section 3 4\n"), ONE_FIELD]),
     Case {
         rows: &[
             CREATED,
-            Row {
-                input: &[Part::Field(&[]), Part::Field(&[(117, 2)])],
-                report: "refused key 2 Product 2\n",
-                ..FIRST
-            },
+            row!(FIRST, input: &[Part::Field(&[]), Part::Field(&[]), Part::Length(300)], report: "refused message 2 Truncated 117 183\n"),
             ONE_FIELD,
         ],
         ..CASE
     },
-    Case {
-        rows: &[
-            CREATED,
-            Row {
-                input: &[Part::Field(&[]), Part::Field(&[(41, 4)])],
-                report: "refused message 2 Section 3 4\n",
-                ..FIRST
-            },
-            ONE_FIELD,
-        ],
-        ..CASE
-    },
-    Case {
-        rows: &[
-            CREATED,
-            Row {
-                input: &[Part::Field(&[]), Part::Field(&[]), Part::Length(300)],
-                report: "refused message 2 Truncated 117 183\n",
-                ..FIRST
-            },
-            ONE_FIELD,
-        ],
-        ..CASE
-    },
-    Case {
-        rows: &[
-            CREATED,
-            Row {
-                input: &[Part::Field(&[]), Part::Field(&[(7, 1)])],
-                report: "refused message 2 Edition 1\n",
-                ..FIRST
-            },
-            ONE_FIELD,
-        ],
-        ..CASE
-    },
+    case!(rows: &[CREATED, row!(FIRST, input: &[Part::Field(&[]), Part::Field(&[(7, 1)])], report: "refused message 2 Edition 1\n"), ONE_FIELD]),
     Case {
         rows: &[
             CREATED,
@@ -88,35 +47,11 @@ const DAMAGED: &[Case] = &[Case {
     rows: &[CREATED, ARCHIVED],
     event: Event::Removed(FIELDS),
     after: &[
-        Row {
-            output: &[],
-            report: AWAY,
-            status: 8,
-            ..LISTED
-        },
-        Row {
-            words: &["axes", "s"],
-            output: &[],
-            report: AWAY,
-            status: 8,
-            ..LISTED
-        },
-        Row {
-            report: AWAY,
-            status: 8,
-            ..EMPTY
-        },
-        Row {
-            report: AWAY,
-            status: 8,
-            ..ARCHIVED
-        },
-        Row {
-            words: &["trial", "s", "1"],
-            report: AWAY,
-            status: 8,
-            ..ROW
-        },
+        row!(LISTED, output: &[], report: AWAY, status: 8),
+        row!(LISTED, words: &["axes", "s"], output: &[], report: AWAY, status: 8),
+        row!(EMPTY, report: AWAY, status: 8),
+        row!(ARCHIVED, report: AWAY, status: 8),
+        row!(ROW, words: &["trial", "s", "1"], report: AWAY, status: 8),
     ],
     ..CASE
 }];
@@ -128,72 +63,29 @@ fn damage_is_told(rt: HostRuntime) {
 }
 
 /// A command over a store without a schema.
-const UNFOUNDED: Row = Row {
-    output: &[],
-    report: "refused SchemaMissing\n",
-    status: 3,
-    ..LISTED
-};
+const UNFOUNDED: Row = row!(LISTED, output: &[], report: "refused SchemaMissing\n", status: 3);
 
 /// A command whose request has a wrong pair.
-const WRONG: Row = Row {
-    input: &[Part::Text("list,param")],
-    output: &[],
-    report: "refused request 10 Pair\n",
-    status: 3,
-    ..LISTED
-};
+const WRONG: Row =
+    row!(LISTED, input: &[Part::Text("list,param")], output: &[], report: "refused request 10 Pair\n", status: 3);
 
-const FAILED: Row = Row {
-    output: &[],
-    report: "output failed\n",
-    status: 5,
-    writes: &[1],
-    ..LISTED
-};
+const FAILED: Row = row!(LISTED, output: &[], report: "output failed\n", status: 5, writes: &[1]);
 
 const LISTINGS: &[Case] = &[Case {
     piece: 183,
     fails: Some((FIELDS, Op::Read, 9)),
     rows: &[
         UNFOUNDED,
-        Row {
-            words: &["axes", "s"],
-            ..UNFOUNDED
-        },
-        Row {
-            input: &[],
-            ..UNFOUNDED
-        },
+        row!(UNFOUNDED, words: &["axes", "s"]),
+        row!(UNFOUNDED, input: &[]),
         CREATED,
         ARCHIVED,
-        Row {
-            words: &["axes", "s"],
-            ..WRONG
-        },
+        row!(WRONG, words: &["axes", "s"]),
         FAILED,
-        Row {
-            words: &["axes", "s"],
-            ..FAILED
-        },
-        Row {
-            words: &["stats", "s"],
-            input: &[],
-            ..FAILED
-        },
-        Row {
-            report: "input failed\n",
-            status: 4,
-            reads: &[1],
-            ..WRONG
-        },
-        Row {
-            words: &["axes", "s"],
-            report: "input failed\n",
-            status: 4,
-            reads: &[1],
-            ..WRONG
-        },
+        row!(FAILED, words: &["axes", "s"]),
+        row!(FAILED, words: &["stats", "s"], input: &[]),
+        row!(WRONG, report: "input failed\n", status: 4, reads: &[1]),
+        row!(WRONG, words: &["axes", "s"], report: "input failed\n", status: 4, reads: &[1]),
     ],
     ..CASE
 }];
@@ -208,44 +100,9 @@ fn listings_are_refused(rt: HostRuntime) {
 const TABLE: &str = "class=od,expver=0001,date=20240101,time=0000/toc";
 
 const FAILING: &[Case] = &[
-    Case {
-        fails: Some((TABLE, Op::Sync, 3)),
-        rows: &[
-            CREATED,
-            Row {
-                report: "disk failed\n",
-                status: 6,
-                ..ARCHIVED
-            },
-        ],
-        ..CASE
-    },
-    Case {
-        fails: Some((TABLE, Op::Sync, 3)),
-        rows: &[
-            CREATED,
-            Row {
-                words: &["trial", "s", "3"],
-                report: "disk failed\n",
-                status: 6,
-                ..ROW
-            },
-        ],
-        ..CASE
-    },
-    Case {
-        fails: Some(("schema", Op::Read, 2)),
-        rows: &[
-            CREATED,
-            Row {
-                report: "disk failed\n",
-                status: 6,
-                ..ARCHIVED
-            },
-            ARCHIVED,
-        ],
-        ..CASE
-    },
+    case!(fails: Some((TABLE, Op::Sync, 3)), rows: &[CREATED, row!(ARCHIVED, report: "disk failed\n", status: 6)]),
+    case!(fails: Some((TABLE, Op::Sync, 3)), rows: &[CREATED, row!(ROW, words: &["trial", "s", "3"], report: "disk failed\n", status: 6)]),
+    case!(fails: Some(("schema", Op::Read, 2)), rows: &[CREATED, row!(ARCHIVED, report: "disk failed\n", status: 6), ARCHIVED]),
 ];
 
 /// Archives and trials tell of a gate that could not be made to last, and an archive of a schema that could not be read.

@@ -8,10 +8,7 @@ use fd_disk_mem::Op;
 pub(super) const TABLE: &str = "class=od,expver=0001,date=20240101,time=0000/toc";
 
 /// A session, whose script and messages come in its input.
-pub(super) const SESSION: Row = Row {
-    words: &["session", "s"],
-    ..ROW
-};
+pub(super) const SESSION: Row = row!(ROW, words: &["session", "s"]);
 
 /// The field of the level 92500 in place of 100000.
 pub(super) const UPPER: Part = Part::Field(&[(135, 0x69), (136, 0x54)]);
@@ -58,25 +55,10 @@ messages
 
 const SEEING: &[Case] = &[Case {
     rows: &[
-        Row {
-            output: &[],
-            report: "refused SchemaMissing\n",
-            status: 3,
-            ..LISTED
-        },
+        row!(LISTED, output: &[], report: "refused SchemaMissing\n", status: 3),
         CREATED,
-        Row {
-            input: &[Part::Text("flush\n")],
-            report: "refused script 1 Dataset\n",
-            status: 3,
-            ..SESSION
-        },
-        Row {
-            input: SECOND,
-            report: "refused script 3 Message\n",
-            status: 3,
-            ..SESSION
-        },
+        row!(SESSION, input: &[Part::Text("flush\n")], report: "refused script 1 Dataset\n", status: 3),
+        row!(SESSION, input: SECOND, report: "refused script 3 Message\n", status: 3),
         EMPTY,
         LISTED,
         ONE_FIELD,
@@ -223,24 +205,9 @@ messages
 ];
 
 const LANES: &[Case] = &[
-    Case {
-        rows: &[
-            CREATED,
-            Row {
-                input: IDLE,
-                ..LISTED
-            },
-        ],
-        ..CASE
-    },
-    Case {
-        rows: &[CREATED, BY_TURNS],
-        ..CASE
-    },
-    Case {
-        rows: &[CREATED, READING],
-        ..CASE
-    },
+    case!(rows: &[CREATED, row!(LISTED, input: IDLE)]),
+    case!(rows: &[CREATED, BY_TURNS]),
+    case!(rows: &[CREATED, READING]),
 ];
 
 /// Lanes that wait for one another see what the other has listed; one that only reads sees each batch once it is listed.
@@ -261,31 +228,12 @@ const OTHER: Part = Part::Field(&[(136, 0xA1)]);
 
 const KEYLESS: Part = Part::Field(&[(117, 2)]);
 
-const MISCAST: Row = Row {
-    status: 3,
-    ..SESSION
-};
+const MISCAST: Row = row!(SESSION, status: 3);
 
 const CASTING: &[Case] = &[Case {
     rows: &[
-        Row {
-            input: &[Part::Text(
-                "[class=od/ei, expver, date, time [centre, type, levtype [param, step, levelist?]]]",
-            )],
-            ..CREATED
-        },
-        Row {
-            input: &[
-                DATASET,
-                Part::Text("lane a \nflush\nput 4\n"),
-                MESSAGES,
-                FIRST,
-                OTHER,
-                KEYLESS,
-            ],
-            report: "refused script 4 Message\n",
-            ..MISCAST
-        },
+        row!(CREATED, input: &[Part::Text("[class=od/ei, expver, date, time [centre, type, levtype [param, step, levelist?]]]")]),
+        row!(MISCAST, input: &[DATASET, Part::Text("lane a \nflush\nput 4\n"), MESSAGES, FIRST, OTHER, KEYLESS], report: "refused script 4 Message\n"),
         Row {
             input: &[
                 DATASET,
@@ -298,18 +246,7 @@ const CASTING: &[Case] = &[Case {
             report: "refused script 5 Key Product 2\n",
             ..MISCAST
         },
-        Row {
-            input: &[
-                DATASET,
-                Part::Text("lane a expver=0001\nput 1\n"),
-                MESSAGES,
-                FIRST,
-                OTHER,
-                KEYLESS,
-            ],
-            report: "refused script 3 NoRule\n",
-            ..MISCAST
-        },
+        row!(MISCAST, input: &[DATASET, Part::Text("lane a expver=0001\nput 1\n"), MESSAGES, FIRST, OTHER, KEYLESS], report: "refused script 3 NoRule\n"),
         Row {
             input: &[
                 DATASET,
@@ -365,23 +302,8 @@ const CASTING: &[Case] = &[Case {
             ..MISCAST
         },
         EMPTY,
-        Row {
-            input: &[
-                DATASET,
-                Part::Text("lane a \n"),
-                MESSAGES,
-                FIRST,
-                OTHER,
-                KEYLESS,
-            ],
-            report: "before 0\nhistory\n",
-            ..SESSION
-        },
-        Row {
-            input: &[DATASET, MESSAGES],
-            report: "before 0\nhistory\n",
-            ..SESSION
-        },
+        row!(SESSION, input: &[DATASET, Part::Text("lane a \n"), MESSAGES, FIRST, OTHER, KEYLESS], report: "before 0\nhistory\n"),
+        row!(SESSION, input: &[DATASET, MESSAGES], report: "before 0\nhistory\n"),
         Row {
             input: &[
                 DATASET,
@@ -495,16 +417,8 @@ disk failed
 };
 
 const FAILING: &[Case] = &[
-    Case {
-        fails: Some((TABLE, Op::Sync, 3)),
-        rows: &[CREATED, UNLISTED],
-        ..CASE
-    },
-    Case {
-        fails: Some((TABLE, Op::Sync, 2)),
-        rows: &[CREATED, RELISTED],
-        ..CASE
-    },
+    case!(fails: Some((TABLE, Op::Sync, 3)), rows: &[CREATED, UNLISTED]),
+    case!(fails: Some((TABLE, Op::Sync, 2)), rows: &[CREATED, RELISTED]),
 ];
 
 /// After a fault a lane goes on with its next step, and what it has pending is listed by its next flush.

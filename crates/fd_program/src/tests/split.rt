@@ -66,27 +66,9 @@ const TWO: &[Part] = &[Part::Generated(0, 2)];
 
 const PARTING: Case = Case {
     rows: &[
-        Row {
-            words: SPLIT,
-            input: BOTH,
-            output: TWO,
-            report: "split 2 junk 0\n",
-            ..ROW
-        },
-        Row {
-            words: SPLIT,
-            input: TWO,
-            output: TWO,
-            report: "split 2 junk 0\n",
-            ..ROW
-        },
-        Row {
-            words: SPLIT,
-            input: MAPPED,
-            output: TWO_MAPPED,
-            report: "split 2 junk 0\n",
-            ..ROW
-        },
+        row!(ROW, words: SPLIT, input: BOTH, output: TWO, report: "split 2 junk 0\n"),
+        row!(ROW, words: SPLIT, input: TWO, output: TWO, report: "split 2 junk 0\n"),
+        row!(ROW, words: SPLIT, input: MAPPED, output: TWO_MAPPED, report: "split 2 junk 0\n"),
         Row {
             words: &["values"],
             input: TWO_MAPPED,
@@ -103,22 +85,8 @@ const PARTING: Case = Case {
             )],
             ..ROW
         },
-        Row {
-            words: SPLIT,
-            input: &[
-                Part::Text("0123456789ab"),
-                Part::Field(&[]),
-                Part::Text("GRI"),
-            ],
-            output: FIELD,
-            report: "split 1 junk 15\n",
-            ..ROW
-        },
-        Row {
-            words: SPLIT,
-            report: "split 0 junk 0\n",
-            ..ROW
-        },
+        row!(ROW, words: SPLIT, input: &[Part::Text("0123456789ab"), Part::Field(&[]), Part::Text("GRI")], output: FIELD, report: "split 1 junk 15\n"),
+        row!(ROW, words: SPLIT, report: "split 0 junk 0\n"),
     ],
     ..CASE
 };
@@ -132,17 +100,7 @@ const IN_PIECES: &[Case] = &[
         piece: 200,
         ..PARTING
     },
-    Case {
-        piece: 65_536,
-        rows: &[Row {
-            words: SPLIT,
-            input: &[Part::Generated(0, 400)],
-            output: &[Part::Generated(0, 400)],
-            report: "split 400 junk 0\n",
-            ..ROW
-        }],
-        ..CASE
-    },
+    case!(piece: 65_536, rows: &[row!(ROW, words: SPLIT, input: &[Part::Generated(0, 400)], output: &[Part::Generated(0, 400)], report: "split 400 junk 0\n")]),
 ];
 
 #[test]
@@ -153,13 +111,7 @@ fn splits(rt: HostRuntime) {
 const REFUSING: &[Case] = &[Case {
     piece: 7,
     rows: &[
-        Row {
-            words: SPLIT,
-            input: UNMAPPED,
-            report: "refused message 1 NoMap 2\n",
-            status: 3,
-            ..ROW
-        },
+        row!(ROW, words: SPLIT, input: UNMAPPED, report: "refused message 1 NoMap 2\n", status: 3),
         Row {
             words: SPLIT,
             input: &[
@@ -199,60 +151,13 @@ const REFUSING: &[Case] = &[Case {
             status: 3,
             ..ROW
         },
-        Row {
-            words: SPLIT,
-            input: &[Part::Field(&[]), Part::Field(&[(15, 5)])],
-            output: FIELD,
-            report: "refused message 2 Short 0 5\n",
-            status: 3,
-            ..ROW
-        },
-        Row {
-            words: SPLIT,
-            input: &[Part::Field(&[(12, 8)])],
-            report: "limit TooLong 134217911\n",
-            status: 9,
-            ..ROW
-        },
-        Row {
-            words: &["describe"],
-            input: BOTH,
-            report: "refused message 1 MultiField 4\n",
-            status: 3,
-            ..ROW
-        },
-        Row {
-            words: &["pick", "step=0"],
-            input: BOTH,
-            report: "refused message 1 MultiField 4\n",
-            status: 3,
-            ..ROW
-        },
-        Row {
-            words: SPLIT,
-            input: BOTH,
-            output: FIELD,
-            report: "output failed\n",
-            status: 5,
-            writes: &[2],
-            ..ROW
-        },
-        Row {
-            words: SPLIT,
-            input: BOTH,
-            output: TWO,
-            status: 5,
-            tellings: &[1],
-            ..ROW
-        },
-        Row {
-            words: SPLIT,
-            input: BOTH,
-            report: "input failed\n",
-            status: 4,
-            reads: &[2],
-            ..ROW
-        },
+        row!(ROW, words: SPLIT, input: &[Part::Field(&[]), Part::Field(&[(15, 5)])], output: FIELD, report: "refused message 2 Short 0 5\n", status: 3),
+        row!(ROW, words: SPLIT, input: &[Part::Field(&[(12, 8)])], report: "limit TooLong 134217911\n", status: 9),
+        row!(ROW, words: &["describe"], input: BOTH, report: "refused message 1 MultiField 4\n", status: 3),
+        row!(ROW, words: &["pick", "step=0"], input: BOTH, report: "refused message 1 MultiField 4\n", status: 3),
+        row!(ROW, words: SPLIT, input: BOTH, output: FIELD, report: "output failed\n", status: 5, writes: &[2]),
+        row!(ROW, words: SPLIT, input: BOTH, output: TWO, status: 5, tellings: &[1]),
+        row!(ROW, words: SPLIT, input: BOTH, report: "input failed\n", status: 4, reads: &[2]),
     ],
     ..CASE
 }];
@@ -275,11 +180,7 @@ const BOTH_FOUND: Row = Row {
 const STORING: Case = Case {
     rows: &[
         CREATED,
-        Row {
-            input: BOTH,
-            report: "archived 2 datasets 1 junk 0\n",
-            ..ARCHIVED
-        },
+        row!(ARCHIVED, input: BOTH, report: "archived 2 datasets 1 junk 0\n"),
         BOTH_FOUND,
         Row {
             words: &["archive", "s", "--with=class=od,expver=0001", "--workers=4"],
@@ -307,22 +208,7 @@ const STORED: &[Case] = &[
         piece: 200,
         ..STORING
     },
-    Case {
-        piece: 65_536,
-        rows: &[
-            CREATED,
-            Row {
-                input: MAPPED,
-                report: "archived 2 datasets 1 junk 0\n",
-                ..ARCHIVED
-            },
-            Row {
-                output: TWO_MAPPED,
-                ..BOTH_FOUND
-            },
-        ],
-        ..CASE
-    },
+    case!(piece: 65_536, rows: &[CREATED, row!(ARCHIVED, input: MAPPED, report: "archived 2 datasets 1 junk 0\n"), row!(BOTH_FOUND, output: TWO_MAPPED)]),
 ];
 
 #[test]
@@ -357,11 +243,7 @@ const STORED_IN_PARTS: &[Case] = &[Case {
             ..ARCHIVED
         },
         BOTH_FOUND,
-        Row {
-            input: MANY,
-            report: "archived 1501 datasets 1 junk 0\n",
-            ..ARCHIVED
-        },
+        row!(ARCHIVED, input: MANY, report: "archived 1501 datasets 1 junk 0\n"),
         BOTH_FOUND,
     ],
     ..CASE

@@ -9,33 +9,16 @@ pub(super) const SCHEMA: &[Part] = &[Part::Text(
 )];
 
 /// The founding of the store.
-pub(super) const CREATED: Row = Row {
-    words: &["create", "s"],
-    input: SCHEMA,
-    report: "created\n",
-    ..ROW
-};
+pub(super) const CREATED: Row =
+    row!(ROW, words: &["create", "s"], input: SCHEMA, report: "created\n");
 
-const PRESENT: Row = Row {
-    report: "refused SchemaPresent\n",
-    status: 3,
-    ..CREATED
-};
+const PRESENT: Row = row!(CREATED, report: "refused SchemaPresent\n", status: 3);
 
 const CREATING: &[Case] = &[Case {
     fails: Some(("schema", Op::Read, 2)),
     rows: &[
-        Row {
-            input: &[Part::Text("[class [param]]")],
-            report: "refused schema 1 Depth\n",
-            status: 3,
-            ..CREATED
-        },
-        Row {
-            report: "disk failed\n",
-            status: 6,
-            ..CREATED
-        },
+        row!(CREATED, input: &[Part::Text("[class [param]]")], report: "refused schema 1 Depth\n", status: 3),
+        row!(CREATED, report: "disk failed\n", status: 6),
         CREATED,
         PRESENT,
     ],
@@ -49,12 +32,8 @@ fn creates(rt: HostRuntime) {
 }
 
 /// The archiving of the field.
-pub(super) const ARCHIVED: Row = Row {
-    words: &["archive", "s", "--with=class=od,expver=0001"],
-    input: FIELD,
-    report: "archived 1 datasets 1 junk 0\n",
-    ..ROW
-};
+pub(super) const ARCHIVED: Row =
+    row!(ROW, words: &["archive", "s", "--with=class=od,expver=0001"], input: FIELD, report: "archived 1 datasets 1 junk 0\n");
 
 /// A request of the field, which finds it.
 pub(super) const RETRIEVED: Row = Row {
@@ -81,37 +60,18 @@ found 0 missed 1
 };
 
 /// What a store tells of itself that has no field.
-pub(super) const EMPTY: Row = Row {
-    words: &["stats", "s"],
-    ..ROW
-};
+pub(super) const EMPTY: Row = row!(ROW, words: &["stats", "s"]);
 
 const BEGINNING: &[Case] = &[Case {
     fails: Some(("schema", Op::Read, 7)),
     rows: &[
-        Row {
-            report: "refused SchemaMissing\n",
-            status: 3,
-            ..ARCHIVED
-        },
-        Row {
-            report: "refused SchemaMissing\n",
-            status: 3,
-            ..MISSED
-        },
+        row!(ARCHIVED, report: "refused SchemaMissing\n", status: 3),
+        row!(MISSED, report: "refused SchemaMissing\n", status: 3),
         CREATED,
         MISSED,
-        Row {
-            input: &[],
-            report: "archived 0 datasets 0 junk 0\n",
-            ..ARCHIVED
-        },
+        row!(ARCHIVED, input: &[], report: "archived 0 datasets 0 junk 0\n"),
         EMPTY,
-        Row {
-            report: "disk failed\n",
-            status: 6,
-            ..EMPTY
-        },
+        row!(EMPTY, report: "disk failed\n", status: 6),
     ],
     ..CASE
 }];
@@ -129,22 +89,10 @@ const ARCHIVING: &[Case] = &[Case {
         CREATED,
         ARCHIVED,
         RETRIEVED,
-        Row {
-            words: BY_TWO,
-            ..RETRIEVED
-        },
-        Row {
-            words: BY_TWO,
-            ..MISSED
-        },
-        Row {
-            input: NEWER,
-            ..ARCHIVED
-        },
-        Row {
-            output: NEWER,
-            ..RETRIEVED
-        },
+        row!(RETRIEVED, words: BY_TWO),
+        row!(MISSED, words: BY_TWO),
+        row!(ARCHIVED, input: NEWER),
+        row!(RETRIEVED, output: NEWER),
     ],
     ..CASE
 }];
@@ -166,12 +114,8 @@ pub(super) const LISTED: Row = Row {
 };
 
 /// What it tells of itself.
-pub(super) const ONE_FIELD: Row = Row {
-    output: &[Part::Text(
-        "class=od,expver=0001,date=20240101,time=0000 entries 1 fields 1 keys 1 bytes 215\n",
-    )],
-    ..EMPTY
-};
+pub(super) const ONE_FIELD: Row =
+    row!(EMPTY, output: &[Part::Text("class=od,expver=0001,date=20240101,time=0000 entries 1 fields 1 keys 1 bytes 215\n")]);
 
 const TELLING: &[Case] = &[Case {
     rows: &[
@@ -189,29 +133,15 @@ class=od,expver=0001,date=20240101,time=0000 centre=98,type=1,levtype=100 step=0
             ..LISTED
         },
         ONE_FIELD,
-        Row {
-            input: NEWER,
-            ..ARCHIVED
-        },
+        row!(ARCHIVED, input: NEWER),
         Row {
             output: &[Part::Text(
                 "class=od,expver=0001,date=20240101,time=0000 centre=98,type=1,levtype=100 param=0.0.0,step=0,levelist=100000 183 2\n",
             )],
             ..LISTED
         },
-        Row {
-            output: &[Part::Text(
-                "class=od,expver=0001,date=20240101,time=0000 entries 2 fields 2 keys 1 bytes 430\n",
-            )],
-            ..EMPTY
-        },
-        Row {
-            input: &[Part::Text("list,param")],
-            output: &[],
-            report: "refused request 10 Pair\n",
-            status: 3,
-            ..LISTED
-        },
+        row!(EMPTY, output: &[Part::Text("class=od,expver=0001,date=20240101,time=0000 entries 2 fields 2 keys 1 bytes 430\n")]),
+        row!(LISTED, input: &[Part::Text("list,param")], output: &[], report: "refused request 10 Pair\n", status: 3),
     ],
     ..CASE
 }];
@@ -225,22 +155,10 @@ fn tells_contents(rt: HostRuntime) {
 const MASKING: &[Case] = &[Case {
     rows: &[
         CREATED,
-        Row {
-            input: &[Part::Field(&[]), Part::Field(&[(178, 43)])],
-            report: "archived 2 datasets 1 junk 0\n",
-            ..ARCHIVED
-        },
-        Row {
-            output: NEWER,
-            ..RETRIEVED
-        },
+        row!(ARCHIVED, input: &[Part::Field(&[]), Part::Field(&[(178, 43)])], report: "archived 2 datasets 1 junk 0\n"),
+        row!(RETRIEVED, output: NEWER),
         LISTED,
-        Row {
-            output: &[Part::Text(
-                "class=od,expver=0001,date=20240101,time=0000 entries 1 fields 1 keys 1 bytes 430\n",
-            )],
-            ..EMPTY
-        },
+        row!(EMPTY, output: &[Part::Text("class=od,expver=0001,date=20240101,time=0000 entries 1 fields 1 keys 1 bytes 430\n")]),
     ],
     ..CASE
 }];
@@ -293,22 +211,9 @@ const VERSIONS: &[Case] = &[
     },
     Case {
         rows: &[
-            Row {
-                input: &[Part::Text("version 3 [a [b [c]]]")],
-                report: "refused schema 1 Version\n",
-                status: 3,
-                ..CREATED
-            },
-            Row {
-                input: &[Part::Text(
-                    "version 2 [class, expver, date, time [centre, type, levtype [param, step, levelist?, number?, stat?]]]",
-                )],
-                ..CREATED
-            },
-            Row {
-                input: MEMBER,
-                ..ARCHIVED
-            },
+            row!(CREATED, input: &[Part::Text("version 3 [a [b [c]]]")], report: "refused schema 1 Version\n", status: 3),
+            row!(CREATED, input: &[Part::Text("version 2 [class, expver, date, time [centre, type, levtype [param, step, levelist?, number?, stat?]]]")]),
+            row!(ARCHIVED, input: MEMBER),
             ARCHIVED,
             Row {
                 input: &[Part::Text("list,levelist=100000")],

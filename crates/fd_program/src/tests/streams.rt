@@ -9,20 +9,8 @@ const UNREAD: &[Part] = &[Part::Text("unread")];
 const GENERATING: &[Case] = &[Case {
     piece: 7,
     rows: &[
-        Row {
-            words: GENERATE,
-            input: UNREAD,
-            output: FIELD,
-            ..ROW
-        },
-        Row {
-            words: GENERATE,
-            input: UNREAD,
-            report: "output failed\n",
-            status: 5,
-            writes: &[1],
-            ..ROW
-        },
+        row!(ROW, words: GENERATE, input: UNREAD, output: FIELD),
+        row!(ROW, words: GENERATE, input: UNREAD, report: "output failed\n", status: 5, writes: &[1]),
     ],
     ..CASE
 }];
@@ -43,27 +31,9 @@ const THREE: &[Part] = &[
 
 const PICK: Case = Case {
     rows: &[
-        Row {
-            words: &["pick", "step=0"],
-            input: THREE,
-            output: NEWER,
-            report: "found 1 missed 0\n",
-            ..ROW
-        },
-        Row {
-            words: &["pick", "STEP=0m", "centre=098"],
-            input: THREE,
-            output: NEWER,
-            report: "found 1 missed 0\n",
-            ..ROW
-        },
-        Row {
-            words: &["pick", "step=12"],
-            input: THREE,
-            report: "found 0 missed 1\n",
-            status: 1,
-            ..ROW
-        },
+        row!(ROW, words: &["pick", "step=0"], input: THREE, output: NEWER, report: "found 1 missed 0\n"),
+        row!(ROW, words: &["pick", "STEP=0m", "centre=098"], input: THREE, output: NEWER, report: "found 1 missed 0\n"),
+        row!(ROW, words: &["pick", "step=12"], input: THREE, report: "found 0 missed 1\n", status: 1),
     ],
     ..CASE
 };
@@ -93,27 +63,12 @@ const NO_COMMAND: Row = Row {
 const REFUSING_WORDS: &[Case] = &[Case {
     piece: 7,
     rows: &[
-        Row {
-            words: &["pick"],
-            ..NO_COMMAND
-        },
+        row!(NO_COMMAND, words: &["pick"]),
         NO_COMMAND,
-        Row {
-            words: &["pick", "step=0", "STEP=0"],
-            ..NO_COMMAND
-        },
-        Row {
-            words: &["values", "--decimals=1", "--decimals=1"],
-            ..NO_COMMAND
-        },
-        Row {
-            words: &["create", "s", "t"],
-            ..NO_COMMAND
-        },
-        Row {
-            words: &["stats"],
-            ..NO_COMMAND
-        },
+        row!(NO_COMMAND, words: &["pick", "step=0", "STEP=0"]),
+        row!(NO_COMMAND, words: &["values", "--decimals=1", "--decimals=1"]),
+        row!(NO_COMMAND, words: &["create", "s", "t"]),
+        row!(NO_COMMAND, words: &["stats"]),
     ],
     ..CASE
 }];
@@ -128,41 +83,11 @@ const STEP: &[&str] = &["pick", "step=0"];
 const REFUSING_INPUT: &[Case] = &[Case {
     piece: 7,
     rows: &[
-        Row {
-            words: STEP,
-            input: &[Part::Field(&[]), Part::Field(&[(117, 2)])],
-            report: "refused key 2 Product 2\n",
-            status: 3,
-            ..ROW
-        },
-        Row {
-            words: STEP,
-            input: &[Part::Field(&[]), Part::Length(175)],
-            report: "refused message 1 Truncated 175 183\n",
-            status: 3,
-            ..ROW
-        },
-        Row {
-            words: STEP,
-            input: &[Part::Field(&[(41, 4)])],
-            report: "refused message 1 Section 3 4\n",
-            status: 3,
-            ..ROW
-        },
-        Row {
-            words: STEP,
-            input: &[Part::Field(&[(15, 5)])],
-            report: "refused message 1 Short 0 5\n",
-            status: 3,
-            ..ROW
-        },
-        Row {
-            words: STEP,
-            input: &[Part::Field(&[(12, 8)])],
-            report: "limit TooLong 134217911\n",
-            status: 9,
-            ..ROW
-        },
+        row!(ROW, words: STEP, input: &[Part::Field(&[]), Part::Field(&[(117, 2)])], report: "refused key 2 Product 2\n", status: 3),
+        row!(ROW, words: STEP, input: &[Part::Field(&[]), Part::Length(175)], report: "refused message 1 Truncated 175 183\n", status: 3),
+        row!(ROW, words: STEP, input: &[Part::Field(&[(41, 4)])], report: "refused message 1 Section 3 4\n", status: 3),
+        row!(ROW, words: STEP, input: &[Part::Field(&[(15, 5)])], report: "refused message 1 Short 0 5\n", status: 3),
+        row!(ROW, words: STEP, input: &[Part::Field(&[(12, 8)])], report: "limit TooLong 134217911\n", status: 9),
     ],
     ..CASE
 }];
@@ -174,30 +99,9 @@ fn refuses_input(rt: HostRuntime) {
 
 const MEETING_FAULTS: &[Case] = &[Case {
     rows: &[
-        Row {
-            words: STEP,
-            input: FIELD,
-            report: "input failed\n",
-            status: 4,
-            reads: &[2],
-            ..ROW
-        },
-        Row {
-            words: STEP,
-            input: FIELD,
-            report: "output failed\n",
-            status: 5,
-            writes: &[1],
-            ..ROW
-        },
-        Row {
-            words: STEP,
-            input: FIELD,
-            output: FIELD,
-            status: 5,
-            tellings: &[1],
-            ..ROW
-        },
+        row!(ROW, words: STEP, input: FIELD, report: "input failed\n", status: 4, reads: &[2]),
+        row!(ROW, words: STEP, input: FIELD, report: "output failed\n", status: 5, writes: &[1]),
+        row!(ROW, words: STEP, input: FIELD, output: FIELD, status: 5, tellings: &[1]),
     ],
     ..CASE
 }];
@@ -253,41 +157,12 @@ const BEHIND_JUNK: &[Part] = &[Part::Text("junk"), Part::Field(&[])];
 
 const LIST: Case = Case {
     rows: &[
-        Row {
-            words: DESCRIBE,
-            input: BEHIND_JUNK,
-            output: DESCRIBED,
-            ..ROW
-        },
-        Row {
-            words: DESCRIBE,
-            input: &[Part::Text("junk")],
-            ..ROW
-        },
-        Row {
-            words: VALUES,
-            input: BEHIND_JUNK,
-            output: EXACT,
-            ..ROW
-        },
-        Row {
-            words: &["values", "--decimals", "1"],
-            input: BEHIND_JUNK,
-            output: ROUNDED,
-            ..ROW
-        },
-        Row {
-            words: &["values", "--decimals=01"],
-            input: BEHIND_JUNK,
-            output: ROUNDED,
-            ..ROW
-        },
-        Row {
-            words: DESCRIBE,
-            input: &[Part::Field(&[(117, 2)])],
-            output: KEYLESS,
-            ..ROW
-        },
+        row!(ROW, words: DESCRIBE, input: BEHIND_JUNK, output: DESCRIBED),
+        row!(ROW, words: DESCRIBE, input: &[Part::Text("junk")]),
+        row!(ROW, words: VALUES, input: BEHIND_JUNK, output: EXACT),
+        row!(ROW, words: &["values", "--decimals", "1"], input: BEHIND_JUNK, output: ROUNDED),
+        row!(ROW, words: &["values", "--decimals=01"], input: BEHIND_JUNK, output: ROUNDED),
+        row!(ROW, words: DESCRIBE, input: &[Part::Field(&[(117, 2)])], output: KEYLESS),
     ],
     ..CASE
 };
@@ -305,40 +180,10 @@ const UNREADABLE: &[Part] = &[Part::Field(&[]), Part::Field(&[(153, 40)])];
 const STOPPING: &[Case] = &[Case {
     piece: 183,
     rows: &[
-        Row {
-            words: VALUES,
-            input: UNREADABLE,
-            output: EXACT,
-            report: "refused field 2 Template 40\n",
-            status: 3,
-            ..ROW
-        },
-        Row {
-            words: VALUES,
-            input: UNREADABLE,
-            output: EXACT,
-            report: "input failed\n",
-            status: 4,
-            reads: &[2],
-            ..ROW
-        },
-        Row {
-            words: VALUES,
-            input: UNREADABLE,
-            report: "output failed\n",
-            status: 5,
-            writes: &[1],
-            ..ROW
-        },
-        Row {
-            words: DESCRIBE,
-            input: UNREADABLE,
-            output: DESCRIBED,
-            report: "output failed\n",
-            status: 5,
-            writes: &[2],
-            ..ROW
-        },
+        row!(ROW, words: VALUES, input: UNREADABLE, output: EXACT, report: "refused field 2 Template 40\n", status: 3),
+        row!(ROW, words: VALUES, input: UNREADABLE, output: EXACT, report: "input failed\n", status: 4, reads: &[2]),
+        row!(ROW, words: VALUES, input: UNREADABLE, report: "output failed\n", status: 5, writes: &[1]),
+        row!(ROW, words: DESCRIBE, input: UNREADABLE, output: DESCRIBED, report: "output failed\n", status: 5, writes: &[2]),
     ],
     ..CASE
 }];

@@ -4,41 +4,19 @@ use super::octets::Part;
 use super::stores::{ARCHIVED, CREATED, EMPTY};
 
 /// Four workers store 400 messages, and each is found.
-const ALL_FOUND: Row = Row {
-    words: &["trial", "s", "400", "--workers", "4"],
-    report: "trial 400 found 400 bytes 73200 missed 0\n",
-    ..ROW
-};
+const ALL_FOUND: Row =
+    row!(ROW, words: &["trial", "s", "400", "--workers", "4"], report: "trial 400 found 400 bytes 73200 missed 0\n");
 
-const FEW_FOUND: Row = Row {
-    words: &["trial", "s", "3"],
-    report: "trial 3 found 3 bytes 549 missed 0\n",
-    ..ROW
-};
+const FEW_FOUND: Row =
+    row!(ROW, words: &["trial", "s", "3"], report: "trial 3 found 3 bytes 549 missed 0\n");
 
 const TRYING: &[Case] = &[
     // Each message is found, also where all are stored again, and the store was founded.
-    Case {
-        rows: &[
-            ALL_FOUND,
-            ALL_FOUND,
-            Row {
-                report: "refused SchemaPresent\n",
-                status: 3,
-                ..CREATED
-            },
-        ],
-        ..CASE
-    },
+    case!(rows: &[ALL_FOUND, ALL_FOUND, row!(CREATED, report: "refused SchemaPresent\n", status: 3)]),
     // A schema of the same rules in other words is gone by, and the messages are stored again.
     Case {
         rows: &[
-            Row {
-                input: &[Part::Text(
-                    "[class,expver,date,time[centre,type,levtype[param,step,levelist?]]] # the same\n",
-                )],
-                ..CREATED
-            },
+            row!(CREATED, input: &[Part::Text("[class,expver,date,time[centre,type,levtype[param,step,levelist?]]] # the same\n")]),
             FEW_FOUND,
             ARCHIVED,
             FEW_FOUND,
@@ -48,17 +26,8 @@ const TRYING: &[Case] = &[
     // A schema of other rules is refused, and nothing is stored.
     Case {
         rows: &[
-            Row {
-                input: &[Part::Text(
-                    "[class, expver, date [centre, type, levtype [param, step, levelist?]]]",
-                )],
-                ..CREATED
-            },
-            Row {
-                report: "refused SchemaDifferent\n",
-                status: 3,
-                ..FEW_FOUND
-            },
+            row!(CREATED, input: &[Part::Text("[class, expver, date [centre, type, levtype [param, step, levelist?]]]")]),
+            row!(FEW_FOUND, report: "refused SchemaDifferent\n", status: 3),
             EMPTY,
         ],
         ..CASE

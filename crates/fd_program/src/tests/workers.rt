@@ -18,11 +18,8 @@ const MEETING: &[Hold] = &[
 ];
 
 /// The archiving of the first 400 generated messages.
-const STORED: Row = Row {
-    input: &[Part::Generated(0, 400)],
-    report: "archived 400 datasets 1 junk 0\n",
-    ..ARCHIVED
-};
+const STORED: Row =
+    row!(ARCHIVED, input: &[Part::Generated(0, 400)], report: "archived 400 datasets 1 junk 0\n");
 
 /// A request of two parameters, seven steps and all levels that are generated.
 const FOUND: Row = Row {
@@ -36,36 +33,8 @@ const FOUND: Row = Row {
 };
 
 const WORKING: &[Case] = &[
-    Case {
-        rows: &[
-            CREATED,
-            Row {
-                words: &[
-                    "archive",
-                    "s",
-                    "--with",
-                    "class=od,expver=0001",
-                    "--workers=4",
-                ],
-                holds: MEETING,
-                ..STORED
-            },
-            FOUND,
-        ],
-        ..CASE
-    },
-    Case {
-        rows: &[
-            CREATED,
-            STORED,
-            Row {
-                words: &["retrieve", "s", "--workers=4"],
-                holds: MEETING,
-                ..FOUND
-            },
-        ],
-        ..CASE
-    },
+    case!(rows: &[CREATED, row!(STORED, words: &["archive", "s", "--with", "class=od,expver=0001", "--workers=4"], holds: MEETING), FOUND]),
+    case!(rows: &[CREATED, STORED, row!(FOUND, words: &["retrieve", "s", "--workers=4"], holds: MEETING)]),
 ];
 
 /// Four workers store what one stores, and find what one finds, in the order of the request.

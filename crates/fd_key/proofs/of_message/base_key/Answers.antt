@@ -11,8 +11,8 @@ pub returns-clause-pairs : goal.returns-clause-pairs
 returns-clause-pairs c =
     let i = c.args.ident.now in
     let p = c.args.product.now in
-    c.in_ok-put.ensures.ok
-    ∙ ap (λ t. with_pair c.put_levels.new.key (codes "step") t) (c.as_str.ensures.value ∙ c.in_ok-step.ensures.text)
+    c.in_ok-spell.ensures.ok
+    ∙ ap (λ t. with_pair c.put_levels.new.key (codes "step") t) c.step_of-step.ensures.text
     ∙ ap (λ ps. with_pair ps (codes "step") (step_of p)) (c.in_ok-put_levels.ensures.pairs
     ∙ ap (λ ps. with_pair_if ps (codes "levelist") (levels_of p)) (c.in_ok-put_field.ensures.pairs
     ∙ ap (λ ps. with_pair (with_pair ps (codes "param") (param_in c.args.discipline p)) (codes "levtype") (levtype_of p)) c.in_ok-key.ensures.pairs))

@@ -4,7 +4,7 @@ use Rattle.fd_request.specs.Expansion.{expand}
 use Rattle.fd_schema.specs.Reading.{seen_place}
 use Rattle.fd_schema.specs.Rules.{place_from}
 use Rattle.fd_outcome.specs.Layered.{all_laid, laid_key, places_under}
-use Rattle.fd_retrieve.proofs.AnsweringLemmas.{there_is}
+use Rattle.fd_answering.proofs.AnsweringLemmas.{there_is}
 use Rattle.fd_telling.specs.Stops.{IsRefused}
 use Rattle.fd_telling.proofs.StopLemmas as stopping
 use Rattle.fd_layered.proofs.Chaining.{chains_are, laid_more, laid_so, laid_stop, places_more}

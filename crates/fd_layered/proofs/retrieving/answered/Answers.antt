@@ -6,7 +6,7 @@ use Rattle.fd_words.specs.declared.command.Command.TheVariants.{RetrieveOver}
 use Rattle.fd_outcome.specs.Asking.{Answer}
 use Rattle.fd_outcome.specs.Layered.{laid_answers}
 use Rattle.fd_retrieve.specs.Commands.{Begins}
-use Rattle.fd_retrieve.specs.Located.{AreAt}
+use Rattle.fd_answering.specs.Located.{AreAt}
 use Rattle.fd_retrieve.specs.Open.{table_in}
 use Rattle.fd_layered.specs.Finding.{AreNearest}
 use Rattle.fd_layered.specs.Ready.{laid_with}

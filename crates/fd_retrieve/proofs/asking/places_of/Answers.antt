@@ -3,7 +3,7 @@ use mathlib.Core.List.{map-append}
 use Rattle.std.proofs.lemmas.List.{length-append, length-map}
 use Rattle.fd_request.specs.Expansion.{expand}
 use Rattle.fd_schema.specs.Reading.{seen_place}
-use Rattle.fd_retrieve.proofs.AnsweringLemmas.{there_is}
+use Rattle.fd_answering.proofs.AnsweringLemmas.{there_is}
 use Rattle.fd_retrieve.proofs.ReadyLemmas.{HavePlaces, all_placed, lacks_rule, place_more}
 use Rattle.fd_retrieve.proofs.asking.places_of.Goals as goal
 

@@ -3,7 +3,7 @@ use Rattle.fd_entries.specs.Batches.{newest}
 use Rattle.fd_schema.specs.Reading.{seen_place}
 use Rattle.fd_schema.specs.Rules.{file_key}
 use Rattle.fd_retrieve.specs.Open.{table_in}
-use Rattle.fd_retrieve.proofs.AnsweringLemmas.{as_long}
+use Rattle.fd_answering.proofs.AnsweringLemmas.{as_long}
 use Rattle.fd_retrieve.proofs.CountingLemmas.{as_many_found, counted_more, counted_whole, found_at}
 use Rattle.fd_retrieve.proofs.LocatingLemmas.{bytes_at, place_at}
 use Rattle.fd_retrieve.proofs.counting.count_all.Goals as goal

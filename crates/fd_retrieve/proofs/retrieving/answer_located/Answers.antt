@@ -8,9 +8,10 @@ use Rattle.fd_outcome.specs.Outcome.{answered}
 use Rattle.fd_outcome.specs.declared.status.Status.TheVariants.{Damaged, DiskFault, NoMemory, OutputFault}
 use Rattle.fd_outcome.proofs.Exits.{never_whole}
 use Rattle.fd_telling.proofs.StopLemmas.{rose_later}
-use Rattle.fd_retrieve.specs.Located.{AreAt, OnLost}
-use Rattle.fd_retrieve.specs.Open.{IsDamagedAt}
-use Rattle.fd_retrieve.proofs.AnsweringLemmas.{took_nothing}
+use Rattle.fd_answering.specs.Located.{AreAt}
+use Rattle.fd_retrieve.specs.Located.{OnLost}
+use Rattle.fd_answering.specs.Damages.{IsDamagedAt}
+use Rattle.fd_answering.proofs.AnsweringLemmas.{took_nothing}
 use Rattle.fd_retrieve.proofs.DatasetLemmas.{at_get}
 use Rattle.fd_retrieve.proofs.RetrieveExits.{counted_ran, counted_tells, damaged_ran, disk_ran, either_not_whole, part_none, starved_ran, told_not_whole, untold_ran, unwritten_ran}
 use Rattle.fd_retrieve.proofs.retrieving.answer_located.Goals as goal

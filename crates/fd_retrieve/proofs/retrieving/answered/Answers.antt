@@ -4,7 +4,8 @@ use Rattle.fd_request.specs.Expansion.{expand}
 use Rattle.fd_words.specs.declared.command.Command.TheVariants.{Retrieve}
 use Rattle.fd_outcome.specs.Asking.{Answer, answers}
 use Rattle.fd_retrieve.specs.Commands.{Begins}
-use Rattle.fd_retrieve.specs.Located.{AreAt, AreLocated}
+use Rattle.fd_answering.specs.Located.{AreAt}
+use Rattle.fd_retrieve.specs.Located.{AreLocated}
 use Rattle.fd_retrieve.specs.Open.{table_in}
 use Rattle.fd_retrieve.specs.Ready.{asked_at}
 use Rattle.fd_retrieve.proofs.LocatingLemmas.{lent_at}

@@ -1,13 +1,14 @@
-use Rattle.std.proofs.Common.{◌≡◌}
+use Rattle.std.proofs.Common.{◌≡◌, vec_len}
 use Rattle.fd_session.specs.Endings.{count_faults}
-use Rattle.fd_session.specs.Writes.{HasCounted}
+use Rattle.fd_session.proofs.Noting.{IsCounting}
 use Rattle.fd_session.proofs.closing.note_all.Given as goal
 
 abbrev pub invariant-loop-lane : goal.invariant-loop-lane
 invariant-loop-lane g l = record {
-  next : (goal.iterator-loop-lane g).can_next l.lane-iterator;
-  ends : (goal.iterator-loop-lane g).is_finite l.lane-iterator;
   has : g.S.Store.has l.store ≡ g.S.Store.has l.fn.store;
   out : g.S.Store.out l.store ≡ g.S.Store.out l.fn.store;
-  counted : HasCounted (count_faults l.yielded) (g.S.Store.faults l.fn.store) (g.S.Store.faults l.store);
+  counted : IsCounting (count_faults l.fn.ends) (count_faults l.left.items) (g.S.Store.faults l.fn.store) (g.S.Store.faults l.store);
 }
+
+abbrev pub decreases-loop-lane : goal.decreases-loop-lane
+decreases-loop-lane g l = vec_len l.left

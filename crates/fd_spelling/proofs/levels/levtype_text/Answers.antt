@@ -1,27 +1,19 @@
-use Rattle.std.proofs.Common.{◌≡◌, ◌++◌, rules, append_assoc, arith}
-use Rattle.std.specs.Prelude.{string_bytes, codes}
-use Rattle.std.specs.Fmt.{decimal}
-use Rattle.fd_spelling.proofs.Digits.{short_number, short_two}
+use Rattle.std.proofs.Common.{◌≡◌, ◌∙◌, ◌++◌, ℕ, List, ap, arith}
+use Rattle.std.specs.Prelude.{string_bytes}
+use Rattle.fd_spelling.specs.Levels.{levtype_text}
+use Rattle.fd_spelling.proofs.ShortTexts.{levtype_short}
+use Rattle.fd_spelling.proofs.ValueLaws.{levtype_is_value}
 use Rattle.fd_spelling.proofs.levels.levtype_text.Goals as goal
-use Rattle.fd_spelling.proofs.ValueLaws.{number_is_value, types_are_value}
 
-pub returns-in_ok-format-clause-short : goal.returns-in_ok-format-clause-short
-returns-in_ok-format-clause-short c =
-    let text : string_bytes c.in_ok-format.field-0 ≡ decimal c.args.first = search (rules, append_assoc) in
-    short_number 32 c.args.first _ text (omega arith) (omega arith) (omega arith)
+pub returns-clause-short : goal.returns-clause-short
+returns-clause-short c =
+    let text : string_bytes c.push_levtype.new.out ≡ levtype_text c.args.first c.args.second =
+    c.in_ok-push_levtype.ensures ∙ ap (λ (t : List ℕ). t ++ levtype_text c.args.first c.args.second) c.in_ok-out.ensures.bytes in
+    rw text (levtype_short c.args.first c.args.second (omega arith) (omega arith))
 
-pub returns-in_ok-format-2-clause-short : goal.returns-in_ok-format-2-clause-short
-returns-in_ok-format-2-clause-short c =
-    let text : string_bytes c.in_ok-format-2.field-0 ≡ decimal c.args.first ++ codes "-" ++ decimal c.args.second = search (rules, append_assoc) in
-    short_two c.args.first c.args.second _ text (omega arith) (omega arith)
-
-pub returns-in_ok-format-clause-value : goal.returns-in_ok-format-clause-value
-returns-in_ok-format-clause-value c =
-    let text : string_bytes c.in_ok-format.field-0 ≡ decimal c.args.first = search (rules, append_assoc) in
-    rw text (number_is_value c.args.first (omega arith))
-
-pub returns-in_ok-format-2-clause-value : goal.returns-in_ok-format-2-clause-value
-returns-in_ok-format-2-clause-value c =
-    let text : string_bytes c.in_ok-format-2.field-0 ≡ decimal c.args.first ++ codes "-" ++ decimal c.args.second = search (rules, append_assoc) in
-    let short = returns-in_ok-format-2-clause-short c in
-    rw text (types_are_value c.args.first c.args.second (omega arith) (omega arith) (rw text at short))
+pub returns-clause-value : goal.returns-clause-value
+returns-clause-value c =
+    let text : string_bytes c.push_levtype.new.out ≡ levtype_text c.args.first c.args.second =
+    c.in_ok-push_levtype.ensures ∙ ap (λ (t : List ℕ). t ++ levtype_text c.args.first c.args.second) c.in_ok-out.ensures.bytes in
+    let short = levtype_short c.args.first c.args.second (omega arith) (omega arith) in
+    rw text (levtype_is_value c.args.first c.args.second (omega arith) (omega arith) short)

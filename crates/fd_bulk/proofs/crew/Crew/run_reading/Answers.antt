@@ -10,8 +10,8 @@ pub run_beside-batch-requires-clause-can : goal.run_beside-batch-requires-clause
 run_beside-batch-requires-clause-can g c κs within =
     let s = c.args.self.now in
     let l = c.args.opener.now.library in
-    subst (λ xs. (i : ℕ) (e : _) → i < length xs → CanShare g.S.Folder.Shelf.Shelf.kept c.datasets.result.now i c.as_slice.result.now (get_or xs i e)) (sym c.as_mut_slice.ensures.value)
-    (subst (λ ps. (i : ℕ) (e : _) → i < length s.jobs.items → CanShare g.S.Folder.Shelf.Shelf.kept c.datasets.result.now i ps (get_or s.jobs.items i e)) (sym c.as_slice.ensures.value)
+    subst (λ xs. (i : ℕ) (e : _) → i < length xs → CanShare g.S.Folder.Shelf.Shelf.kept c.datasets.result.now i c.as_mut_slice.result.now (get_or xs i e)) (sym c.as_mut_slice-2.ensures.value)
+    (subst (λ ps. (i : ℕ) (e : _) → i < length s.jobs.items → CanShare g.S.Folder.Shelf.Shelf.kept c.datasets.result.now i ps (get_or s.jobs.items i e)) (sym c.as_mut_slice.ensures.value)
     (subst (λ bs. (i : ℕ) (e : _) → i < length s.jobs.items → CanShare g.S.Folder.Shelf.Shelf.kept bs i s.parcels.items (get_or s.jobs.items i e)) (sym c.datasets.ensures)
     (can_share g.S.Folder.Folder.has g.S.Folder.Shelf.Shelf.kept l s.passes.items s.jobs.items s.parcels.items c.requires.can)))
 
@@ -22,14 +22,14 @@ returns-in-Ok-clause-ran g c =
     let js = s.jobs.items in
     let ks = c.run_beside-batch.new.jobs in
     let ms = c.halted.new.jobs in
-    let value = c.as_mut_slice.ensures.value in
+    let value = c.as_mut_slice-2.ensures.value in
     let is : c.args.self.now.jobs.len ≡ length c.args.self.now.jobs.items = search rules in
     let long = c.run_beside-batch.ensures.long ∙ ap length value in
-    let one = subst (λ bs. (i : ℕ) (e : _) → i < length c.as_mut_slice.result.now → Shared g.S.Folder.Shelf.Shelf.kept bs i c.as_slice.result.now (get_or c.as_mut_slice.result.now i e) (get_or ks i e)) c.datasets.ensures c.run_beside-batch.ensures.shared in
-    let two = subst (λ ps. (i : ℕ) (e : _) → i < length c.as_mut_slice.result.now → Shared g.S.Folder.Shelf.Shelf.kept l.boards i ps (get_or c.as_mut_slice.result.now i e) (get_or ks i e)) c.as_slice.ensures.value one in
+    let one = subst (λ bs. (i : ℕ) (e : _) → i < length c.as_mut_slice-2.result.now → Shared g.S.Folder.Shelf.Shelf.kept bs i c.as_mut_slice.result.now (get_or c.as_mut_slice-2.result.now i e) (get_or ks i e)) c.datasets.ensures c.run_beside-batch.ensures.shared in
+    let two = subst (λ ps. (i : ℕ) (e : _) → i < length c.as_mut_slice-2.result.now → Shared g.S.Folder.Shelf.Shelf.kept l.boards i ps (get_or c.as_mut_slice-2.result.now i e) (get_or ks i e)) c.as_mut_slice.ensures.value one in
     let three = subst (λ xs. (i : ℕ) (e : _) → i < length xs → Shared g.S.Folder.Shelf.Shelf.kept l.boards i s.parcels.items (get_or xs i e) (get_or ks i e)) value two in
     let each = each_by (λ i j k. Shared g.S.Folder.Shelf.Shelf.kept l.boards i s.parcels.items j k) js ks long three in
-    let same = c.as_mut_slice-2.ensures.value ∙ written js ks s.jobs.len is long in
+    let same = c.as_mut_slice-3.ensures.value ∙ written js ks s.jobs.len is long in
     let quiet = subst (λ xs. Each (λ i. IsQuiet) xs ms) same c.halted.ensures.quiet in
     let halted = subst (λ xs. Halted xs c.halted.result) same c.halted.ensures.halted in
     λ start now lost all waiting crewed waits. subst (λ xs. RanAs g.S.Folder.Folder.has g.S.Folder.Shelf.Shelf.kept {Z = g.row.X.Denot} start now lost (all ++ waiting) (Ok tt) l s.passes.items xs) (sym (written_twice js ks ms s.jobs.len is long quiet.long))
@@ -42,14 +42,14 @@ returns-in-Err-clause-ran g c =
     let js = s.jobs.items in
     let ks = c.run_beside-batch.new.jobs in
     let ms = c.halted.new.jobs in
-    let value = c.as_mut_slice.ensures.value in
+    let value = c.as_mut_slice-2.ensures.value in
     let is : c.args.self.now.jobs.len ≡ length c.args.self.now.jobs.items = search rules in
     let long = c.run_beside-batch.ensures.long ∙ ap length value in
-    let one = subst (λ bs. (i : ℕ) (e : _) → i < length c.as_mut_slice.result.now → Shared g.S.Folder.Shelf.Shelf.kept bs i c.as_slice.result.now (get_or c.as_mut_slice.result.now i e) (get_or ks i e)) c.datasets.ensures c.run_beside-batch.ensures.shared in
-    let two = subst (λ ps. (i : ℕ) (e : _) → i < length c.as_mut_slice.result.now → Shared g.S.Folder.Shelf.Shelf.kept l.boards i ps (get_or c.as_mut_slice.result.now i e) (get_or ks i e)) c.as_slice.ensures.value one in
+    let one = subst (λ bs. (i : ℕ) (e : _) → i < length c.as_mut_slice-2.result.now → Shared g.S.Folder.Shelf.Shelf.kept bs i c.as_mut_slice.result.now (get_or c.as_mut_slice-2.result.now i e) (get_or ks i e)) c.datasets.ensures c.run_beside-batch.ensures.shared in
+    let two = subst (λ ps. (i : ℕ) (e : _) → i < length c.as_mut_slice-2.result.now → Shared g.S.Folder.Shelf.Shelf.kept l.boards i ps (get_or c.as_mut_slice-2.result.now i e) (get_or ks i e)) c.as_mut_slice.ensures.value one in
     let three = subst (λ xs. (i : ℕ) (e : _) → i < length xs → Shared g.S.Folder.Shelf.Shelf.kept l.boards i s.parcels.items (get_or xs i e) (get_or ks i e)) value two in
     let each = each_by (λ i j k. Shared g.S.Folder.Shelf.Shelf.kept l.boards i s.parcels.items j k) js ks long three in
-    let same = c.as_mut_slice-2.ensures.value ∙ written js ks s.jobs.len is long in
+    let same = c.as_mut_slice-3.ensures.value ∙ written js ks s.jobs.len is long in
     let quiet = subst (λ xs. Each (λ i. IsQuiet) xs ms) same c.halted.ensures.quiet in
     let halted = subst (λ xs. Halted xs c.halted.result) same c.halted.ensures.halted in
     λ start now lost all waiting crewed waits. subst (λ xs. RanAs g.S.Folder.Folder.has g.S.Folder.Shelf.Shelf.kept start now lost (all ++ waiting) (Err c.in-Err.fault) l s.passes.items xs) (sym (written_twice js ks ms s.jobs.len is long quiet.long))

@@ -1,0 +1,4 @@
+pub mod Damages
+pub mod Located
+pub mod Finding
+pub mod Rounds

@@ -1,7 +1,0 @@
-use Rattle.std.proofs.Common.{arith, rules}
-use Rattle.std.proofs.lemmas.Int.{ints}
-use Rattle.fd_spelling.proofs.Zeros.{scaled_shorter}
-use Rattle.fd_key.proofs.fields.surface_text.Goals as goal
-
-pub returns-clause-short : goal.returns-clause-short
-returns-clause-short c = rw c.in_ok-text.ensures (scaled_shorter _ _ (search rules) (omega (arith, ints)))
