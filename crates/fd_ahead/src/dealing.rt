@@ -1,7 +1,6 @@
 //! Which thread reads which fields.
 ghost use Rattle.std.specs.Prelude.{◌≤◌, ◌≡◌, All, List, length, IfSome};
-ghost use Rattle.fd_ahead.specs.Places.{AreIn, IsIn, Open};
-ghost use Rattle.fd_ahead.specs.Reading.{IsJob, IsWanted};
+ghost use Rattle.fd_ahead.specs.{Places.{AreIn, IsIn, Open}, Reading.{IsJob, IsWanted}};
 
 use crate::job::ReadJob;
 use crate::located::Located;

@@ -1,7 +1,6 @@
 //! What a thread reads ahead.
 ghost use Rattle.std.specs.Prelude.{◌≡◌, All, List, length, IfOk};
-ghost use Rattle.fd_ahead.specs.Places.{Keeps, Open};
-ghost use Rattle.fd_ahead.specs.Reading.{IsJob, IsRead, IsWanted};
+ghost use Rattle.fd_ahead.specs.{Places.{Keeps, Open}, Reading.{IsJob, IsRead, IsWanted}};
 
 use crate::located::Located;
 use crate::opened::Opened;

@@ -1,5 +1,4 @@
-ghost use Rattle.std.specs.Prelude.{◌≡◌, string_bytes};
-ghost use Rattle.std.specs.Str.{bytes_eq};
+ghost use Rattle.std.specs.{Prelude.{◌≡◌, string_bytes}, Str.{bytes_eq}};
 
 use fd_dataset::Snapshot;
 use fd_disk::Sealed;

@@ -2,10 +2,8 @@
 ghost use Rattle.std.specs.Prelude.{◌≡◌, ◌≤◌, ◌<◌, None, Some, List, length, IfOk, IfErr, IfSome, IsSome, OnOk, slice_get};
 ghost use Rattle.fd_bytes.specs.Causes.{Rose};
 ghost use Rattle.fd_segment.specs.Causes as segments;
-ghost use Rattle.fd_segment.specs.Copying.{IsCopied, IsCopiedInPart, IsDigestedAt, IsPiece};
-ghost use Rattle.fd_segment.specs.Held.{Standing};
-ghost use Rattle.fd_retriever.specs.Answers.{OnDamaged, OnWrite, UnlessWrite, Unwritten};
-ghost use Rattle.fd_retriever.specs.Kept.{AreThose};
+ghost use Rattle.fd_segment.specs.{Copying.{IsCopied, IsCopiedInPart, IsDigestedAt, IsPiece}, Held.{Standing}};
+ghost use Rattle.fd_retriever.specs.{Answers.{OnDamaged, OnWrite, UnlessWrite, Unwritten}, Kept.{AreThose}};
 ghost use Rattle.fd_ahead.specs.Places.{InSegment, IsIn, IsMetAt, Keeping, Keeps};
 
 use crate::located::Located;

@@ -3,8 +3,7 @@ ghost use Rattle.std.specs.Prelude.{◌≡◌, ◌≤◌, ◌+◌, ◌++◌, ℕ
 ghost use Rattle.fd_bytes.specs.Causes.{Rose};
 ghost use Rattle.fd_segment.specs.Copying.{IsCopied, IsCopiedInPart, IsDigestedAt};
 ghost use Rattle.fd_retriever.specs.Answers.{OnDamaged, OnWrite, UnlessWrite, Unwritten};
-ghost use Rattle.fd_ahead.specs.Places.{InSegment, IsIn, IsMetAt, Open};
-ghost use Rattle.fd_ahead.specs.Reading.{AreJoined, IsHeld, IsJob, IsRead, IsReadOf, IsStock};
+ghost use Rattle.fd_ahead.specs.{Places.{InSegment, IsIn, IsMetAt, Open}, Reading.{AreJoined, IsHeld, IsJob, IsRead, IsReadOf, IsStock}};
 
 use crate::job::{Item, ReadJob, keep};
 use crate::located::Located;

@@ -7,13 +7,8 @@ ghost use Rattle.fd_key.specs.Pairs.{key_text};
 ghost use Rattle.fd_listing.specs.Lines.{line};
 ghost use Rattle.fd_request.specs.Expansion.{expand};
 ghost use Rattle.fd_objects.specs.Given.{sink_of};
-ghost use Rattle.fd_ahead.specs.Places.{AreIn};
-ghost use Rattle.fd_ahead.specs.Reading.{IsStock};
-ghost use Rattle.fd_answering.specs.Damages.{IsDamagedAt};
-ghost use Rattle.fd_answering.specs.Located.{IsAt};
-ghost use Rattle.fd_ahead.specs.Places.{IsIn};
-ghost use Rattle.fd_answering.specs.Finding.{IsOne, IsOneInPart, OnDamaged, OnUnwritten, TookSome, one_if};
-ghost use Rattle.fd_answering.specs.Rounds.{IsRound, IsStep};
+ghost use Rattle.fd_ahead.specs.{Places.{AreIn}, Reading.{IsStock}, Places.{IsIn}};
+ghost use Rattle.fd_answering.specs.{Damages.{IsDamagedAt}, Located.{IsAt}, Finding.{IsOne, IsOneInPart, OnDamaged, OnUnwritten, TookSome, one_if}, Rounds.{IsRound, IsStep}};
 
 use crate::datasets::write_found;
 use fd_ahead::{Located, Opened, ReadStock};

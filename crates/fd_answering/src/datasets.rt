@@ -2,10 +2,8 @@
 ghost use Rattle.std.specs.Prelude.{◌≡◌, ◌≤◌, ◌<◌, List, ℕ, Option, Some, IfOk, IfErr, IfSome, OnOk};
 ghost use Rattle.fd_bytes.specs.Causes.{Rose};
 ghost use Rattle.fd_retriever.specs.Answers.{IsAnswer, OnDamaged, OnWrite, TookFront};
-ghost use Rattle.fd_ahead.specs.Reading.{IsStock};
-ghost use Rattle.fd_answering.specs.Damages.{IsDamagedAt};
-ghost use Rattle.fd_answering.specs.Located.{IsAt};
-ghost use Rattle.fd_ahead.specs.Places.{IsIn};
+ghost use Rattle.fd_ahead.specs.{Reading.{IsStock}, Places.{IsIn}};
+ghost use Rattle.fd_answering.specs.{Damages.{IsDamagedAt}, Located.{IsAt}};
 
 use fd_ahead::{Located, Opened, ReadStock};
 use fd_disk::Sealed;

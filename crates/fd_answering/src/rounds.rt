@@ -2,15 +2,10 @@
 ghost use Rattle.std.specs.Prelude.{◌≡◌, ◌≤◌, ◌<◌, ◌^◌, All, List, length, IfOk, IfErr, OnOk};
 ghost use Rattle.fd_bytes.specs.Causes.{Rose};
 ghost use Rattle.fd_request.specs.Expansion.{expand};
-ghost use Rattle.fd_outcome.specs.Asking.{Answer};
-ghost use Rattle.fd_outcome.specs.Objects.{object};
+ghost use Rattle.fd_outcome.specs.{Asking.{Answer}, Objects.{object}};
 ghost use Rattle.fd_objects.specs.Given.{sink_of};
-ghost use Rattle.fd_ahead.specs.Places.{AreIn, Open};
-ghost use Rattle.fd_ahead.specs.Reading.{IsJob, IsStock};
-ghost use Rattle.fd_answering.specs.Damages.{IsDamagedAt};
-ghost use Rattle.fd_answering.specs.Located.{AreAt};
-ghost use Rattle.fd_answering.specs.Finding.{IsAnswered, IsAnsweredInPart, OnDamaged, OnUnwritten, TookSome};
-ghost use Rattle.fd_answering.specs.Rounds.{IsRound};
+ghost use Rattle.fd_ahead.specs.{Places.{AreIn, Open}, Reading.{IsJob, IsStock}};
+ghost use Rattle.fd_answering.specs.{Damages.{IsDamagedAt}, Located.{AreAt}, Finding.{IsAnswered, IsAnsweredInPart, OnDamaged, OnUnwritten, TookSome}, Rounds.{IsRound}};
 
 use crate::answering::{Halt, answer_some};
 use fd_ahead::{Located, Opened, ReadJob, ReadStock, Stock, deal, jobs_for, read_beside};

@@ -3,10 +3,7 @@ ghost use Rattle.std.specs.Prelude.{◌≡◌, ◌≤◌, false, List, ℕ, Opti
 ghost use Rattle.fd_disk.specs.Folders.{WhereTold};
 ghost use Rattle.fd_schema.specs.Grammar.{IsSchema};
 ghost use Rattle.fd_words.specs.declared.command.Command.TheVariants.{Archive};
-ghost use Rattle.fd_outcome.specs.Asking.{rules_of};
-ghost use Rattle.fd_outcome.specs.Noticing.{Notices, ReadsFitly, SparesDamaged};
-ghost use Rattle.fd_outcome.specs.Objects.{object};
-ghost use Rattle.fd_outcome.specs.Ran.{Ran};
+ghost use Rattle.fd_outcome.specs.{Asking.{rules_of}, Noticing.{Notices, ReadsFitly, SparesDamaged}, Objects.{object}, Ran.{Ran}};
 ghost use Rattle.fd_objects.specs.Given.{OverInput, sink_of, source_of, store_of, store_since};
 ghost use Rattle.fd_archive.specs.Crashing.{OutlastsCrash};
 

@@ -1,6 +1,5 @@
 // The lines that tell what was stored, or why not all.
-ghost use Rattle.std.specs.Prelude.{◌++◌, codes};
-ghost use Rattle.std.specs.Fmt.{decimal};
+ghost use Rattle.std.specs.{Prelude.{◌++◌, codes}, Fmt.{decimal}};
 ghost use Rattle.fd_listing.specs.Lines.{line};
 ghost use Rattle.fd_outcome.specs.Told.{ToldOrNoMemory};
 ghost use Rattle.fd_archive.specs.Telling.{ToldFault};

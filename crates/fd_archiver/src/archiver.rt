@@ -1,16 +1,11 @@
 ghost use Rattle.std.specs.Prelude.{◌≡◌, ◌≢◌, ◌≤◌, ◌<◌, ◌+◌, ◌-◌, ◌^◌, ◌↔◌, ◌++◌, [], ◌∷◌, List, true, false, length, None, Err, IsSome, is_some, IsTrue, IfOk, IfErr, IfSome, OnOk, OnErr};
 ghost use Rattle.fd_bytes.specs.Causes.{Rose};
-ghost use Rattle.fd_disk.specs.declared.folders.FileName.{FileName};
-ghost use Rattle.fd_disk.specs.Causes.{OnFault};
-ghost use Rattle.fd_entries.specs.declared.batch.Pair.{Pair};
-ghost use Rattle.fd_entries.specs.Batches.{distinct};
+ghost use Rattle.fd_disk.specs.{declared.folders.FileName.{FileName}, Causes.{OnFault}};
+ghost use Rattle.fd_entries.specs.{declared.batch.Pair.{Pair}, Batches.{distinct}};
 ghost use Rattle.fd_index.specs.Builder.{room_for};
 ghost use Rattle.fd_segment.specs.Filling.{Puts};
-ghost use Rattle.fd_schema.specs.Rules.{file_key};
-ghost use Rattle.fd_schema.specs.Reading.{seen_place};
-ghost use Rattle.fd_archiver.specs.Causes.{FullAs, OnArchiveDisk, OnUntouched};
-ghost use Rattle.fd_archiver.specs.Whole.{Created};
-ghost use Rattle.fd_archiver.specs.Writing.{IsKept, IsPending};
+ghost use Rattle.fd_schema.specs.{Rules.{file_key}, Reading.{seen_place}};
+ghost use Rattle.fd_archiver.specs.{Causes.{FullAs, OnArchiveDisk, OnUntouched}, Whole.{Created}, Writing.{IsKept, IsPending}};
 
 use crate::fault::ArchiveFault;
 use fd_disk::{Down, Sealed, Shelf};
@@ -46,9 +41,7 @@ pub struct Archiver<F: Send, H: Shelf<F>> {
 
 impl<F: Send, H: Shelf<F>> Model for Archiver<F, H> {
     ghost use Rattle.std.specs.Prelude.{◌≡◌, is_some};
-    ghost use Rattle.fd_archiver.specs.Writing.{Writing};
-    ghost use Rattle.fd_archiver.specs.Waiting.{is_kept, waiting};
-    ghost use Rattle.fd_archiver.specs.Whole.{Created, IsWhole, KeptIs};
+    ghost use Rattle.fd_archiver.specs.{Writing.{Writing}, Waiting.{is_kept, waiting}, Whole.{Created, IsWhole, KeptIs}};
 
     ghost Value = { Writing H };
 

@@ -1,15 +1,9 @@
 ghost use Rattle.std.specs.Prelude.{◌≡◌, ◌≢◌, ◌≤◌, ◌<◌, ◌+◌, ◌-◌, ◌^◌, ◌⊎◌, ◌↔◌, [], List, length, false, true, Ok, Err, None, Some, IfErr, OnErr};
 ghost use mathlib.Core.List.{IsPrefix};
-ghost use Rattle.fd_entries.specs.declared.batch.Pair.{Pair};
-ghost use Rattle.fd_entries.specs.Table.{greatest_writer};
-ghost use Rattle.fd_turn.specs.declared.view.Lock.TheVariants.{Free};
-ghost use Rattle.fd_turn.specs.Views.{all_parts};
-ghost use Rattle.fd_turn.specs.Passes.{view, IsOf, IsSame};
-ghost use Rattle.fd_segment.specs.Filling.{HoldsSame};
-ghost use Rattle.fd_segment.specs.Held.{Standing};
-ghost use Rattle.fd_archiver.specs.Causes.{FullAfter, LeavesDoubts, OnFlushDisk};
-ghost use Rattle.fd_archiver.specs.Flushing.{FailedBefore, KeepsNext, KeepsOthers, Lists, StaysOf, UsesOne};
-ghost use Rattle.fd_archiver.specs.Writing.{IsPending, IsReady, number_of};
+ghost use Rattle.fd_entries.specs.{declared.batch.Pair.{Pair}, Table.{greatest_writer}};
+ghost use Rattle.fd_turn.specs.{declared.view.Lock.TheVariants.{Free}, Views.{all_parts}, Passes.{view, IsOf, IsSame}};
+ghost use Rattle.fd_segment.specs.{Filling.{HoldsSame}, Held.{Standing}};
+ghost use Rattle.fd_archiver.specs.{Causes.{FullAfter, LeavesDoubts, OnFlushDisk}, Flushing.{FailedBefore, KeepsNext, KeepsOthers, Lists, StaysOf, UsesOne}, Writing.{IsPending, IsReady, number_of}};
 
 use crate::archiver::{Archiver, Unlisted};
 use crate::fault::{Flush, FlushFault};

@@ -3,11 +3,8 @@ ghost use Rattle.std.specs.Prelude.{◌≡◌, ◌≢◌, ◌≤◌, ◌<◌, �
 ghost use Rattle.fd_bytes.specs.Causes.{Rose};
 ghost use Rattle.fd_disk.specs.Causes.{OnFault};
 ghost use Rattle.fd_entries.specs.declared.batch.Pair.{Pair};
-ghost use Rattle.fd_segment.specs.Filling.{HoldsSame, Puts};
-ghost use Rattle.fd_segment.specs.Held.{Standing};
-ghost use Rattle.fd_archiver.specs.Causes.{OnFlushDisk};
-ghost use Rattle.fd_archiver.specs.Flushing.{FailedBefore, KeepsNext, KeepsOthers, StaysOf, UsesOne};
-ghost use Rattle.fd_archiver.specs.Writing.{IsPending, IsReady, number_of};
+ghost use Rattle.fd_segment.specs.{Filling.{HoldsSame, Puts}, Held.{Standing}};
+ghost use Rattle.fd_archiver.specs.{Causes.{OnFlushDisk}, Flushing.{FailedBefore, KeepsNext, KeepsOthers, StaysOf, UsesOne}, Writing.{IsPending, IsReady, number_of}};
 
 use crate::FlushFault;
 use crate::archiver::{Archiver, Unlisted};

@@ -1,6 +1,5 @@
 // A reader that reads ahead.
-ghost use Rattle.std.specs.Prelude.{◌≡◌, ◌≤◌, ◌-◌, ◌+◌, take, drop, vec_len, IfOk, IsTrue};
-ghost use Rattle.std.specs.Option.{ForSome};
+ghost use Rattle.std.specs.{Prelude.{◌≡◌, ◌≤◌, ◌-◌, ◌+◌, take, drop, vec_len, IfOk, IsTrue}, Option.{ForSome}};
 
 use crate::copying::copied;
 use fd_bytes::NoMemory;

@@ -1,8 +1,6 @@
 // A file whose small writes are gathered.
-ghost use Rattle.std.specs.Prelude.{◌≡◌, ◌≤◌, ◌<◌, ◌+◌, ◌^◌, ◌++◌, length, vec_len, vec_capacity, IfOk, IsTrue};
-ghost use Rattle.std.specs.Option.{ForSome};
-ghost use Rattle.fd_buffers.specs.Gathered.{Covers};
-ghost use Rattle.fd_buffers.specs.Trails.{loose_by};
+ghost use Rattle.std.specs.{Prelude.{◌≡◌, ◌≤◌, ◌<◌, ◌+◌, ◌^◌, ◌++◌, length, vec_len, vec_capacity, IfOk, IsTrue}, Option.{ForSome}};
+ghost use Rattle.fd_buffers.specs.{Gathered.{Covers}, Trails.{loose_by}};
 
 use crate::trail::Trail;
 use fd_bytes::NoMemory;
@@ -68,9 +66,7 @@ impl<F: Send, T: Disk<F>> Disk<F> for Gathering<F, T> {
     ghost use Rattle.std.specs.Prelude.{◌⊎◌, ◌&&◌, ◌==◌, length};
     ghost use Rattle.std.proofs.Common.{inr, ⊎_elim};
     ghost use Rattle.fd_disk.specs.Moments.{MayLeave};
-    ghost use Rattle.fd_buffers.specs.Gathered.{reached, told};
-    ghost use Rattle.fd_buffers.specs.Standing.{still_left, told_firm, told_reads};
-    ghost use Rattle.fd_buffers.specs.Trails.{loose_by};
+    ghost use Rattle.fd_buffers.specs.{Gathered.{reached, told}, Standing.{still_left, told_firm, told_reads}, Trails.{loose_by}};
 
     type Sealed = T::Sealed;
 

@@ -6,8 +6,7 @@ ghost use Rattle.fd_schema.specs.Grammar.{IsSchema};
 ghost use Rattle.fd_library.specs.Open.{OutAre};
 ghost use Rattle.fd_outcome.specs.Noticing.{SparesDamaged};
 ghost use Rattle.fd_bulk.specs.declared.bulk.BulkFault.TheVariants as faults;
-ghost use Rattle.fd_bulk.specs.Archived.{Archived, IsRead, OnDisk, OnInput};
-ghost use Rattle.fd_bulk.specs.Crewing.{Deals};
+ghost use Rattle.fd_bulk.specs.{Archived.{Archived, IsRead, OnDisk, OnInput}, Crewing.{Deals}};
 
 use crate::crew::Crew;
 use crate::reading::{Counts, list_input};

@@ -2,22 +2,13 @@
 ghost use Rattle.std.specs.Prelude.{◌≡◌, ◌==◌, ◌≤◌, ◌<◌, ◌+◌, ◌++◌, ◌∷◌, [], ◌^◌, ℕ, List, Option, Some, All, true, false, is_some, length, slice_get, IfErr, IfOk, IsSome, OnOk, vec_capacity, vec_len};
 ghost use Rattle.fd_bytes.specs.Causes.{Rose};
 ghost use Rattle.fd_disk.specs.Folders.{Holdings, WhereTold};
-ghost use Rattle.fd_bulk.specs.Archived.{Grows, GrowsAll, IsBack, IsSure};
-ghost use Rattle.fd_schema.specs.Grammar.{IsSchema};
-ghost use Rattle.fd_schema.specs.Rules.{file_key};
-ghost use Rattle.fd_schema.specs.Reading.{seen_place};
-ghost use Rattle.fd_library.specs.Open.{OpenDataset, OutAre, among, names_of};
+ghost use Rattle.fd_bulk.specs.{Archived.{Grows, GrowsAll, IsBack, IsSure}, Ending.{CanEndOne, EndedAs, IsShorter, column}, Halting.{Each, Halted, HasOneMore, HaveMetNone, HaveRoom, IsLower, IsQuiet, IsSameJob, IsTold, OnStore}, Inputs.{is_calm}, Meets.{Meets}, Naming.{IsOpened}, Crewing.{CanEnd, CanFinish, CanRun, CanSeat, Closes, Crewed, Deals, DealtAs, Finished, FinishedAs, HasFull, IsUnopened, OpenedAs, RanAs, RanBeside, Running, SeatedAs, SeeFull, Stopping, TooManyAt, Waits, message_at, octets_of}};
+ghost use Rattle.fd_schema.specs.{Grammar.{IsSchema}, Rules.{file_key}, Reading.{seen_place}};
+ghost use Rattle.fd_library.specs.{Open.{OpenDataset, OutAre, among, names_of}, Calls.{Changes}};
 ghost use Rattle.fd_sheets.specs.Reading.{ReadOn};
 ghost use Rattle.fd_outcome.specs.Archiving.{Stored, datasets_in, is_too_many};
 ghost use Rattle.fd_opener.specs.Opening.{AreOpen};
 ghost use Rattle.fd_turn.specs.Passes.{view};
-ghost use Rattle.fd_library.specs.Calls.{Changes};
-ghost use Rattle.fd_bulk.specs.Ending.{CanEndOne, EndedAs, IsShorter, column};
-ghost use Rattle.fd_bulk.specs.Halting.{Each, Halted, HasOneMore, HaveMetNone, HaveRoom, IsLower, IsQuiet, IsSameJob, IsTold, OnStore};
-ghost use Rattle.fd_bulk.specs.Inputs.{is_calm};
-ghost use Rattle.fd_bulk.specs.Meets.{Meets};
-ghost use Rattle.fd_bulk.specs.Naming.{IsOpened};
-ghost use Rattle.fd_bulk.specs.Crewing.{CanEnd, CanFinish, CanRun, CanSeat, Closes, Crewed, Deals, DealtAs, Finished, FinishedAs, HasFull, IsUnopened, OpenedAs, RanAs, RanBeside, Running, SeatedAs, SeeFull, Stopping, TooManyAt, Waits, message_at, octets_of};
 
 use crate::bulk::BulkFault;
 use crate::handing::hand_back_all;

@@ -2,8 +2,7 @@
 ghost use Rattle.std.specs.Prelude.{◌≡◌, length};
 ghost use Rattle.fd_turn.specs.Passes.{IsSame, view};
 ghost use Rattle.fd_library.specs.Calls.{Changes};
-ghost use Rattle.fd_bulk.specs.Ending.{CanGive, CanGiveAll, Hands, HandsAll, IsShorter, column, desk_of};
-ghost use Rattle.fd_bulk.specs.Halting.{Each};
+ghost use Rattle.fd_bulk.specs.{Ending.{CanGive, CanGiveAll, Hands, HandsAll, IsShorter, column, desk_of}, Halting.{Each}};
 ghost use Rattle.fd_opener.specs.Opening.{AreOpen};
 
 use crate::round::{Desk, FolderJob};

@@ -3,21 +3,12 @@ ghost use Rattle.std.specs.Prelude.{◌≡◌, ◌≤◌, ℕ, List, Option, [],
 ghost use Rattle.fd_bytes.specs.Causes.{Rose};
 ghost use Rattle.fd_disk.specs.Folders.{Holdings};
 ghost use Rattle.fd_sections.specs.Splitting.{start as nothing_read};
-ghost use Rattle.fd_outcome.specs.Positions.{IsIdle, Position, at_message};
+ghost use Rattle.fd_outcome.specs.{Positions.{IsIdle, Position, at_message}, Archiving.{Stored}};
 ghost use Rattle.fd_key.specs.Pairs.{Pair};
-ghost use Rattle.fd_schema.specs.Grammar.{IsSchema};
-ghost use Rattle.fd_schema.specs.Rules.{Rule};
+ghost use Rattle.fd_schema.specs.{Grammar.{IsSchema}, Rules.{Rule}};
 ghost use Rattle.fd_library.specs.Open.{OutAre, names_of};
-ghost use Rattle.fd_outcome.specs.Archiving.{Stored};
-ghost use Rattle.fd_bulk.specs.Halting.{OnStore};
-ghost use Rattle.fd_bulk.specs.Batches.{AllDealt, BatchEnds};
-ghost use Rattle.fd_bulk.specs.Inputs.{CanGo, EndsOf, Going, GoesOn, InputDealt, InputEnds, Midway, is_calm, is_listed, is_unread};
-ghost use Rattle.fd_sheets.specs.Names.{IsKnown};
-ghost use Rattle.fd_sheets.specs.Reading.{ReadOn};
-ghost use Rattle.fd_sheets.specs.Sheets.{Placed};
-ghost use Rattle.fd_bulk.specs.Naming.{AreOpened, Notes};
-ghost use Rattle.fd_bulk.specs.Sheets.{CanDeal, IsTold, ToldAs};
-ghost use Rattle.fd_bulk.specs.Crewing.{Deals, Finished, Running};
+ghost use Rattle.fd_bulk.specs.{Halting.{OnStore}, Batches.{AllDealt, BatchEnds}, Inputs.{CanGo, EndsOf, Going, GoesOn, InputDealt, InputEnds, Midway, is_calm, is_listed, is_unread}, Naming.{AreOpened, Notes}, Sheets.{CanDeal, IsTold, ToldAs}, Crewing.{Deals, Finished, Running}};
+ghost use Rattle.fd_sheets.specs.{Names.{IsKnown}, Reading.{ReadOn}, Sheets.{Placed}};
 
 use crate::bulk::BulkFault;
 use crate::crew::Crew;

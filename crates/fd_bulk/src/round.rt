@@ -3,8 +3,7 @@ ghost use Rattle.std.specs.Prelude.{◌≡◌, ◌<◌, ◌≤◌, ℕ, List, Al
 ghost use Rattle.fd_schema.specs.Grammar.{IsSchema};
 ghost use Rattle.fd_sheets.specs.Reading.{ReadOn};
 ghost use Rattle.fd_entries.specs.declared.batch.Pair.{Pair};
-ghost use Rattle.fd_bulk.specs.Sharing.{AllWork, CanListAll, CanListAt, CanShare, CanStore, Listed, ListedAt, SameMet, Shared, StoredAt};
-ghost use Rattle.fd_bulk.specs.Working.{Filling, Stage};
+ghost use Rattle.fd_bulk.specs.{Sharing.{AllWork, CanListAll, CanListAt, CanShare, CanStore, Listed, ListedAt, SameMet, Shared, StoredAt}, Working.{Filling, Stage}};
 
 use crate::working::{list, store};
 use fd_archiver::{Archiver, FlushFault};

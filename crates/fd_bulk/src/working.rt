@@ -1,10 +1,8 @@
 //! A worker in one dataset: it puts messages into a batch, and lists the batch where it is full.
 ghost use Rattle.std.specs.Prelude.{◌≡◌, ◌≤◌, ◌<◌, ◌+◌, ◌^◌, ◌∷◌, ◌++◌, [], List, length, Err};
 ghost use Rattle.fd_entries.specs.declared.batch.Pair.{Pair};
-ghost use Rattle.fd_schema.specs.Rules.{file_key};
-ghost use Rattle.fd_schema.specs.Reading.{seen_place};
-ghost use Rattle.fd_turn.specs.Views.{View};
-ghost use Rattle.fd_turn.specs.Passes.{view, IsOf, IsSame};
+ghost use Rattle.fd_schema.specs.{Rules.{file_key}, Reading.{seen_place}};
+ghost use Rattle.fd_turn.specs.{Views.{View}, Passes.{view, IsOf, IsSame}};
 ghost use Rattle.fd_bulk.specs.Working.{CanList, CanPut, Emptied, Filling, IsFilled, IsNotFull, Keeps, ListedAll, PutOn, StaysOf, Stored, Works};
 
 use fd_archiver::{ArchiveFault, Archiver, FlushFault};

@@ -1,11 +1,8 @@
 // The steps of a script, one after the other.
 ghost use Rattle.std.specs.Prelude.{◌≡◌, ◌<◌, ◌∷◌, ◌++◌, [], List, Some, IfErr, IfOk, OnOk, length, map, slice_get};
-ghost use Rattle.fd_schema.specs.Grammar.{IsSchema};
-ghost use Rattle.fd_schema.specs.Reading.{seen_place};
+ghost use Rattle.fd_schema.specs.{Grammar.{IsSchema}, Reading.{seen_place}};
 ghost use Rattle.fd_lanes.specs.Acts.{ArePlaces, LanesFit};
-ghost use Rattle.fd_casting.specs.Steps.{AreMessages, HasLines, Posed, all_posed, posed};
-ghost use Rattle.fd_casting.specs.Miscasts.{Faults, NoneFails};
-ghost use Rattle.fd_casting.specs.Done.{IsCourse, is_behind};
+ghost use Rattle.fd_casting.specs.{Steps.{AreMessages, HasLines, Posed, all_posed, posed}, Miscasts.{Faults, NoneFails}, Done.{IsCourse, is_behind}};
 
 use crate::fault::{CastFault, Miscast, Refusal};
 use crate::judging::judge;

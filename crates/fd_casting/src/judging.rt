@@ -1,16 +1,11 @@
 // Whether a step can be done.
 ghost use Rattle.std.specs.Prelude.{◌≡◌, ◌<◌, ℕ, List, None, Some, IfErr, IfOk, IfSome, OnOk, length, slice_get};
-ghost use Rattle.fd_sections.specs.Message.{IsMessage};
-ghost use Rattle.fd_sections.specs.Parts.{sections_of};
+ghost use Rattle.fd_sections.specs.{Message.{IsMessage}, Parts.{sections_of}};
 ghost use Rattle.fd_key.specs.Pairs as keys;
-ghost use Rattle.fd_schema.specs.Grammar.{IsSchema};
-ghost use Rattle.fd_schema.specs.Rules.{place_from};
-ghost use Rattle.fd_schema.specs.Reading.{seen_place};
+ghost use Rattle.fd_schema.specs.{Grammar.{IsSchema}, Rules.{place_from}, Reading.{seen_place}};
 ghost use Rattle.fd_request.specs.Expansion.{expand};
 ghost use Rattle.fd_lanes.specs.Acts.{IsPlacedIn, message_at};
-ghost use Rattle.fd_casting.specs.Steps.{AreMessages};
-ghost use Rattle.fd_casting.specs.Miscasts.{Fails, GetFails, HasNumber, IsUnruled, KeyFails, OnMiscast, PutFails, SomeKey};
-ghost use Rattle.fd_casting.specs.Done.{Can, CanPut, IsJudged, seen_if};
+ghost use Rattle.fd_casting.specs.{Steps.{AreMessages}, Miscasts.{Fails, GetFails, HasNumber, IsUnruled, KeyFails, OnMiscast, PutFails, SomeKey}, Done.{Can, CanPut, IsJudged, seen_if}};
 
 use crate::fault::{Miscast, Refusal};
 use fd_bytes::Bytes;

@@ -3,17 +3,10 @@ ghost use Rattle.std.specs.Prelude.{◌≡◌, ◌⊎◌, List, ℕ, Option, IfS
 ghost use Rattle.fd_disk.specs.Folders.{Holdings};
 ghost use Rattle.fd_words.specs.declared.command.Command.{Command};
 ghost use Rattle.fd_words.specs.declared.command.Command.TheVariants as commands;
-ghost use Rattle.fd_outcome.specs.declared.status.Status.TheVariants.{Done, Missed};
-ghost use Rattle.fd_outcome.specs.Noticing.{AnswersFirmly, Notices, ReadsFitly};
-ghost use Rattle.fd_outcome.specs.Objects.{Object, object};
-ghost use Rattle.fd_outcome.specs.Ran.{Ran};
-ghost use Rattle.fd_outcome.specs.Rows.{axes_text, list_text};
-ghost use Rattle.fd_outcome.specs.Store.{AreNames};
+ghost use Rattle.fd_outcome.specs.{declared.status.Status.TheVariants.{Done, Missed}, Noticing.{AnswersFirmly, Notices, ReadsFitly}, Objects.{Object, object}, Ran.{Ran}, Rows.{axes_text, list_text}, Store.{AreNames}};
 ghost use Rattle.fd_objects.specs.Given.{Over, OverOutput, sink_of, source_of, store_of, store_since};
 ghost use Rattle.fd_retrieve.specs.Ready.{AreFirmOf};
-ghost use Rattle.fd_contents.specs.Asked.{Begins};
-ghost use Rattle.fd_contents.specs.Printed.{PrintsAll};
-ghost use Rattle.fd_contents.specs.Recorded.{CountsRecords, ListsRecords};
+ghost use Rattle.fd_contents.specs.{Asked.{Begins}, Printed.{PrintsAll}, Recorded.{CountsRecords, ListsRecords}};
 
 use crate::datasets::{Halt, print};
 use crate::lines::Lines;

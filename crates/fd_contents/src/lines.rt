@@ -2,11 +2,9 @@
 ghost use Rattle.std.specs.Prelude.{◌≡◌, ◌≤◌, List, ℕ, Some, IfErr, OnErr, OnOk, length};
 ghost use Rattle.fd_disk.specs.Folders.{Holdings};
 ghost use Rattle.fd_io.specs.Streams.{TakesFront};
-ghost use Rattle.fd_inventory.specs.Indexes.{IsAmongBad, OnLines};
-ghost use Rattle.fd_inventory.specs.Written.{HasLinesCause};
+ghost use Rattle.fd_inventory.specs.{Indexes.{IsAmongBad, OnLines}, Written.{HasLinesCause}};
 ghost use Rattle.fd_retrieve.specs.Open.{IsOpenIn};
-ghost use Rattle.fd_contents.specs.Printed.{TakesText};
-ghost use Rattle.fd_contents.specs.Texts.{text_for};
+ghost use Rattle.fd_contents.specs.{Printed.{TakesText}, Texts.{text_for}};
 
 use fd_disk::Sealed;
 use fd_inventory::{LinesFault, axes, list, stats};

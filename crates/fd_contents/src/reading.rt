@@ -1,9 +1,7 @@
 // What is read before the first dataset is opened.
-ghost use Rattle.std.specs.Prelude.{◌≡◌, ◌≤◌, [], Some, Ok, Err, IfOk, IfErr, IfSome, OnOk};
-ghost use Rattle.std.specs.Result.{IsErr};
+ghost use Rattle.std.specs.{Prelude.{◌≡◌, ◌≤◌, [], Some, Ok, Err, IfOk, IfErr, IfSome, OnOk}, Result.{IsErr}};
 ghost use Rattle.fd_bytes.specs.Causes.{Rose};
-ghost use Rattle.fd_outcome.specs.Asking.{partial_in, rules_of};
-ghost use Rattle.fd_outcome.specs.Noticing.{IsUnread};
+ghost use Rattle.fd_outcome.specs.{Asking.{partial_in, rules_of}, Noticing.{IsUnread}};
 ghost use Rattle.fd_objects.specs.Given.{source_of};
 ghost use Rattle.fd_telling.specs.Stops.{OnInput, OnRefusal, OnRequest};
 ghost use Rattle.fd_contents.specs.Asked.{IsEarly, IsRuled, Refuses, asked_in, unruled};

@@ -1,16 +1,12 @@
 // What is told of the keys that were found: their cubes as lines, or why there are none.
-ghost use Rattle.std.specs.Prelude.{◌≡◌, ◌≤◌, ◌≢◌, IfOk, MatchOption, None, Some, length};
-ghost use Rattle.std.specs.List.{All, AllPairs};
+ghost use Rattle.std.specs.{Prelude.{◌≡◌, ◌≤◌, ◌≢◌, IfOk, MatchOption, None, Some, length}, List.{All, AllPairs}};
 ghost use Rattle.fd_request.specs.Grammar.{is_range_word};
 ghost use Rattle.fd_schema.specs.Seen.{texts};
 ghost use Rattle.fd_cubes.specs.Cubes.{IsAskable};
 ghost use Rattle.fd_outcome.specs.Causes as causes;
-ghost use Rattle.fd_outcome.specs.Causes.{telling};
-ghost use Rattle.fd_outcome.specs.Cubing.{first_ranged, is_ranged, keys_refusal};
-ghost use Rattle.fd_outcome.specs.Told.{ToldOrNoMemory};
+ghost use Rattle.fd_outcome.specs.{Causes.{telling}, Cubing.{first_ranged, is_ranged, keys_refusal}, Told.{ToldOrNoMemory}};
 ghost use Rattle.fd_objects.specs.Given.{sink_of};
-ghost use Rattle.fd_contents.specs.Cubing.{AreCubes};
-ghost use Rattle.fd_contents.specs.Told.{ToldKeys, ToldLines};
+ghost use Rattle.fd_contents.specs.{Cubing.{AreCubes}, Told.{ToldKeys, ToldLines}};
 
 use fd_bytes::NoMemory;
 use fd_cubes::{cubes, lines_of};

@@ -1,6 +1,5 @@
 ghost use Rattle.std.specs.Prelude.{◌≡◌, IfOk, OnOk, OnErr};
-ghost use Rattle.fd_core.specs.Machine.{after};
-ghost use Rattle.fd_core.specs.Took.{took_of};
+ghost use Rattle.fd_core.specs.{Machine.{after}, Took.{took_of}};
 
 use crate::crash_steps::crash;
 use crate::fail_steps::fail;

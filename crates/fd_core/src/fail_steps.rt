@@ -1,10 +1,6 @@
 ghost use Rattle.std.specs.Prelude.{◌≡◌, ◌<◌, ◌^◌, ◌⊎◌, false, IfOk, IsSome, IsNone, OnOk, OnErr};
 ghost use Rattle.fd_entries.specs.Batches.{total};
-ghost use Rattle.fd_core.specs.Machine.{after, fields_name, writer_in, writer_of};
-ghost use Rattle.fd_core.specs.Took.{IsAt, took_of};
-ghost use Rattle.fd_core.specs.declared.machine.Phase.TheVariants.{Filling, Synced, Written, Holding, BodyLoose, BodyFirm, GateLoose, Closing};
-ghost use Rattle.fd_core.specs.declared.machine.Step.TheVariants.{Fail};
-ghost use Rattle.fd_core.specs.declared.machine.Writer.{Writer};
+ghost use Rattle.fd_core.specs.{Machine.{after, fields_name, writer_in, writer_of}, Took.{IsAt, took_of}, declared.machine.Phase.TheVariants.{Filling, Synced, Written, Holding, BodyLoose, BodyFirm, GateLoose, Closing}, declared.machine.Step.TheVariants.{Fail}, declared.machine.Writer.{Writer}};
 
 use crate::files::write_file;
 use crate::fill_steps::{fields_name, index_name};

@@ -1,7 +1,6 @@
 ghost use Rattle.std.specs.Prelude.{◌≡◌, ◌==◌, ◌&&◌, ◌+◌, ◌-◌, ◌<◌, ◌^◌, ◌++◌, [], length, take, drop, replicate, slice_get, slice_set, ◌∷◌, Some, IfOk, IfSome, IfNone, OnOk, OnErr};
 ghost use Rattle.fd_core.specs.Machine.{file_of, is_listed, kept_files, put_file};
-ghost use Rattle.fd_disk.specs.Images.{firm_file, loosened, overwritten, synced, written};
-ghost use Rattle.fd_disk.specs.Names.{same_name};
+ghost use Rattle.fd_disk.specs.{Images.{firm_file, loosened, overwritten, synced, written}, Names.{same_name}};
 
 use crate::NamedFile;
 use fd_bytes::{Bytes, Items, NoMemory};

@@ -1,7 +1,5 @@
 ghost use Rattle.std.specs.Prelude.{◌≡◌, IfOk, OnOk, OnErr};
-ghost use Rattle.fd_core.specs.Machine.{after, fields_name, index_name};
-ghost use Rattle.fd_core.specs.Took.{took_of};
-ghost use Rattle.fd_core.specs.declared.machine.Step.TheVariants.{SyncData, WriteIndex, SyncIndex};
+ghost use Rattle.fd_core.specs.{Machine.{after, fields_name, index_name}, Took.{took_of}, declared.machine.Step.TheVariants.{SyncData, WriteIndex, SyncIndex}};
 
 use crate::{Phase, State, Took, Writer};
 use fd_bytes::NoMemory;

@@ -1,8 +1,5 @@
 ghost use Rattle.std.specs.Prelude.{◌≡◌, ◌++◌, ◌∷◌, [], Some, false, slice_get, slice_set, length, ◌<◌, IfOk, OnOk, OnErr};
-ghost use Rattle.fd_core.specs.Machine.{after, filled, put_file, writer_in};
-ghost use Rattle.fd_core.specs.Took.{IsPlace, took_of};
-ghost use Rattle.fd_core.specs.declared.machine.Step.TheVariants.{Put};
-ghost use Rattle.fd_core.specs.declared.machine.Writer.{Writer};
+ghost use Rattle.fd_core.specs.{Machine.{after, filled, put_file, writer_in}, Took.{IsPlace, took_of}, declared.machine.Step.TheVariants.{Put}, declared.machine.Writer.{Writer}};
 
 use crate::fail_steps::{first_seq, next_place};
 use crate::fill_steps::fields_name;

@@ -1,9 +1,6 @@
 ghost use Rattle.std.specs.Prelude.{◌≡◌, ◌+◌, ◌++◌, [], ◌∷◌, OnOk, OnErr, IfOk};
 ghost use Rattle.fd_entries.specs.Table.{header};
-ghost use Rattle.fd_core.specs.World.{World};
-ghost use Rattle.fd_core.specs.Machine.{start, put_seen, after};
-ghost use Rattle.fd_core.specs.Took.{took_of};
-ghost use Rattle.fd_core.specs.declared.machine.Step.TheVariants.{Look};
+ghost use Rattle.fd_core.specs.{World.{World}, Machine.{start, put_seen, after}, Took.{took_of}, declared.machine.Step.TheVariants.{Look}};
 
 use crate::{Files, Seen, Took, Writers};
 use fd_bytes::{Bytes, Items, NoMemory};
@@ -26,8 +23,7 @@ pub struct State {
 }
 
 impl Model for State {
-    ghost use Rattle.fd_core.specs.World.{World};
-    ghost use Rattle.fd_core.specs.Took.{IsReached};
+    ghost use Rattle.fd_core.specs.{World.{World}, Took.{IsReached}};
 
     ghost Value = { World };
 

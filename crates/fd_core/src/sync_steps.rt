@@ -1,7 +1,5 @@
 ghost use Rattle.std.specs.Prelude.{◌≡◌, IfOk, OnOk, OnErr};
-ghost use Rattle.fd_core.specs.Machine.{after};
-ghost use Rattle.fd_core.specs.Took.{took_of};
-ghost use Rattle.fd_core.specs.declared.machine.Step.TheVariants.{SyncBody, SyncGate, SyncClose};
+ghost use Rattle.fd_core.specs.{Machine.{after}, Took.{took_of}, declared.machine.Step.TheVariants.{SyncBody, SyncGate, SyncClose}};
 
 use crate::files::sync_file;
 use crate::{Phase, State, Took};

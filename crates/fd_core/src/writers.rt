@@ -1,8 +1,5 @@
-ghost use Rattle.fd_core.specs.Machine.{filled, gone_to, writer_in};
-ghost use Rattle.fd_core.specs.Took.{IsPlace};
+ghost use Rattle.fd_core.specs.{Machine.{filled, gone_to, writer_in}, Took.{IsPlace}, declared.machine.Writer.{Writer}, declared.machine.Phase.TheVariants.{Filling}};
 ghost use Rattle.fd_entries.specs.declared.batch.Pair.{Pair};
-ghost use Rattle.fd_core.specs.declared.machine.Writer.{Writer};
-ghost use Rattle.fd_core.specs.declared.machine.Phase.TheVariants.{Filling};
 ghost use Rattle.std.specs.Prelude.{◌≡◌, ◌<◌, ◌+◌, ◌^◌, ◌++◌, ◌∷◌, List, [], OnOk, OnErr, Some, IfSome, IfNone, length, slice_get, slice_set};
 
 use crate::{Phase, Writer};

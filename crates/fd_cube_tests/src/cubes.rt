@@ -1,6 +1,5 @@
 //! A full cube, and one that lacks a key.
-ghost use Rattle.std.specs.Prelude.{◌≡◌, ◌≤◌, ◌≢◌, IfSome, IsTrue, length};
-ghost use Rattle.std.specs.List.{All, AllPairs};
+ghost use Rattle.std.specs.{Prelude.{◌≡◌, ◌≤◌, ◌≢◌, IfSome, IsTrue, length}, List.{All, AllPairs}};
 ghost use Rattle.fd_spelling.specs.Names.{is_value};
 ghost use Rattle.fd_cubes.specs.Cubes.{IsAskable};
 ghost use Rattle.fd_cube_tests.specs.Keys.{four, key, three};

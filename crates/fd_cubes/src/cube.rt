@@ -1,10 +1,7 @@
-ghost use Rattle.std.specs.Prelude.{◌≡◌, ◌≤◌, ◌++◌, ◌∷◌, IfOk, OnOk, Ok, List, length, string_bytes};
-ghost use Rattle.std.specs.List.{All};
+ghost use Rattle.std.specs.{Prelude.{◌≡◌, ◌≤◌, ◌++◌, ◌∷◌, IfOk, OnOk, Ok, List, length, string_bytes}, List.{All}};
 ghost use Rattle.fd_schema.specs.Seen.{texts};
-ghost use Rattle.fd_request.specs.Expansion.{expand};
-ghost use Rattle.fd_request.specs.Limits.{request_of};
-ghost use Rattle.fd_cubes.specs.Cubes.{cube_text, more_values, values_text};
-ghost use Rattle.fd_cubes.specs.Axes.{IsFilled, seen_axes};
+ghost use Rattle.fd_request.specs.{Expansion.{expand}, Limits.{request_of}};
+ghost use Rattle.fd_cubes.specs.{Cubes.{cube_text, more_values, values_text}, Axes.{IsFilled, seen_axes}};
 
 use crate::axis::Axis;
 use crate::grid::Grid;
@@ -23,8 +20,7 @@ pub struct Cube {
 impl Model for Cube {
     ghost use Rattle.std.specs.Prelude.{List, string_bytes};
     ghost use Rattle.fd_request.specs.Expansion.{Keyword};
-    ghost use Rattle.fd_cubes.specs.Axes.{seen_axes};
-    ghost use Rattle.fd_cubes.specs.Cubes.{IsPrinted};
+    ghost use Rattle.fd_cubes.specs.{Axes.{seen_axes}, Cubes.{IsPrinted}};
 
     ghost Value = { List Keyword };
 

@@ -1,10 +1,7 @@
 // Cubes as they are handed out.
-ghost use Rattle.std.specs.Prelude.{◌≡◌, IfOk};
-ghost use Rattle.std.specs.List.{All};
-ghost use Rattle.std.specs.List.Sorted.{IsPermutation};
+ghost use Rattle.std.specs.{Prelude.{◌≡◌, IfOk}, List.{All}, List.Sorted.{IsPermutation}};
 ghost use Rattle.fd_request.specs.Expansion.{expand};
-ghost use Rattle.fd_cubes.specs.Cubes.{AreKeys, keys_of};
-ghost use Rattle.fd_cubes.specs.Grids.{IsGrid, seen_grid, seen_grids};
+ghost use Rattle.fd_cubes.specs.{Cubes.{AreKeys, keys_of}, Grids.{IsGrid, seen_grid, seen_grids}};
 
 use crate::cube::{Cube, count_of, text_of};
 use crate::grid::Grid;

@@ -1,10 +1,6 @@
 // Keys as cubes.
-ghost use Rattle.std.specs.Prelude.{◌≡◌, ◌≤◌, ◌≢◌, IfOk, length};
-ghost use Rattle.std.specs.List.{All, AllPairs};
-ghost use Rattle.std.specs.List.Sorted.{IsPermutation};
-ghost use Rattle.fd_cubes.specs.Cubes.{IsAskable, IsCube, keys_of};
-ghost use Rattle.fd_cubes.specs.Grids.{AreSettled, IsGrid, Regroups, RoundsTo, seen_grids};
-ghost use Rattle.fd_cubes.specs.Joining.{NoneCanJoin};
+ghost use Rattle.std.specs.{Prelude.{◌≡◌, ◌≤◌, ◌≢◌, IfOk, length}, List.{All, AllPairs}, List.Sorted.{IsPermutation}};
+ghost use Rattle.fd_cubes.specs.{Cubes.{IsAskable, IsCube, keys_of}, Grids.{AreSettled, IsGrid, Regroups, RoundsTo, seen_grids}, Joining.{NoneCanJoin}};
 
 use crate::cube::Cube;
 use crate::finishing::cubes_of;

@@ -2,9 +2,7 @@
 ghost use Rattle.std.specs.Prelude.{◌≡◌, ◌≤◌, ◌↔◌, ◌∷◌, [], IsTrue, IfOk, OnOk, length};
 ghost use Rattle.fd_key.specs.Pairs.{key_text};
 ghost use Rattle.fd_request.specs.Expansion.{expand};
-ghost use Rattle.fd_cubes.specs.Cubes.{IsAskable, alone, cube_text};
-ghost use Rattle.fd_cubes.specs.Axes.{seen_axes};
-ghost use Rattle.fd_cubes.specs.Grids.{seen_grid, IsGrid, Joins, Takes};
+ghost use Rattle.fd_cubes.specs.{Cubes.{IsAskable, alone, cube_text}, Axes.{seen_axes}, Grids.{seen_grid, IsGrid, Joins, Takes}};
 
 use crate::axis::{Axis, add_values, axis_of, same_but, values_at, width};
 use crate::grid::{BYTES, Grid};

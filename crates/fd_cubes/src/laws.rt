@@ -1,7 +1,6 @@
 // What is read of a printed cube.
 ghost use Rattle.std.specs.Prelude.{◌≡◌, List, Ok};
-ghost use Rattle.fd_request.specs.Expansion.{Keyword};
-ghost use Rattle.fd_request.specs.Limits.{request_of};
+ghost use Rattle.fd_request.specs.{Expansion.{Keyword}, Limits.{request_of}};
 ghost use Rattle.fd_cubes.specs.Cubes.{IsCube, cube_text};
 
 /// The text of a cube is read as a request, and its keywords are the cube's.

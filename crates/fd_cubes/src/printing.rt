@@ -1,9 +1,7 @@
 // Cubes as lines.
-ghost use Rattle.std.specs.Prelude.{IfOk, map};
-ghost use Rattle.std.specs.List.Sorted.{IsPermutation};
+ghost use Rattle.std.specs.{Prelude.{IfOk, map}, List.Sorted.{IsPermutation}};
 ghost use Rattle.fd_schema.specs.Seen.{texts};
-ghost use Rattle.fd_cubes.specs.Axes.{AreSorted};
-ghost use Rattle.fd_cubes.specs.Cubes.{cube_text};
+ghost use Rattle.fd_cubes.specs.{Axes.{AreSorted}, Cubes.{cube_text}};
 
 use crate::cube::Cube;
 use fd_bytes::NoMemory;

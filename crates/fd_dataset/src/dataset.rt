@@ -1,15 +1,9 @@
-ghost use Rattle.std.specs.Prelude.{◌≡◌, ◌<◌, ◌≤◌, ◌+◌, ◌⊎◌, ◌++◌, ℕ, List, [], ◌∷◌, length, map, Some, None, is_some, IfOk, IfErr, OnOk, OnErr, Contains};
+ghost use Rattle.std.specs.{Prelude.{◌≡◌, ◌<◌, ◌≤◌, ◌+◌, ◌⊎◌, ◌++◌, ℕ, List, [], ◌∷◌, length, map, Some, None, is_some, IfOk, IfErr, OnOk, OnErr, Contains}, Arc.{arc_value}};
 ghost use mathlib.Core.List.{IsPrefix};
-ghost use Rattle.std.specs.Arc.{arc_value};
-ghost use Rattle.fd_entries.specs.declared.batch.Listing.{Listing};
-ghost use Rattle.fd_entries.specs.declared.table.Entry.{Entry};
-ghost use Rattle.fd_entries.specs.Table.{AllFit, greatest_writer};
-ghost use Rattle.fd_turn.specs.declared.view.Lock.TheVariants.{Free};
-ghost use Rattle.fd_turn.specs.Views.{all_parts, donor, first_view, recipient, merger};
-ghost use Rattle.fd_turn.specs.Passes.{view, IsOf, IsSame};
-ghost use Rattle.fd_dataset.specs.Listed.{listing, listing_of, listings, entries_of};
+ghost use Rattle.fd_entries.specs.{declared.batch.Listing.{Listing}, declared.table.Entry.{Entry}, Table.{AllFit, greatest_writer}};
+ghost use Rattle.fd_turn.specs.{declared.view.Lock.TheVariants.{Free}, Views.{all_parts, donor, first_view, recipient, merger}, Passes.{view, IsOf, IsSame}};
+ghost use Rattle.fd_dataset.specs.{Listed.{listing, listing_of, listings, entries_of}, Causes.{AreFewer, DoubtsOne, FullAt, FullWith, IsListed, LeavesDoubts}};
 ghost use Rattle.fd_segment.specs.Shared.{AreAbout, AreOf, entries, entry_of};
-ghost use Rattle.fd_dataset.specs.Causes.{AreFewer, DoubtsOne, FullAt, FullWith, IsListed, LeavesDoubts};
 
 use crate::fault::{ListFault, Receipt};
 use crate::parts::{Desk, Segments, Shown};

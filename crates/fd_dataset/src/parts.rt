@@ -1,6 +1,5 @@
 //! What the board of a dataset keeps: the list that readers get, and the table under the lock.
-ghost use Rattle.std.specs.Prelude.{◌≡◌, ◌≤◌, length};
-ghost use Rattle.std.specs.Arc.{arc_value};
+ghost use Rattle.std.specs.{Prelude.{◌≡◌, ◌≤◌, length}, Arc.{arc_value}};
 ghost use Rattle.fd_dataset.specs.Listed.{doubted_entry};
 ghost use Rattle.fd_segment.specs.Shared.{AreOf, entries};
 

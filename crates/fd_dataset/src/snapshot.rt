@@ -16,10 +16,8 @@ pub struct Snapshot<F: Send, Z: Sealed<F>> {
 }
 
 impl<F: Send, Z: Sealed<F>> Model for Snapshot<F, Z> {
-    ghost use Rattle.std.specs.Prelude.{List};
-    ghost use Rattle.std.specs.Arc.{arc_value};
-    ghost use Rattle.fd_segment.specs.Held.{Standing};
-    ghost use Rattle.fd_segment.specs.Shared.{standings};
+    ghost use Rattle.std.specs.{Prelude.{List}, Arc.{arc_value}};
+    ghost use Rattle.fd_segment.specs.{Held.{Standing}, Shared.{standings}};
 
     ghost Value = { List Standing };
 

@@ -1,7 +1,5 @@
 ghost use Rattle.std.specs.Prelude.{◌≡◌, ◌⊎◌, true, false, None, Some, IfErr, OnOk, OnErr, option_map};
-ghost use Rattle.fd_disk.specs.Causes.{HasDownCause, OnNoMemory};
-ghost use Rattle.fd_disk.specs.Folders.{founded, with_table};
-ghost use Rattle.fd_disk.specs.Renewals.{GoesOn, IsLeftBetween, removed, unfounded};
+ghost use Rattle.fd_disk.specs.{Causes.{HasDownCause, OnNoMemory}, Folders.{founded, with_table}, Renewals.{GoesOn, IsLeftBetween, removed, unfounded}};
 
 use crate::{Down, FileName, Folder};
 use std::alloc::Global;

@@ -1,17 +1,6 @@
-ghost use Rattle.std.specs.Prelude.{◌≡◌, ◌≢◌, ◌⊎◌, ◌≤◌, ◌<◌, [], Bool, true, false, List, ℕ, Option, Some, None, length, IfOk, IfErr, OnOk, OnErr, IfSome, IsSome, MatchOption, is_some, option_map, string_bytes};
-ghost use Rattle.std.specs.Str.{bytes_eq};
-ghost use Rattle.std.specs.List.{list_any};
-ghost use Rattle.std.specs.List.Sorted.{IsStrictlySortedBy};
-ghost use Rattle.fd_disk.specs.declared.file.File.{File};
-ghost use Rattle.fd_disk.specs.declared.folders.FileName.{FileName};
-ghost use Rattle.fd_disk.specs.declared.folders.FileKind.TheVariants.{Fields, Index};
-ghost use Rattle.fd_disk.specs.Images.{firm_file};
+ghost use Rattle.std.specs.{Prelude.{◌≡◌, ◌≢◌, ◌⊎◌, ◌≤◌, ◌<◌, [], Bool, true, false, List, ℕ, Option, Some, None, length, IfOk, IfErr, OnOk, OnErr, IfSome, IsSome, MatchOption, is_some, option_map, string_bytes}, Str.{bytes_eq}, List.{list_any}, List.Sorted.{IsStrictlySortedBy}};
+ghost use Rattle.fd_disk.specs.{declared.file.File.{File}, declared.folders.FileName.{FileName}, declared.folders.FileKind.TheVariants.{Fields, Index}, Images.{firm_file}, Causes.{HasDownCause, OnNoMemory}, Names.{name_of}, Folders.{Contents, Holdings, IsFolderImage, Left, SameBut, TakesBack, WhereTold, folder_at, founded, keeping, no_files, planted, with_table, without_table}, Moments.{LeavesOnly, MayLeave}, Renewals.{IsLeftBeside, StandsStill}};
 ghost use Rattle.fd_bytes.specs.Causes.{Rose};
-ghost use Rattle.fd_disk.specs.Causes.{HasDownCause, OnNoMemory};
-ghost use Rattle.fd_disk.specs.Names.{name_of};
-ghost use Rattle.fd_disk.specs.Folders.{Contents, Holdings, IsFolderImage, Left, SameBut, TakesBack, WhereTold, folder_at, founded, keeping, no_files, planted, with_table, without_table};
-ghost use Rattle.fd_disk.specs.Moments.{LeavesOnly, MayLeave};
-ghost use Rattle.fd_disk.specs.Renewals.{IsLeftBeside, StandsStill};
 
 use crate::{Disk, Down, FileKind, FileName, Sealed};
 use fd_bytes::NoMemory;

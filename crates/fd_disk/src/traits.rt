@@ -1,11 +1,6 @@
 ghost use Rattle.std.specs.Prelude.{◌≡◌, ◌≤◌, ◌<◌, ◌+◌, ◌^◌, Bool, true, false, List, ℕ, Option, Some, length, max, IfOk, OnOk, OnErr, option_map};
-ghost use Rattle.fd_disk.specs.declared.file.File.{File};
-ghost use Rattle.fd_disk.specs.declared.folders.FileName.{FileName};
-ghost use Rattle.fd_disk.specs.Images.{IsImage, IsAfterFailedWrite, written, synced, firm_file};
-ghost use Rattle.fd_disk.specs.Moments.{Elapses, MayLeave};
+ghost use Rattle.fd_disk.specs.{declared.file.File.{File}, declared.folders.FileName.{FileName}, Images.{IsImage, IsAfterFailedWrite, written, synced, firm_file}, Moments.{Elapses, MayLeave}, Reading.{ReadsCount, ReadsBytes, raised}, Folders.{WhereTold}};
 ghost use Rattle.fd_bytes.specs.Causes.{HasCause};
-ghost use Rattle.fd_disk.specs.Reading.{ReadsCount, ReadsBytes, raised};
-ghost use Rattle.fd_disk.specs.Folders.{WhereTold};
 
 use fd_bytes::NoMemory;
 use std::alloc::Global;

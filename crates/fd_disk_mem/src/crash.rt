@@ -1,13 +1,8 @@
 // A crash while a dataset is out.
 ghost use Rattle.std.specs.Prelude.{◌≡◌, ◌<◌, [], Option, false, is_some, option_map, string_bytes, vec_len, IfOk, IfSome, Some};
-ghost use Rattle.fd_disk.specs.Folders.{Left, folder_at};
-ghost use Rattle.fd_disk.specs.Outstanding.{IsDatasetImage, IsStoreLeft, all_back, one_out};
-ghost use Rattle.fd_disk.specs.declared.file.File.{File};
+ghost use Rattle.fd_disk.specs.{Folders.{Left, folder_at}, Outstanding.{IsDatasetImage, IsStoreLeft, all_back, one_out}, declared.file.File.{File}};
 ghost use Rattle.fd_file_mem.specs.Calls.{file_of};
-ghost use Rattle.fd_disk_mem.specs.Crashes.{IsTableCrashed, folders_left};
-ghost use Rattle.fd_disk_mem.specs.Out.{AreApart, AreOf, parts_of, parts_with};
-ghost use Rattle.fd_disk_mem.specs.Planning.{PlansNothing, holdings};
-ghost use Rattle.fd_disk_mem.specs.Slots.{contents_of};
+ghost use Rattle.fd_disk_mem.specs.{Crashes.{IsTableCrashed, folders_left}, Out.{AreApart, AreOf, parts_of, parts_with}, Planning.{PlansNothing, holdings}, Slots.{contents_of}};
 
 use crate::{MemFolder, MemShelf, MemStore};
 use fd_bytes::NoMemory;

@@ -1,7 +1,6 @@
 // The names of files as a plan has them, read back.
 ghost use Rattle.std.specs.Prelude.{◌≡◌, ◌≢◌, ◌<◌, ◌^◌, List, ℕ, IfOk, MatchOption, decimal};
-ghost use Rattle.fd_disk.specs.declared.folders.FileKind.{FileKind};
-ghost use Rattle.fd_disk.specs.declared.folders.FileName.{FileName};
+ghost use Rattle.fd_disk.specs.{declared.folders.FileKind.{FileKind}, declared.folders.FileName.{FileName}};
 ghost use Rattle.fd_file_mem.specs.Plans.{ending, file_text, table_text};
 ghost use Rattle.fd_disk_mem.specs.Naming.{IsRead, end_text};
 

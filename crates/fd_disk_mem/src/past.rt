@@ -2,9 +2,7 @@
 ghost use Rattle.std.specs.Prelude.{◌≡◌, ◌⊎◌, ◌+◌, ◌-◌, ℕ, Option, Some, length, IfOk};
 ghost use Rattle.fd_disk.specs.Folders.{Left};
 ghost use Rattle.fd_file_mem.specs.Calls.{Memory};
-ghost use Rattle.fd_disk_mem.specs.declared.drawers.Drawers.{Drawers};
-ghost use Rattle.fd_disk_mem.specs.Pasts.{IsSince, LeftFrom, begins, calls_of, memory_of, moments};
-ghost use Rattle.fd_disk_mem.specs.Drawers.{below};
+ghost use Rattle.fd_disk_mem.specs.{declared.drawers.Drawers.{Drawers}, Pasts.{IsSince, LeftFrom, begins, calls_of, memory_of, moments}, Drawers.{below}};
 
 use fd_file_mem::MemDisk;
 use std::alloc::{AllocError, Global};

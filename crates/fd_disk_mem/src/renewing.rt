@@ -1,10 +1,7 @@
 // A dataset in memory whose table is renewed or taken away, and whose files are removed.
 ghost use Rattle.std.specs.Prelude.{◌≡◌, ◌≤◌, None, false, is_some, length, string_bytes, true, IfOk, OnOk};
-ghost use Rattle.fd_disk.specs.Causes.{HasDownCause};
-ghost use Rattle.fd_disk.specs.Names.{same_name};
-ghost use Rattle.fd_disk.specs.declared.folders.FileName.{FileName};
-ghost use Rattle.fd_disk_mem.specs.Drawers.{bytes_among, is_named};
-ghost use Rattle.fd_disk_mem.specs.Pasts.{memory_of};
+ghost use Rattle.fd_disk.specs.{Causes.{HasDownCause}, Names.{same_name}, declared.folders.FileName.{FileName}};
+ghost use Rattle.fd_disk_mem.specs.{Drawers.{bytes_among, is_named}, Pasts.{memory_of}};
 ghost use Rattle.fd_file_mem.specs.Calls.{begun, new_file};
 
 use crate::MemFolder;

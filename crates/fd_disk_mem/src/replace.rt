@@ -1,10 +1,8 @@
 // The replacing of a file, as damage does it.
 ghost use Rattle.std.specs.Prelude.{◌≡◌, ◌≤◌, List, ℕ, length, option_map, IfOk, OnOk, OnErr};
 ghost use Rattle.fd_disk.specs.Images.{firm_file};
-ghost use Rattle.fd_file_mem.specs.Calls.{file_of};
-ghost use Rattle.fd_disk_mem.specs.Planning.{fails_for, holdings};
-ghost use Rattle.fd_file_mem.specs.Plans.{table_text};
-ghost use Rattle.fd_disk_mem.specs.Replaced.{HasFile, HasSchema, HasTable, IsReplaced};
+ghost use Rattle.fd_file_mem.specs.{Calls.{file_of}, Plans.{table_text}};
+ghost use Rattle.fd_disk_mem.specs.{Planning.{fails_for, holdings}, Replaced.{HasFile, HasSchema, HasTable, IsReplaced}};
 
 use crate::MemStore;
 use crate::drawers::{Drawers, drawer_of, lay};

@@ -1,11 +1,8 @@
 // A store in memory.
 ghost use Rattle.std.specs.Prelude.{◌≡◌, ◌≢◌, ◌≤◌, ◌⊎◌, ◌++◌, List, ℕ, true, false, nat_le, length, is_ok, is_some, option_map, string_bytes, unwrap_or, IfOk, IfErr, IfSome, OnOk, OnErr, None, Some};
-ghost use Rattle.fd_disk.specs.Causes.{HasDownCause, OnNoMemory};
-ghost use Rattle.fd_disk.specs.Folders.{IsStoreImage, SameBut, WhereTold, folder_at, no_contents, planted};
-ghost use Rattle.fd_disk_mem.specs.Crashes.{IsCrashed, folders_left};
+ghost use Rattle.fd_disk.specs.{Causes.{HasDownCause, OnNoMemory}, Folders.{IsStoreImage, SameBut, WhereTold, folder_at, no_contents, planted}};
+ghost use Rattle.fd_disk_mem.specs.{Crashes.{IsCrashed, folders_left}, Planning.{PlansNothing, fails_for, holdings, none_told}, Slots.{contents_of, folder_in}};
 ghost use Rattle.fd_file_mem.specs.Plans.{FailsByPlan, IsAnew, after_call, fails_if, fails_of, is_due, is_fault, table_text};
-ghost use Rattle.fd_disk_mem.specs.Planning.{PlansNothing, fails_for, holdings, none_told};
-ghost use Rattle.fd_disk_mem.specs.Slots.{contents_of, folder_in};
 
 use crate::MemFolder;
 use crate::names::sorted_names;

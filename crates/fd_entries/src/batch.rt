@@ -1,5 +1,4 @@
-ghost use Rattle.fd_entries.specs.declared.batch.Pair.{Pair};
-ghost use Rattle.fd_entries.specs.Batches.{is_empty};
+ghost use Rattle.fd_entries.specs.{declared.batch.Pair.{Pair}, Batches.{is_empty}};
 ghost use Rattle.std.specs.Prelude.{◌≡◌, ◌<◌, Some, length, slice_get, [], ◌∷◌, ◌++◌, List, IfOk, OnOk, OnErr};
 
 use crate::Entry;

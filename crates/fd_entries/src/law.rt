@@ -1,5 +1,4 @@
-ghost use Rattle.fd_entries.specs.Examples.{TableExamples};
-ghost use Rattle.fd_entries.specs.Table.{ListsItsEntries, NamesFirstFault, NamesFirstOctet};
+ghost use Rattle.fd_entries.specs.{Examples.{TableExamples}, Table.{ListsItsEntries, NamesFirstFault, NamesFirstOctet}};
 
 /// What holds of every table: bytes list entries exactly where they are a table of these entries, and else the
 /// octet that is named is the first against the format. And worked tables, with what they list or that octet.

@@ -1,6 +1,5 @@
 ghost use Rattle.std.specs.Prelude.{◌≡◌, ◌≤◌, ◌+◌, length, drop, [], IfOk};
-ghost use Rattle.fd_entries.specs.Table.{entry_in, gate_at, listed};
-ghost use Rattle.fd_entries.specs.Numbers.{ListsSome, entries_or_none};
+ghost use Rattle.fd_entries.specs.{Table.{entry_in, gate_at, listed}, Numbers.{ListsSome, entries_or_none}};
 
 use crate::Entry;
 use crate::segments::behind;

@@ -1,7 +1,5 @@
-ghost use Rattle.std.specs.Prelude.{[], if◌then◌else◌, max, ◌≡◌, ◌+◌, ◌≤◌, length, take, drop};
-ghost use Rattle.std.specs.Int.{w32, from_be_bytes};
-ghost use Rattle.fd_entries.specs.Table.{listed};
-ghost use Rattle.fd_entries.specs.Numbers.{ListsSome, greatest_seq, entries_or_none};
+ghost use Rattle.std.specs.{Prelude.{[], if◌then◌else◌, max, ◌≡◌, ◌+◌, ◌≤◌, length, take, drop}, Int.{w32, from_be_bytes}};
+ghost use Rattle.fd_entries.specs.{Table.{listed}, Numbers.{ListsSome, greatest_seq, entries_or_none}};
 
 use fd_bytes::Bytes;
 

@@ -1,5 +1,4 @@
-ghost use Rattle.std.specs.Prelude.{◌≡◌, ◌≤◌, ◌+◌, length, take, drop, Some, None, MatchOption, IfOk};
-ghost use Rattle.std.specs.Int.{w16, w64, from_be_bytes};
+ghost use Rattle.std.specs.{Prelude.{◌≡◌, ◌≤◌, ◌+◌, length, take, drop, Some, None, MatchOption, IfOk}, Int.{w16, w64, from_be_bytes}};
 ghost use Rattle.fd_entries.specs.Batches.{HoldBatch, of_files, pairs_in};
 
 use crate::table::number_8;

@@ -1,5 +1,4 @@
-ghost use Rattle.std.specs.Prelude.{◌≡◌, ◌≤◌, ◌<◌, ◌^◌, ◌++◌, [], ◌∷◌, Some, None, if◌then◌else◌, length, take, drop};
-ghost use Rattle.std.specs.Int.{w32, w64, from_be_bytes};
+ghost use Rattle.std.specs.{Prelude.{◌≡◌, ◌≤◌, ◌<◌, ◌^◌, ◌++◌, [], ◌∷◌, Some, None, if◌then◌else◌, length, take, drop}, Int.{w32, w64, from_be_bytes}};
 ghost use Rattle.fd_entries.specs.Table.{body_of, digest_octets, entry_in, gate_at, has_digest, kind_of};
 
 /// The byte of an open gate.

@@ -1,8 +1,7 @@
 // Lists in room that was reserved for them.
 ghost use Rattle.std.specs.Prelude.{◌≡◌, ◌+◌, ◌-◌, ◌^◌, ◌<◌, ◌≤◌, [], ◌∷◌, ◌++◌, ◌||◌, nat_le, length, take, drop, replicate, IfOk};
 ghost use Rattle.fd_disk.specs.Images.{overwritten, is_in};
-ghost use Rattle.fd_file_mem.specs.Left.{AreBytesLeft};
-ghost use Rattle.fd_file_mem.specs.Buffers.{Buffered};
+ghost use Rattle.fd_file_mem.specs.{Left.{AreBytesLeft}, Buffers.{Buffered}};
 
 use crate::left::leave;
 use fd_disk::Range;

@@ -1,15 +1,8 @@
 // A file in memory that is written.
 ghost use Rattle.std.specs.Prelude.{◌≡◌, ◌≤◌, ◌<◌, ◌+◌, ◌^◌, true, false, Some, length, max, not, is_ok, is_err, OnOk, OnErr, IfOk, option_map};
 ghost use Rattle.fd_bytes.specs.Causes.{Rose, HasCause};
-ghost use Rattle.fd_disk.specs.Images.{IsAfterFailedWrite, loosened, written};
-ghost use Rattle.fd_disk.specs.Moments.{Elapses};
-ghost use Rattle.fd_disk.specs.Folders.{WhereTold};
-ghost use Rattle.fd_disk.specs.Images.{synced};
-ghost use Rattle.fd_disk.specs.Reading.{ReadsBytes};
-ghost use Rattle.fd_file_mem.specs.Calls.{begun, file_of, fits, has_room, new_file, synced_by, extent_by};
-ghost use Rattle.fd_file_mem.specs.Past.{LeftSince};
-ghost use Rattle.fd_file_mem.specs.Left.{IsLeft};
-ghost use Rattle.fd_file_mem.specs.Plans.{FailsByPlan, after_call, is_due};
+ghost use Rattle.fd_disk.specs.{Images.{IsAfterFailedWrite, loosened, written}, Moments.{Elapses}, Folders.{WhereTold}, Images.{synced}, Reading.{ReadsBytes}};
+ghost use Rattle.fd_file_mem.specs.{Calls.{begun, file_of, fits, has_room, new_file, synced_by, extent_by}, Past.{LeftSince}, Left.{IsLeft}, Plans.{FailsByPlan, after_call, is_due}};
 
 use crate::plan::{Op, Plan};
 use crate::recorded::{Recorded, Room};
@@ -128,8 +121,7 @@ impl MemDisk {
 }
 
 impl Disk<MemFault> for MemDisk {
-    ghost use Rattle.fd_file_mem.specs.Calls.{file_of, synced_by, extent_by};
-    ghost use Rattle.fd_file_mem.specs.Past.{LeftSince, now_counts, only_now, reads_told, firm_told};
+    ghost use Rattle.fd_file_mem.specs.{Calls.{file_of, synced_by, extent_by}, Past.{LeftSince, now_counts, only_now, reads_told, firm_told}};
     ghost use Rattle.std.specs.Prelude.{Some, length, false};
 
     type Sealed = MemSealed;

@@ -1,8 +1,7 @@
 // A file in memory with the record of its calls, in room that was reserved for both.
 ghost use Rattle.std.specs.Prelude.{◌≡◌, ◌+◌, ◌*◌, ◌-◌, ◌^◌, ◌<◌, ◌≤◌, [], true, length, min, IfOk};
 ghost use Rattle.fd_disk.specs.Images.{IsImage};
-ghost use Rattle.fd_file_mem.specs.Calls.{Memory, Wrote, Failed, Synced, begun, file_of, fits, has_room, with_call};
-ghost use Rattle.fd_file_mem.specs.Left.{IsLeft};
+ghost use Rattle.fd_file_mem.specs.{Calls.{Memory, Wrote, Failed, Synced, begun, file_of, fits, has_room, with_call}, Left.{IsLeft}};
 
 use crate::buffer::Buffer;
 use fd_disk::Range;
@@ -38,8 +37,7 @@ pub(crate) struct Recorded {
 }
 
 impl Model for Recorded {
-    ghost use Rattle.fd_file_mem.specs.Calls.{Memory, with_bytes};
-    ghost use Rattle.fd_file_mem.specs.Kept.{IsKept};
+    ghost use Rattle.fd_file_mem.specs.{Calls.{Memory, with_bytes}, Kept.{IsKept}};
 
     ghost Value = { Memory };
 

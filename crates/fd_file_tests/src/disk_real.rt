@@ -1,7 +1,6 @@
 //! A dataset on the real disk, in the folder where the test runs.
 ghost use Rattle.std.specs.Prelude.{◌≡◌, ◌≤◌, ◌<◌, ◌+◌, ◌^◌, length, true, false, None, IfSome, IsTrue};
-ghost use Rattle.fd_disk.specs.declared.folders.FileKind.TheVariants.{Fields};
-ghost use Rattle.fd_disk.specs.Names.{name_of};
+ghost use Rattle.fd_disk.specs.{declared.folders.FileKind.TheVariants.{Fields}, Names.{name_of}};
 
 use fd_disk::{Disk, FileKind, FileName, Folder, Reader, Renew, Sealed, Shelf, Store};
 use fd_disk_real::*;

@@ -1,10 +1,7 @@
 //! One batch written and read, each of its calls failing in turn, damaged files, and what threads may do with its parts.
 ghost use Rattle.std.specs.Prelude.{◌≡◌, ◌⊎◌, ◌≤◌, ◌<◌, ◌+◌, ◌^◌, length, true, false, IfSome};
-ghost use Rattle.fd_disk.specs.declared.folders.FileName.{FileName};
-ghost use Rattle.fd_disk.specs.declared.folders.FileKind.TheVariants.{Fields, Index};
-ghost use Rattle.fd_segment.specs.Filling.{IsOf};
-ghost use Rattle.fd_disk.specs.Names.{name_of};
-ghost use Rattle.fd_segment.specs.Held.{behind};
+ghost use Rattle.fd_disk.specs.{declared.folders.FileName.{FileName}, declared.folders.FileKind.TheVariants.{Fields, Index}, Names.{name_of}};
+ghost use Rattle.fd_segment.specs.{Filling.{IsOf}, Held.{behind}};
 
 use fd_disk::{Disk, FileKind, FileName, Folder, Reader, Sealed, Shelf, Store};
 use fd_disk_mem::{MemFault, MemFolder, MemShelf, MemStore, Op};

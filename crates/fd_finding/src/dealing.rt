@@ -1,7 +1,6 @@
 //! Which worker looks for which keys.
 ghost use Rattle.std.specs.Prelude.{◌≡◌, ◌≤◌, All, map, length, IfOk};
-ghost use Rattle.fd_finding.specs.Spots.{place_key};
-ghost use Rattle.fd_finding.specs.Searching.{IsFresh, all_keys, key_of};
+ghost use Rattle.fd_finding.specs.{Spots.{place_key}, Searching.{IsFresh, all_keys, key_of}};
 
 use crate::spot::{Job, Sought};
 use fd_bytes::{Bytes, NoMemory};

@@ -1,13 +1,10 @@
 //! The workers, each in a thread of its own, and what they found.
-ghost use Rattle.std.specs.Prelude.{◌≡◌, ◌≤◌, ◌<◌, ◌+◌, ◌++◌, [], All, List, ℕ, map, length, Contains, IsOk, Err, IfOk, IfErr, IfSome, MatchOption, slice_index_or};
-ghost use Rattle.std.specs.List.{AllZip};
-ghost use Rattle.std.specs.Vec.{vec_capacity};
+ghost use Rattle.std.specs.{Prelude.{◌≡◌, ◌≤◌, ◌<◌, ◌+◌, ◌++◌, [], All, List, ℕ, map, length, Contains, IsOk, Err, IfOk, IfErr, IfSome, MatchOption, slice_index_or}, List.{AllZip}, Vec.{vec_capacity}};
 ghost use Rattle.fd_entries.specs.declared.batch.Pair.{Pair};
 ghost use Rattle.fd_segment.specs.Causes.{OnDamaged};
 ghost use Rattle.fd_dataset.specs.Listed.{listing};
 ghost use Rattle.fd_retriever.specs.Answers.{SomeUntold, Tells};
-ghost use Rattle.fd_finding.specs.Spots.{AllSayOf, AreTheOnly, IsAnswer, IsWithin, StandsForSome, place_key};
-ghost use Rattle.fd_finding.specs.Searching.{IsFresh, Ran, all_spots, spot_of};
+ghost use Rattle.fd_finding.specs.{Spots.{AllSayOf, AreTheOnly, IsAnswer, IsWithin, StandsForSome, place_key}, Searching.{IsFresh, Ran, all_spots, spot_of}};
 
 use crate::dealing::deal;
 use crate::searching::search;

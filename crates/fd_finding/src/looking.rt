@@ -1,9 +1,7 @@
 //! The look-ups in one segment.
 ghost use Rattle.std.specs.Prelude.{◌≡◌, None, map, IfErr, IfOk, IfSome, OnOk};
-ghost use Rattle.fd_segment.specs.Held.{batch_of};
-ghost use Rattle.fd_segment.specs.Causes.{AreAllOf, IsFindDamage, OnDamaged};
-ghost use Rattle.fd_finding.specs.Spots.{StandsForOne};
-ghost use Rattle.fd_finding.specs.Searching.{AllLooked, Looked, key_of};
+ghost use Rattle.fd_segment.specs.{Held.{batch_of}, Causes.{AreAllOf, IsFindDamage, OnDamaged}};
+ghost use Rattle.fd_finding.specs.{Spots.{StandsForOne}, Searching.{AllLooked, Looked, key_of}};
 
 use crate::spot::{Sought, Spot};
 use fd_disk::{Reader, Sealed};

@@ -3,8 +3,7 @@ ghost use Rattle.std.specs.Prelude.{◌≡◌, false, All, IsSome, None, length,
 ghost use Rattle.fd_segment.specs.Causes.{OnDamaged};
 ghost use Rattle.fd_dataset.specs.Listed.{listing};
 ghost use Rattle.fd_retriever.specs.Answers.{SomeUntold};
-ghost use Rattle.fd_finding.specs.Spots.{StandsForSome};
-ghost use Rattle.fd_finding.specs.Searching.{IsSearched, key_of};
+ghost use Rattle.fd_finding.specs.{Spots.{StandsForSome}, Searching.{IsSearched, key_of}};
 
 use crate::looking::find_in;
 use crate::spot::Sought;

@@ -1,8 +1,5 @@
 ghost use Rattle.std.specs.Prelude.{◌≡◌, ◌≤◌, ◌<◌, [], length, is_some, IfOk, OnOk, OnErr};
-ghost use Rattle.fd_index.specs.Records.{Rising, StandsFor, place_of};
-ghost use Rattle.fd_index.specs.Builder.{has_room, room_for, HoldsPut};
-ghost use Rattle.fd_index.specs.Pages.{IsIndex};
-ghost use Rattle.fd_index.specs.Position.{HasKeyAt, IsPosition};
+ghost use Rattle.fd_index.specs.{Records.{Rising, StandsFor, place_of}, Builder.{has_room, room_for, HoldsPut}, Pages.{IsIndex}, Position.{HasKeyAt, IsPosition}};
 
 use crate::fault::Full;
 use crate::pages::file_of;

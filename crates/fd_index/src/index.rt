@@ -1,9 +1,5 @@
 ghost use Rattle.std.specs.Prelude.{◌≡◌, ◌<◌, ◌≤◌, List, length, slice_get, Some, IfOk};
-ghost use Rattle.fd_index.specs.Records.{Record, Rising, place_of};
-ghost use Rattle.fd_index.specs.Pages.{IsIndex};
-ghost use Rattle.fd_index.specs.Reading.{index_at, page_by_itself};
-ghost use Rattle.fd_index.specs.First.{RefusesAtFirstPlace};
-ghost use Rattle.fd_index.specs.Index.{ReadsAs, RefusesNoIndex};
+ghost use Rattle.fd_index.specs.{Records.{Record, Rising, place_of}, Pages.{IsIndex}, Reading.{index_at, page_by_itself}, First.{RefusesAtFirstPlace}, Index.{ReadsAs, RefusesNoIndex}};
 
 use crate::fault::IndexFault;
 use crate::reader::{push_page, read_records};

@@ -1,7 +1,4 @@
-ghost use Rattle.fd_index.specs.First.{NamesFirstPlace};
-ghost use Rattle.fd_index.specs.Index.{ReadsItsRecords};
-ghost use Rattle.fd_index.specs.Pages.{StandOnTheirPages};
-ghost use Rattle.fd_index.specs.Records.{OneForItsPuts};
+ghost use Rattle.fd_index.specs.{First.{NamesFirstPlace}, Index.{ReadsItsRecords}, Pages.{StandOnTheirPages}, Records.{OneForItsPuts}};
 
 /// What holds of every index file: bytes are read as records exactly where they are the index file of these, and a
 /// place is named exactly where it is the first against the format; records stand on the pages on which the format has

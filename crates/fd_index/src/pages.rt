@@ -1,7 +1,5 @@
 ghost use Rattle.std.specs.Prelude.{◌≡◌, ◌+◌, ◌<◌, ◌≤◌, ◌^◌, ◌++◌, length, replicate, IfOk, OnOk};
-ghost use Rattle.fd_index.specs.Records.{AllFit};
-ghost use Rattle.fd_index.specs.Pages.{closed, index_of, pages_bytes, pages_of, record_bytes};
-ghost use Rattle.fd_index.specs.Slots.{AreWithin, records_of};
+ghost use Rattle.fd_index.specs.{Records.{AllFit}, Pages.{closed, index_of, pages_bytes, pages_of, record_bytes}, Slots.{AreWithin, records_of}};
 
 use crate::slots::Slot;
 use fd_bytes::NoMemory;

@@ -1,8 +1,5 @@
 ghost use Rattle.std.specs.Prelude.{◌≡◌, ◌==◌, ◌&&◌, nat_lt, ◌+◌, ◌*◌, ◌≤◌, ◌^◌, length, IfOk};
-ghost use Rattle.fd_index.specs.StoredRecords.{records_of};
-ghost use Rattle.fd_index.specs.Reading.{counts_of, index_at, is_above, key_len_at, number_2, number_4, number_8, page_at, pages_at, record_at, records_at, record_of, zeros_at};
-ghost use Rattle.fd_index.specs.Index.{Gives, PutsAll, PutsInto, PutsPage};
-ghost use Rattle.fd_index.specs.StoredRecords.{record_of as kept};
+ghost use Rattle.fd_index.specs.{StoredRecords.{records_of}, Reading.{counts_of, index_at, is_above, key_len_at, number_2, number_4, number_8, page_at, pages_at, record_at, records_at, record_of, zeros_at}, Index.{Gives, PutsAll, PutsInto, PutsPage}, StoredRecords.{record_of as kept}};
 
 use crate::fault::IndexFault;
 use crate::stored::Stored;

@@ -1,6 +1,5 @@
 ghost use Rattle.std.specs.Prelude.{◌≡◌, true, None};
-ghost use Rattle.fd_index.specs.Records.{Rising, place_of};
-ghost use Rattle.fd_index.specs.StoredRecords.{records_of};
+ghost use Rattle.fd_index.specs.{Records.{Rising, place_of}, StoredRecords.{records_of}};
 
 use std::cmp::Ordering;
 

@@ -1,16 +1,10 @@
 // The lines of `axes`: for each index text the names of its datum texts, and for each name its values.
-ghost use Rattle.std.specs.Prelude.{◌≡◌, ◌≤◌, [], List, Some, IfErr, IfOk, OnErr, OnOk, length, map};
-ghost use Rattle.std.specs.List.Sorted.{IsStrictlySortedBy};
-ghost use Rattle.std.specs.Map.{keys_of, lookup, remove_entry};
+ghost use Rattle.std.specs.{Prelude.{◌≡◌, ◌≤◌, [], List, Some, IfErr, IfOk, OnErr, OnOk, length, map}, List.Sorted.{IsStrictlySortedBy}, Map.{keys_of, lookup, remove_entry}};
 ghost use Rattle.fd_entries.specs.declared.batch.Pair.{Pair};
 ghost use Rattle.fd_key.specs.Pairs as keys;
 ghost use Rattle.fd_dataset.specs.Listed.{listing};
 ghost use Rattle.fd_io.specs.Streams.{Takes, TakesFront};
-ghost use Rattle.fd_inventory.specs.Axes.{AddsIndex, AreAxes, HaveData, at_text, entries_or_none, put_pair, put_pairs, seen_axes, seen_names, seen_values, text_order};
-ghost use Rattle.fd_inventory.specs.Indexes.{IsAmongBad, OnLines, Tells};
-ghost use Rattle.fd_inventory.specs.Recorded.{TakesBy};
-ghost use Rattle.fd_inventory.specs.Shown.{AreRows};
-ghost use Rattle.fd_inventory.specs.Written.{HasLinesCause};
+ghost use Rattle.fd_inventory.specs.{Axes.{AddsIndex, AreAxes, HaveData, at_text, entries_or_none, put_pair, put_pairs, seen_axes, seen_names, seen_values, text_order}, Indexes.{IsAmongBad, OnLines, Tells}, Recorded.{TakesBy}, Shown.{AreRows}, Written.{HasLinesCause}};
 ghost use Rattle.fd_outcome.specs.Rows.{Row, axes_text, order, put, with_text};
 
 use crate::axis_lines::write_axes;

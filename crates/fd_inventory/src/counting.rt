@@ -1,15 +1,10 @@
 // The line of `stats`.
-ghost use Rattle.std.specs.Prelude.{◌≡◌, ◌≤◌, ◌+◌, ◌*◌, ◌++◌, List, IfErr, IfOk, OnErr, OnOk, length, map, string_bytes, ℕ};
-ghost use Rattle.std.specs.Fmt.{decimal};
+ghost use Rattle.std.specs.{Prelude.{◌≡◌, ◌≤◌, ◌+◌, ◌*◌, ◌++◌, List, IfErr, IfOk, OnErr, OnOk, length, map, string_bytes, ℕ}, Fmt.{decimal}};
 ghost use Rattle.fd_entries.specs.declared.batch.Pair.{Pair};
 ghost use Rattle.fd_dataset.specs.Listed.{listing};
 ghost use Rattle.fd_io.specs.Streams.{Takes, TakesFront};
 ghost use Rattle.fd_segment.specs.Causes.{OnDamaged};
-ghost use Rattle.fd_inventory.specs.Counted.{AreKeys, stats_line};
-ghost use Rattle.fd_inventory.specs.Indexes.{IsAmongBad, OnLines, Tells};
-ghost use Rattle.fd_inventory.specs.Recorded.{ByRecords, TakesBy};
-ghost use Rattle.fd_inventory.specs.Shown.{AreLengths};
-ghost use Rattle.fd_inventory.specs.Written.{HasLinesCause};
+ghost use Rattle.fd_inventory.specs.{Counted.{AreKeys, stats_line}, Indexes.{IsAmongBad, OnLines, Tells}, Recorded.{ByRecords, TakesBy}, Shown.{AreLengths}, Written.{HasLinesCause}};
 ghost use Rattle.fd_outcome.specs.Rows.{keys_in, put_keys, stats_text, sum_bytes, sum_fields};
 
 use crate::fault::{LinesFault, lines_fault};

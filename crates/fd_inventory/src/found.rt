@@ -1,14 +1,9 @@
 // The keys that a partial request asks for, each once.
-ghost use Rattle.std.specs.Prelude.{◌≡◌, ◌≢◌, ◌≤◌, [], List, IfOk, IfErr, length, string_bytes};
-ghost use Rattle.std.specs.List.{All, AllPairs};
+ghost use Rattle.std.specs.{Prelude.{◌≡◌, ◌≢◌, ◌≤◌, [], List, IfOk, IfErr, length, string_bytes}, List.{All, AllPairs}};
 ghost use Rattle.fd_key.specs.Pairs.{key_text};
 ghost use Rattle.fd_segment.specs.Causes.{OnDamaged};
-ghost use Rattle.fd_inventory.specs.Found.{AreFound, HasKey, HaveKeys, IsNamed, Keeps, keep, keep_rows};
-ghost use Rattle.fd_inventory.specs.Indexes.{IsAmongBad};
-ghost use Rattle.fd_inventory.specs.Recorded.{ByRecords};
-ghost use Rattle.fd_inventory.specs.Shown.{AreRows};
-ghost use Rattle.fd_outcome.specs.Matching.{Keys, with_dataset, with_key};
-ghost use Rattle.fd_outcome.specs.Rows.{Row};
+ghost use Rattle.fd_inventory.specs.{Found.{AreFound, HasKey, HaveKeys, IsNamed, Keeps, keep, keep_rows}, Indexes.{IsAmongBad}, Recorded.{ByRecords}, Shown.{AreRows}};
+ghost use Rattle.fd_outcome.specs.{Matching.{Keys, with_dataset, with_key}, Rows.{Row}};
 
 use crate::rows::{Rows, rows_of};
 use crate::stored_key::stored_at;

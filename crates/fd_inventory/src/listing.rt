@@ -4,10 +4,7 @@ ghost use Rattle.fd_entries.specs.declared.batch.Pair.{Pair};
 ghost use Rattle.fd_dataset.specs.Listed.{listing};
 ghost use Rattle.fd_io.specs.Streams.{Takes, TakesFront};
 ghost use Rattle.fd_listing.specs.Sinks.{HasSinkCause};
-ghost use Rattle.fd_inventory.specs.Indexes.{IsAmongBad, OnLines, Tells};
-ghost use Rattle.fd_inventory.specs.Recorded.{TakesBy};
-ghost use Rattle.fd_inventory.specs.Shown.{kept};
-ghost use Rattle.fd_inventory.specs.Written.{HasLinesCause, shown_line, shown_lines};
+ghost use Rattle.fd_inventory.specs.{Indexes.{IsAmongBad, OnLines, Tells}, Recorded.{TakesBy}, Shown.{kept}, Written.{HasLinesCause, shown_line, shown_lines}};
 ghost use Rattle.fd_outcome.specs.Rows.{list_text};
 
 use crate::fault::{LinesFault, lines_fault};

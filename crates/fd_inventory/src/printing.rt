@@ -1,8 +1,7 @@
 // Texts as lines.
 ghost use Rattle.std.specs.Prelude.{◌≡◌, ◌++◌, OnErr, OnOk, string_bytes};
 ghost use Rattle.fd_io.specs.Streams.{Takes, TakesFront};
-ghost use Rattle.fd_listing.specs.Lines.{line};
-ghost use Rattle.fd_listing.specs.Sinks.{HasSinkCause};
+ghost use Rattle.fd_listing.specs.{Lines.{line}, Sinks.{HasSinkCause}};
 ghost use Rattle.fd_schema.specs.Seen as schemas;
 ghost use Rattle.fd_inventory.specs.Written.{text_lines};
 

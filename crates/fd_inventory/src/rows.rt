@@ -1,11 +1,8 @@
 // The rows of a dataset: for each of its keys that are asked for, where its newest field stands.
 ghost use Rattle.std.specs.Prelude.{◌≡◌, ◌≤◌, ◌+◌, ◌++◌, ◌∷◌, true, List, Some, IfOk, IfErr, OnOk, length};
 ghost use Rattle.fd_entries.specs.declared.batch.Pair.{Pair};
-ghost use Rattle.fd_segment.specs.Causes.{IsBadIndex, OnDamaged};
-ghost use Rattle.fd_segment.specs.Held.{IsIndexOf};
-ghost use Rattle.fd_inventory.specs.Shown.{AddsRow, AreLengths, AreRows, IsNewestUnless};
-ghost use Rattle.fd_inventory.specs.Indexes.{IsAmongBad};
-ghost use Rattle.fd_inventory.specs.Recorded.{ByRecords};
+ghost use Rattle.fd_segment.specs.{Causes.{IsBadIndex, OnDamaged}, Held.{IsIndexOf}};
+ghost use Rattle.fd_inventory.specs.{Shown.{AddsRow, AreLengths, AreRows, IsNewestUnless}, Indexes.{IsAmongBad}, Recorded.{ByRecords}};
 ghost use Rattle.fd_outcome.specs.Rows.{Row, Stored, matches, put_matching, rows, rows_from, stored};
 
 use crate::stored_key::{StoredKey, stored_key};

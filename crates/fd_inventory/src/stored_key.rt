@@ -1,7 +1,6 @@
 // The keys that stand in the files of a dataset.
 ghost use Rattle.std.specs.Prelude.{◌≡◌, ◌<◌, ◌≤◌, ◌+◌, ◌-◌, ◌^◌, Some, None, IfOk, IfSome, IsTrue, MatchOption, length, option_map, if◌then◌else◌};
-ghost use Rattle.fd_spelling.specs.Names.{is_name, is_value};
-ghost use Rattle.fd_spelling.specs.Numerals.{cut};
+ghost use Rattle.fd_spelling.specs.{Names.{is_name, is_value}, Numerals.{cut}};
 ghost use Rattle.fd_outcome.specs.Rows.{if_pair, stored, stored_at, with_piece, with_text};
 ghost use Rattle.fd_inventory.specs.Keys.{IsStored};
 

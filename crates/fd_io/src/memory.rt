@@ -83,8 +83,7 @@ impl MemSource {
 }
 
 impl Source<MemIoFault> for MemSource {
-    ghost use Rattle.fd_io.specs.Memory.{source_left, source_faults, source_calls, source_piece, source_plan};
-    ghost use Rattle.fd_io.specs.Plan.{fails_next, raised};
+    ghost use Rattle.fd_io.specs.{Memory.{source_left, source_faults, source_calls, source_piece, source_plan}, Plan.{fails_next, raised}};
 
     ghost left = { λ s. Some (source_left s) };
 
@@ -161,8 +160,7 @@ impl MemSink {
 }
 
 impl Sink<MemIoFault> for MemSink {
-    ghost use Rattle.fd_io.specs.Memory.{sink_taken, sink_faults, sink_room, sink_calls, sink_plan};
-    ghost use Rattle.fd_io.specs.Plan.{fails_next, raised};
+    ghost use Rattle.fd_io.specs.{Memory.{sink_taken, sink_faults, sink_room, sink_calls, sink_plan}, Plan.{fails_next, raised}};
 
     ghost taken = { λ s. Some (sink_taken s) };
 

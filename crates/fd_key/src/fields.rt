@@ -1,9 +1,7 @@
 // The texts of the surfaces of a field and of its time ranges.
 ghost use Rattle.std.specs.Prelude.{◌≡◌, ◌≤◌, ◌+◌, ◌*◌, IfOk, IfSome, length, option_map, string_bytes};
-ghost use Rattle.fd_templates.specs.Octets.{FitsOrMissing};
-ghost use Rattle.fd_templates.specs.Product.{Fits};
-ghost use Rattle.fd_key.specs.Values.{level_of, both_of};
-ghost use Rattle.fd_key.specs.Fields.{surface_text, levels_of, range_text, ranges_text};
+ghost use Rattle.fd_templates.specs.{Octets.{FitsOrMissing}, Product.{Fits}};
+ghost use Rattle.fd_key.specs.{Values.{level_of, both_of}, Fields.{surface_text, levels_of, range_text, ranges_text}};
 
 use crate::value::{Levels, Scaled};
 use fd_bytes::NoMemory;

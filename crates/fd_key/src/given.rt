@@ -1,7 +1,6 @@
 ghost use Rattle.std.specs.Prelude.{◌≡◌, ◌<◌, ◌≤◌, ◌-◌, ◌^◌, length, [], true, Some, Ok, IfOk, IfSome, IfErr, OnOk, option_map, slice_get, string_bytes};
 ghost use Rattle.fd_spelling.specs.Names.{is_name, is_value};
-ghost use Rattle.fd_key.specs.Given.{IsGiven, given_of, pairs_from, with_piece, is_reserved, plain_pair, new_pair, pieces_of};
-ghost use Rattle.fd_key.specs.Reading.{GivesGiven, GivesNew, Refuses};
+ghost use Rattle.fd_key.specs.{Given.{IsGiven, given_of, pairs_from, with_piece, is_reserved, plain_pair, new_pair, pieces_of}, Reading.{GivesGiven, GivesNew, Refuses}};
 
 use crate::fault::GivenFault;
 use crate::key::Key;
@@ -19,8 +18,7 @@ pub struct Given {
 
 impl Model for Given {
     ghost use Rattle.std.specs.Prelude.{List};
-    ghost use Rattle.fd_key.specs.Pairs.{Pair};
-    ghost use Rattle.fd_key.specs.Given.{IsGiven};
+    ghost use Rattle.fd_key.specs.{Pairs.{Pair}, Given.{IsGiven}};
 
     ghost Value = { List Pair };
 

@@ -1,9 +1,6 @@
-ghost use Rattle.std.specs.Prelude.{◌≡◌, ◌<◌, ◌≤◌, ◌+◌, ◌-◌, ◌^◌, ◌++◌, ◌∷◌, [], length, true, IsTrue, IfOk, OnOk, OnErr, Some, None, slice_get, string_bytes};
-ghost use Rattle.std.specs.Option.{option_copied};
+ghost use Rattle.std.specs.{Prelude.{◌≡◌, ◌<◌, ◌≤◌, ◌+◌, ◌-◌, ◌^◌, ◌++◌, ◌∷◌, [], length, true, IsTrue, IfOk, OnOk, OnErr, Some, None, slice_get, string_bytes}, Option.{option_copied}};
 ghost use Rattle.fd_spelling.specs.Names.{is_name, is_value};
-ghost use Rattle.fd_key.specs.Pairs.{with_pair, text_of, key_text, pair_text};
-ghost use Rattle.fd_key.specs.Given.{are_reserved};
-ghost use Rattle.fd_key.specs.Values.{value_text};
+ghost use Rattle.fd_key.specs.{Pairs.{with_pair, text_of, key_text, pair_text}, Given.{are_reserved}, Values.{value_text}};
 
 use crate::given::Given;
 use crate::span::{Entry, Span, in_place, pair_in, put_span, span_of, value_at};
@@ -27,8 +24,7 @@ pub struct Key {
 
 impl Model for Key {
     ghost use Rattle.std.specs.Prelude.{List, string_bytes};
-    ghost use Rattle.fd_key.specs.Pairs.{Pair};
-    ghost use Rattle.fd_key.specs.Spans.{AreKept, pairs_at};
+    ghost use Rattle.fd_key.specs.{Pairs.{Pair}, Spans.{AreKept, pairs_at}};
 
     ghost Value = { List Pair };
 

@@ -1,13 +1,8 @@
 // The key of a message: what its sections say, and then the given pairs.
-ghost use Rattle.std.specs.Prelude.{◌≡◌, ◌≤◌, ◌<◌, ◌+◌, ◌-◌, ◌^◌, ◌++◌, length, true, codes, IfOk, OnOk, string_bytes};
+ghost use Rattle.std.specs.{Prelude.{◌≡◌, ◌≤◌, ◌<◌, ◌+◌, ◌-◌, ◌^◌, ◌++◌, length, true, codes, IfOk, OnOk, string_bytes}, Fmt.{decimal}};
 ghost use Rattle.fd_templates.specs.Product.{Fits};
-ghost use Rattle.std.specs.Fmt.{decimal};
 ghost use Rattle.fd_sections.specs.Parts.{sections_of};
-ghost use Rattle.fd_key.specs.Pairs.{with_pair, with_pair_if, key_text};
-ghost use Rattle.fd_key.specs.Given.{are_reserved};
-ghost use Rattle.fd_key.specs.Fields.{levels_of};
-ghost use Rattle.fd_key.specs.Values.{value_text};
-ghost use Rattle.fd_key.specs.Keys.{key_of, GivesKey, message_pairs, discipline_of, dated_pairs, has_date, date_of, time_of, param_in, levtype_of, step_of, number_of, stat_of, origin_pairs, field_pairs, pairs_in};
+ghost use Rattle.fd_key.specs.{Pairs.{with_pair, with_pair_if, key_text}, Given.{are_reserved}, Fields.{levels_of}, Values.{value_text}, Keys.{key_of, GivesKey, message_pairs, discipline_of, dated_pairs, has_date, date_of, time_of, param_in, levtype_of, step_of, number_of, stat_of, origin_pairs, field_pairs, pairs_in}};
 
 use crate::fault::KeyFault;
 use crate::fields::{levels_of, ranges_text};

@@ -1,6 +1,5 @@
 // Where a value stands in a text that holds several.
-ghost use Rattle.std.specs.Prelude.{◌≡◌, ◌<◌, ◌≤◌, All, OnErr, OnOk, Some, length, slice_get, slice_range};
-ghost use Rattle.std.specs.Str.{bytes_eq};
+ghost use Rattle.std.specs.{Prelude.{◌≡◌, ◌<◌, ◌≤◌, All, OnErr, OnOk, Some, length, slice_get, slice_range}, Str.{bytes_eq}};
 ghost use Rattle.fd_key.specs.Spans.{IsEntry, IsSeat, IsSpan, pairs_at, span_of, with_span};
 
 use arrayvec::ArrayString;

@@ -1,18 +1,12 @@
 //! All lanes, each in a thread of its own.
-ghost use Rattle.std.specs.Prelude.{◌≡◌, ◌<◌, ◌≤◌, ◌+◌, ◌-◌, [], List, All, ℕ, length, map, IfOk, IfErr, slice_index_or};
-ghost use Rattle.std.specs.Vec.{vec_capacity};
+ghost use Rattle.std.specs.{Prelude.{◌≡◌, ◌<◌, ◌≤◌, ◌+◌, ◌-◌, [], List, All, ℕ, length, map, IfOk, IfErr, slice_index_or}, Vec.{vec_capacity}};
 ghost use mathlib.Core.List.{IsPrefix};
 ghost use Rattle.fd_entries.specs.declared.batch.Pair.{Pair};
 ghost use Rattle.fd_schema.specs.Reading.{seen_place};
 ghost use Rattle.fd_retriever.specs.Answers.{Tells};
-ghost use Rattle.fd_turn.specs.declared.view.Lock.TheVariants.{Free};
-ghost use Rattle.fd_turn.specs.Passes.{view, IsOf, IsSame};
-ghost use Rattle.fd_turn.specs.Views.{all_parts, recipient};
-ghost use Rattle.fd_lanes.specs.Acts.{ArePlaces, LanesFit, all_acts};
-ghost use Rattle.fd_lanes.specs.Legal.{IsRunOf};
+ghost use Rattle.fd_turn.specs.{declared.view.Lock.TheVariants.{Free}, Passes.{view, IsOf, IsSame}, Views.{all_parts, recipient}};
+ghost use Rattle.fd_lanes.specs.{Acts.{ArePlaces, LanesFit, all_acts}, Legal.{IsRunOf}, Fits.{Keeps}, Jobs.{AllKept, archivers_of, AreKeptFrom, ends_of, IsFresh, IsReady, IsRoom, MayBegin, owners_of, RanAt, Ran, TookIn, writers_of}};
 ghost use Rattle.fd_numbers.specs.Numbers.{Differ};
-ghost use Rattle.fd_lanes.specs.Fits.{Keeps};
-ghost use Rattle.fd_lanes.specs.Jobs.{AllKept, archivers_of, AreKeptFrom, ends_of, IsFresh, IsReady, IsRoom, MayBegin, owners_of, RanAt, Ran, TookIn, writers_of};
 
 use crate::end::{End, Ends};
 use crate::lane::{Job, LaneJob, LaneMeans, LaneRoom, Means, Room};

@@ -1,16 +1,12 @@
 //! The answers of a get.
 ghost use Rattle.std.specs.Prelude.{◌≡◌, ◌<◌, ℕ, List, map, length, slice_get, Some, IfOk, IfErr};
-ghost use Rattle.fd_entries.specs.declared.batch.Pair.{Pair};
-ghost use Rattle.fd_entries.specs.Batches.{newest};
+ghost use Rattle.fd_entries.specs.{declared.batch.Pair.{Pair}, Batches.{newest}};
 ghost use Rattle.fd_key.specs.Pairs as keys;
-ghost use Rattle.fd_schema.specs.Rules.{file_key, place_from};
-ghost use Rattle.fd_schema.specs.Reading.{seen_place};
+ghost use Rattle.fd_schema.specs.{Rules.{file_key, place_from}, Reading.{seen_place}};
 ghost use Rattle.fd_request.specs.Expansion.{expand};
 ghost use Rattle.fd_dataset.specs.Listed.{listing};
-ghost use Rattle.fd_retriever.specs.Kept.{Fits};
-ghost use Rattle.fd_retriever.specs.Answers.{OnDamaged, SomeUntold, Tells};
-ghost use Rattle.fd_lanes.specs.Acts.{IsPlacedIn, asked_keys, stored_key};
-ghost use Rattle.fd_lanes.specs.Walks.{answer_bytes};
+ghost use Rattle.fd_retriever.specs.{Kept.{Fits}, Answers.{OnDamaged, SomeUntold, Tells}};
+ghost use Rattle.fd_lanes.specs.{Acts.{IsPlacedIn, asked_keys, stored_key}, Walks.{answer_bytes}};
 
 use crate::end::Answers;
 use fd_bytes::{Items, NoMemory};

@@ -1,20 +1,13 @@
 //! The steps of a lane.
 ghost use Rattle.std.specs.Prelude.{◌≡◌, ◌≤◌, ◌<◌, ◌+◌, ◌-◌, ◌^◌, [], List, ℕ, map, length, slice_get, Ok, Some};
-ghost use Rattle.fd_entries.specs.Table.{greatest_writer};
+ghost use Rattle.fd_entries.specs.{Table.{greatest_writer}, declared.batch.Listing.{Listing}};
 ghost use Rattle.fd_key.specs.Pairs as keys;
-ghost use Rattle.fd_schema.specs.Rules.{file_key, place_from};
-ghost use Rattle.fd_schema.specs.Reading.{seen_place};
+ghost use Rattle.fd_schema.specs.{Rules.{file_key, place_from}, Reading.{seen_place}};
 ghost use Rattle.fd_request.specs.Expansion.{expand};
-ghost use Rattle.fd_turn.specs.declared.view.Lock.TheVariants.{Free};
-ghost use Rattle.fd_turn.specs.Views.{View};
-ghost use Rattle.fd_turn.specs.Passes.{view, IsOf, IsSame};
+ghost use Rattle.fd_turn.specs.{declared.view.Lock.TheVariants.{Free}, Views.{View}, Passes.{view, IsOf, IsSame}};
 ghost use Rattle.fd_retriever.specs.Kept as opened;
 ghost use Rattle.fd_lanes.specs.Acts as acts;
-ghost use Rattle.fd_lanes.specs.Acts.{AllFitting, Fitting, act_of, acts_of, asked_keys};
-ghost use Rattle.fd_lanes.specs.Walks.{Stand};
-ghost use Rattle.fd_entries.specs.declared.batch.Listing.{Listing};
-ghost use Rattle.fd_lanes.specs.Fits.{Fits, GotAs, IsRoomy, IsWaitingDoubt, Keeps, KeepsOn, Moves, StaysOf};
-ghost use Rattle.fd_lanes.specs.Jobs.{HasRoom, MayBegin, RanJob};
+ghost use Rattle.fd_lanes.specs.{Acts.{AllFitting, Fitting, act_of, acts_of, asked_keys}, Walks.{Stand}, Fits.{Fits, GotAs, IsRoomy, IsWaitingDoubt, Keeps, KeepsOn, Moves, StaysOf}, Jobs.{HasRoom, MayBegin, RanJob}};
 
 use crate::end::End;
 use crate::getting::fetch_all;

@@ -2,8 +2,7 @@
 ghost use Rattle.std.specs.Prelude.{◌≡◌, ◌≤◌, IfOk, IfErr};
 ghost use Rattle.fd_retrieve.specs.Located.{OnLost};
 ghost use Rattle.fd_answering.specs.Damages.{IsDamagedAt};
-ghost use Rattle.fd_layered.specs.Chains.{first_some, firsts};
-ghost use Rattle.fd_layered.specs.Finding.{AreNearest};
+ghost use Rattle.fd_layered.specs.{Chains.{first_some, firsts}, Finding.{AreNearest}};
 
 use fd_bytes::NoMemory;
 use fd_disk::Sealed;

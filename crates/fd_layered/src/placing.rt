@@ -1,17 +1,13 @@
 // The places of a request's keys, and those under layers.
 ghost use Rattle.std.specs.Prelude.{◌≡◌, ◌<◌, ◌+◌, ◌++◌, ◌∷◌, [], List, Some, Ok, length, map, slice_get, IfOk, IfErr, OnOk, true, is_some};
 ghost use Rattle.fd_key.specs.Pairs.{Pair};
-ghost use Rattle.fd_schema.specs.Reading.{seen_place};
-ghost use Rattle.fd_schema.specs.Rules.{Texts, place_from};
-ghost use Rattle.fd_request.specs.Expansion.{expand};
-ghost use Rattle.fd_request.specs.Spelled.{AreValues, IsSpelled};
+ghost use Rattle.fd_schema.specs.{Reading.{seen_place}, Rules.{Texts, place_from}};
+ghost use Rattle.fd_request.specs.{Expansion.{expand}, Spelled.{AreValues, IsSpelled}};
 ghost use Rattle.fd_layers.specs.Based.{based};
 ghost use Rattle.fd_words.specs.Words.{AreLayers};
-ghost use Rattle.fd_outcome.specs.Causes.{NoRule};
-ghost use Rattle.fd_outcome.specs.Layered.{Laid, all_laid, laid_key, places_under, under_from};
+ghost use Rattle.fd_outcome.specs.{Causes.{NoRule}, Layered.{Laid, all_laid, laid_key, places_under, under_from}};
 ghost use Rattle.fd_telling.specs.Stops.{IsOfPlaces, IsRefused};
-ghost use Rattle.fd_layered.specs.Chains.{AreChains, laid_by};
-ghost use Rattle.fd_layered.specs.Laying.{LacksLayer, LacksOne};
+ghost use Rattle.fd_layered.specs.{Chains.{AreChains, laid_by}, Laying.{LacksLayer, LacksOne}};
 
 use fd_key::{Given, Key};
 use fd_layers::{LayerFault, based};

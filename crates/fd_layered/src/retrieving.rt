@@ -3,19 +3,11 @@ ghost use Rattle.std.specs.Prelude.{◌≡◌, ◌⊎◌, ◌≤◌, List, ℕ, 
 ghost use Rattle.fd_disk.specs.Folders.{Holdings};
 ghost use Rattle.fd_request.specs.Expansion.{expand};
 ghost use Rattle.fd_schema.specs.Reading.{seen_place};
-ghost use Rattle.fd_words.specs.Words.{AreLayers};
-ghost use Rattle.fd_words.specs.declared.command.Command.TheVariants.{RetrieveOver};
-ghost use Rattle.fd_outcome.specs.Layered.{laid_answers, laid_of};
-ghost use Rattle.fd_outcome.specs.Noticing.{AnsweredEach, AnswersFirmly, IsLaidAnswer, Notices, ReadsFitly};
-ghost use Rattle.fd_outcome.specs.Objects.{Object};
-ghost use Rattle.fd_outcome.specs.Ran.{Ran};
-ghost use Rattle.fd_outcome.specs.Store.{table_at};
-ghost use Rattle.fd_outcome.specs.declared.status.Status.TheVariants.{Done, Missed};
+ghost use Rattle.fd_words.specs.{Words.{AreLayers}, declared.command.Command.TheVariants.{RetrieveOver}};
+ghost use Rattle.fd_outcome.specs.{Layered.{laid_answers, laid_of}, Noticing.{AnsweredEach, AnswersFirmly, IsLaidAnswer, Notices, ReadsFitly}, Objects.{Object}, Ran.{Ran}, Store.{table_at}, declared.status.Status.TheVariants.{Done, Missed}};
 ghost use Rattle.fd_objects.specs.Given.{Over, sink_of, source_of, store_of, store_since};
-ghost use Rattle.fd_retrieve.specs.Commands.{Begins};
-ghost use Rattle.fd_retrieve.specs.Open.{table_in};
-ghost use Rattle.fd_layered.specs.Chains.{AreChains};
-ghost use Rattle.fd_layered.specs.Ready.{IsReady, laid_with};
+ghost use Rattle.fd_retrieve.specs.{Commands.{Begins}, Open.{table_in}};
+ghost use Rattle.fd_layered.specs.{Chains.{AreChains}, Ready.{IsReady, laid_with}};
 
 use crate::nearest::locate_over;
 use crate::preparing::{Ready, prepared};

@@ -1,6 +1,5 @@
 // What holds of layers, and of the tables that answer one over the other.
-ghost use Rattle.fd_layers.specs.Based.{GivenAreValues};
-ghost use Rattle.fd_layers.specs.Tables.{NearestFirst};
+ghost use Rattle.fd_layers.specs.{Based.{GivenAreValues}, Tables.{NearestFirst}};
 
 /// The law that the pairs which are read of a text are values, as those of a layer are to be.
 pub fn values_of_given()

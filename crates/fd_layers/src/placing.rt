@@ -1,9 +1,7 @@
 // The place of a key under a layer.
-ghost use Rattle.std.specs.Prelude.{◌≡◌, ◌≤◌, length, true, IfOk, is_some};
-ghost use Rattle.std.specs.Option.{option_copied};
+ghost use Rattle.std.specs.{Prelude.{◌≡◌, ◌≤◌, length, true, IfOk, is_some}, Option.{option_copied}};
 ghost use Rattle.fd_key.specs.Pairs.{key_text, text_of};
-ghost use Rattle.fd_schema.specs.Rules.{IsShort, place_from};
-ghost use Rattle.fd_schema.specs.Reading.{seen_place};
+ghost use Rattle.fd_schema.specs.{Rules.{IsShort, place_from}, Reading.{seen_place}};
 ghost use Rattle.fd_request.specs.Spelled.{AreValues, IsSpelled};
 ghost use Rattle.fd_layers.specs.Based.{GivesBased, based, has_names, is_same_home, or_own, under};
 

@@ -1,18 +1,10 @@
 ghost use Rattle.std.specs.Prelude.{◌≡◌, ◌≢◌, ◌⊎◌, ◌≤◌, ◌<◌, ◌+◌, ◌||◌, [], List, ℕ, Some, None, Ok, Err, All, true, false, is_some, length, slice_get, IfOk, IfErr, IfSome, IsSome, OnErr, OnSome, MatchOption, string_bytes, vec_capacity, vec_len};
 ghost use Rattle.fd_bytes.specs.Causes.{Rose};
-ghost use Rattle.fd_disk.specs.Causes.{OnFault};
-ghost use Rattle.fd_disk.specs.Folders.{SameBut, WhereTold, folder_at};
-ghost use Rattle.fd_entries.specs.declared.table.Entry.{Entry};
-ghost use Rattle.fd_entries.specs.Table.{listed};
+ghost use Rattle.fd_disk.specs.{Causes.{OnFault}, Folders.{SameBut, WhereTold, folder_at}};
+ghost use Rattle.fd_entries.specs.{declared.table.Entry.{Entry}, Table.{listed}};
 ghost use Rattle.fd_turn.specs.Passes.{IsOf};
-ghost use Rattle.fd_recovery.specs.Causes.{OnDamaged, OnDisk, OnNotATable};
-ghost use Rattle.fd_recovery.specs.Damages.{IsFirst, damages};
-ghost use Rattle.fd_recovery.specs.Recovered.{IsUndamaged, WithTable};
-ghost use Rattle.fd_library.specs.Answers.{FolderFailed, IsWanted, TableBrokeIn, TooManyAt};
-ghost use Rattle.fd_library.specs.Calls.{AsksWriter, Changes, IsNewWriter, Leaves, Opens, ShelfFailed, TakesWriter};
-ghost use Rattle.fd_library.specs.Open.{IsWhole, OpenDataset, OutAre, among, names_of, seat_of};
-ghost use Rattle.fd_library.specs.Parts.{both};
-ghost use Rattle.fd_library.specs.Stores.{GivesBack, IsGivenBack, IsSettled, LooksInto, held_of, held_with};
+ghost use Rattle.fd_recovery.specs.{Causes.{OnDamaged, OnDisk, OnNotATable}, Damages.{IsFirst, damages}, Recovered.{IsUndamaged, WithTable}};
+ghost use Rattle.fd_library.specs.{Answers.{FolderFailed, IsWanted, TableBrokeIn, TooManyAt}, Calls.{AsksWriter, Changes, IsNewWriter, Leaves, Opens, ShelfFailed, TakesWriter}, Open.{IsWhole, OpenDataset, OutAre, among, names_of, seat_of}, Parts.{both}, Stores.{GivesBack, IsGivenBack, IsSettled, LooksInto, held_of, held_with}};
 
 use crate::held::{FolderDataset, FolderPass, Held};
 use crate::opening::{has_table, opened};

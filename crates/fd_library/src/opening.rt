@@ -1,20 +1,12 @@
 ghost use Rattle.std.specs.Prelude.{◌≡◌, ◌⊎◌, ◌≤◌, ◌*◌, ◌||◌, [], List, ℕ, Some, None, Ok, Err, All, true, false, is_some, length, map, IfOk, IfErr, IfSome, OnOk, OnErr, MatchOption, option_map, string_bytes};
 ghost use Rattle.fd_bytes.specs.Causes.{Rose};
 ghost use Rattle.fd_disk.specs.Folders.{SameBut, WhereTold, folder_at, without_table};
-ghost use Rattle.fd_entries.specs.declared.table.Entry.{Entry};
-ghost use Rattle.fd_entries.specs.declared.batch.Listing.{Listing};
-ghost use Rattle.fd_entries.specs.Table.{AllFit, listed};
-ghost use Rattle.fd_segment.specs.Held.{batch_of};
-ghost use Rattle.fd_segment.specs.Shared.{AreOf, entries, standings};
-ghost use Rattle.fd_turn.specs.Passes.{view, IsOf};
-ghost use Rattle.fd_turn.specs.Views.{first_view};
+ghost use Rattle.fd_entries.specs.{declared.table.Entry.{Entry}, declared.batch.Listing.{Listing}, Table.{AllFit, listed}};
+ghost use Rattle.fd_segment.specs.{Held.{batch_of}, Shared.{AreOf, entries, standings}};
+ghost use Rattle.fd_turn.specs.{Passes.{view, IsOf}, Views.{first_view}};
 ghost use Rattle.fd_dataset.specs.Listed.{listings};
-ghost use Rattle.fd_recovery.specs.Causes.{NotTooMany, OnDamaged, OnDisk, OnNotATable};
-ghost use Rattle.fd_recovery.specs.Damages.{IsFirst, damages};
-ghost use Rattle.fd_recovery.specs.Recovered.{IsUndamaged, WithTable, all_of, batches_listed, held};
-ghost use Rattle.fd_library.specs.Answers.{FolderFailed, HoldsAs, IsOpened, TableBroke, TableBrokeIn, greatest_listed};
-ghost use Rattle.fd_library.specs.Open.{AreBounded, IsWhole, seat_of};
-ghost use Rattle.fd_library.specs.Stores.{KeepsFolder, KeepsTable, ListsIn, LooksInto};
+ghost use Rattle.fd_recovery.specs.{Causes.{NotTooMany, OnDamaged, OnDisk, OnNotATable}, Damages.{IsFirst, damages}, Recovered.{IsUndamaged, WithTable, all_of, batches_listed, held}};
+ghost use Rattle.fd_library.specs.{Answers.{FolderFailed, HoldsAs, IsOpened, TableBroke, TableBrokeIn, greatest_listed}, Open.{AreBounded, IsWhole, seat_of}, Stores.{KeepsFolder, KeepsTable, ListsIn, LooksInto}};
 
 use crate::held::{FolderDataset, FolderPass, Held};
 use fd_dataset::Dataset;

@@ -2,8 +2,7 @@ ghost use Rattle.std.specs.Prelude.{◌≡◌, ◌≤◌, ◌++◌, [], length, 
 ghost use Rattle.fd_sections.specs.Parts.{sections_of};
 ghost use Rattle.fd_key.specs.Keys.{key_of};
 ghost use Rattle.fd_io.specs.Streams.{Takes, TakesFront};
-ghost use Rattle.fd_listing.specs.Sinks.{HasSinkCause};
-ghost use Rattle.fd_listing.specs.Describe.{ident_numbers, grid_numbers, formula_text, packing_text, template_line, message_line, ident_line, grid_line, packing_line, map_line, key_line, key_line_text, describe_text};
+ghost use Rattle.fd_listing.specs.{Sinks.{HasSinkCause}, Describe.{ident_numbers, grid_numbers, formula_text, packing_text, template_line, message_line, ident_line, grid_line, packing_line, map_line, key_line, key_line_text, describe_text}};
 
 use crate::fault::TextFault;
 use crate::lines::write_text;

@@ -1,8 +1,6 @@
 // Numbers in lines, as decimal digits.
 ghost use Rattle.std.specs.Prelude.{◌≡◌, ◌++◌, Some, OnOk, string_bytes};
-ghost use Rattle.fd_listing.specs.Numbers.{plain, plain_if, number_or_minus, numbers_text};
-ghost use Rattle.fd_listing.specs.Describe.{named};
-ghost use Rattle.fd_listing.specs.Lines.{blank};
+ghost use Rattle.fd_listing.specs.{Numbers.{plain, plain_if, number_or_minus, numbers_text}, Describe.{named}, Lines.{blank}};
 
 use fd_bytes::NoMemory;
 

@@ -1,10 +1,8 @@
 ghost use Rattle.std.specs.Prelude.{◌≡◌, ◌≤◌, ◌++◌, IfOk, IfSome, OnOk, OnErr, string_bytes};
 ghost use Rattle.fd_sections.specs.Parts.{sections_of};
-ghost use Rattle.fd_packing.specs.Field.{field_of};
-ghost use Rattle.fd_packing.specs.Value.{values_of};
+ghost use Rattle.fd_packing.specs.{Field.{field_of}, Value.{values_of}};
 ghost use Rattle.fd_io.specs.Streams.{Takes, TakesFront};
-ghost use Rattle.fd_listing.specs.Sinks.{HasSinkCause, HasValuesCause};
-ghost use Rattle.fd_listing.specs.Values.{number_text, value_text, value_line, values_text, message_values, most_points, AnswersField, HoldsNoWant};
+ghost use Rattle.fd_listing.specs.{Sinks.{HasSinkCause, HasValuesCause}, Values.{number_text, value_text, value_line, values_text, message_values, most_points, AnswersField, HoldsNoWant}};
 
 use crate::fault::{TextFault, ValuesFault};
 use crate::lines::{write_many, write_text};

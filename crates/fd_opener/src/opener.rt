@@ -1,18 +1,11 @@
 //! What opens the datasets of a store, one by one, and gives them back.
 ghost use Rattle.std.specs.Prelude.{[], All, ◌≡◌, ◌⊎◌, ◌≤◌, ◌<◌, ◌+◌, ◌||◌, List, ℕ, Some, None, true, false, is_some, length, slice_get, IfOk, IfErr, IfSome, IsSome, OnErr};
 ghost use Rattle.fd_bytes.specs.Causes.{Rose};
-ghost use Rattle.fd_disk.specs.Causes.{OnFault};
-ghost use Rattle.fd_disk.specs.Folders.{WhereTold, folder_at};
-ghost use Rattle.fd_entries.specs.declared.table.Entry.{Entry};
-ghost use Rattle.fd_entries.specs.Table.{listed};
+ghost use Rattle.fd_disk.specs.{Causes.{OnFault}, Folders.{WhereTold, folder_at}};
+ghost use Rattle.fd_entries.specs.{declared.table.Entry.{Entry}, Table.{listed}};
 ghost use Rattle.fd_turn.specs.Passes.{IsOf};
-ghost use Rattle.fd_recovery.specs.Causes.{OnDamaged, OnDisk, OnNotATable};
-ghost use Rattle.fd_recovery.specs.Damages.{IsFirst, damages};
-ghost use Rattle.fd_recovery.specs.Recovered.{IsUndamaged, WithTable};
-ghost use Rattle.fd_library.specs.Answers.{FolderFailed, IsWanted, TableBrokeIn, TooManyAt};
-ghost use Rattle.fd_library.specs.Calls.{AsksWriter, Changes, IsNewWriter, Leaves, Opens, ShelfFailed, TakesWriter};
-ghost use Rattle.fd_library.specs.Open.{IsWhole, OpenDataset, OutAre, among, names_of, seat_of};
-ghost use Rattle.fd_library.specs.Stores.{GivesBack, IsSettled, held_of, held_with};
+ghost use Rattle.fd_recovery.specs.{Causes.{OnDamaged, OnDisk, OnNotATable}, Damages.{IsFirst, damages}, Recovered.{IsUndamaged, WithTable}};
+ghost use Rattle.fd_library.specs.{Answers.{FolderFailed, IsWanted, TableBrokeIn, TooManyAt}, Calls.{AsksWriter, Changes, IsNewWriter, Leaves, Opens, ShelfFailed, TakesWriter}, Open.{IsWhole, OpenDataset, OutAre, among, names_of, seat_of}, Stores.{GivesBack, IsSettled, held_of, held_with}};
 ghost use Rattle.fd_opener.specs.Opening.{AreOpen};
 
 use fd_archiver::Archiver;

@@ -1,7 +1,6 @@
 //! Ten thousand keys in an index of 64 pages: how often it is read for one of them.
 ghost use Rattle.std.specs.Prelude.{◌≡◌, ◌≤◌, length, false, IfSome, codes};
-ghost use Rattle.fd_disk.specs.declared.folders.FileKind.TheVariants.{Fields, Index};
-ghost use Rattle.fd_disk.specs.Names.{name_of};
+ghost use Rattle.fd_disk.specs.{declared.folders.FileKind.TheVariants.{Fields, Index}, Names.{name_of}};
 
 use fd_disk::{Folder, Reader, Sealed, Shelf, Store};
 use fd_disk_mem::{MemStore, Op};

@@ -1,14 +1,10 @@
 // The kinds of what is wrong in a schema or a request, as texts.
-ghost use Rattle.std.specs.Prelude.{◌≡◌, ◌++◌, ℕ, codes, string_bytes, IfOk};
-ghost use Rattle.std.specs.Fmt.{decimal};
+ghost use Rattle.std.specs.{Prelude.{◌≡◌, ◌++◌, ℕ, codes, string_bytes, IfOk}, Fmt.{decimal}};
 ghost use Rattle.fd_listing.specs.Lines.{blank, line};
 ghost use Rattle.fd_schema.specs.Grammar as schemas;
-ghost use Rattle.fd_schema.specs.Reading.{Names};
-ghost use Rattle.fd_schema.specs.FaultTexts.{schema_wrong_text};
-ghost use Rattle.fd_request.specs.Reading.{seen_kind};
-ghost use Rattle.fd_request.specs.FaultTexts.{request_kind_text};
-ghost use Rattle.fd_outcome.specs.Causes.{is_schema_limit, is_request_limit};
-ghost use Rattle.fd_outcome.specs.Told.{ToldOrNoMemory};
+ghost use Rattle.fd_schema.specs.{Reading.{Names}, FaultTexts.{schema_wrong_text}};
+ghost use Rattle.fd_request.specs.{Reading.{seen_kind}, FaultTexts.{request_kind_text}};
+ghost use Rattle.fd_outcome.specs.{Causes.{is_schema_limit, is_request_limit}, Told.{ToldOrNoMemory}};
 
 use crate::report::{tell, tell_no_memory};
 use crate::status::Status;

@@ -3,8 +3,7 @@
 #![tactic(auto)]
 
 ghost use Rattle.std.specs.Prelude.{ℕ, List};
-ghost use Rattle.fd_outcome.specs.Again.{SplitsAgain};
-ghost use Rattle.fd_outcome.specs.Worked.{Rows};
+ghost use Rattle.fd_outcome.specs.{Again.{SplitsAgain}, Worked.{Rows}};
 
 mod kinds;
 mod listing;

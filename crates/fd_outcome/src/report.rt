@@ -1,11 +1,8 @@
 // The lines on the report.
-ghost use Rattle.std.specs.Prelude.{◌≡◌, ◌≤◌, ◌++◌, codes};
-ghost use Rattle.std.specs.Fmt.{decimal};
+ghost use Rattle.std.specs.{Prelude.{◌≡◌, ◌≤◌, ◌++◌, codes}, Fmt.{decimal}};
 ghost use Rattle.fd_bytes.specs.Causes.{Rose};
 ghost use Rattle.fd_listing.specs.Lines.{line};
-ghost use Rattle.fd_outcome.specs.Refusals.{refusal_line, refusal_status, refused_message_line, cut_message_line, refused_map_line, refused_key_line, refused_field_line};
-ghost use Rattle.fd_outcome.specs.Ends.{disk_failed, input_failed, output_failed};
-ghost use Rattle.fd_outcome.specs.Told.{OnLongInput, Told, ToldOrNoMemory};
+ghost use Rattle.fd_outcome.specs.{Refusals.{refusal_line, refusal_status, refused_message_line, cut_message_line, refused_map_line, refused_key_line, refused_field_line}, Ends.{disk_failed, input_failed, output_failed}, Told.{OnLongInput, Told, ToldOrNoMemory}};
 
 use crate::refusal::Refusal;
 use crate::status::Status;

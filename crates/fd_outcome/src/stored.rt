@@ -2,8 +2,7 @@
 ghost use Rattle.std.specs.Prelude.{◌≡◌, ◌≤◌, Ok, IfOk, IfErr, IfSome};
 ghost use Rattle.fd_bytes.specs.Causes.{Rose};
 ghost use Rattle.fd_schema.specs.Grammar.{IsSchema};
-ghost use Rattle.fd_outcome.specs.Asking.{rules_of};
-ghost use Rattle.fd_outcome.specs.Unruled.{IsUnruled, OnDisk};
+ghost use Rattle.fd_outcome.specs.{Asking.{rules_of}, Unruled.{IsUnruled, OnDisk}};
 
 use fd_disk::{Down, Store};
 use fd_schema::{Schema, SchemaFault, SchemaKind};

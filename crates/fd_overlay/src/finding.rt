@@ -1,15 +1,11 @@
 // The places of many keys at once, among layers.
-ghost use Rattle.std.specs.Prelude.{◌≡◌, ◌≤◌, ◌∷◌, ◌++◌, [], List, Option, None, All, IsSome, map, length, IfOk, IfErr, IfSome, OnOk};
-ghost use Rattle.std.specs.List.{AllZip};
+ghost use Rattle.std.specs.{Prelude.{◌≡◌, ◌≤◌, ◌∷◌, ◌++◌, [], List, Option, None, All, IsSome, map, length, IfOk, IfErr, IfSome, OnOk}, List.{AllZip}};
 ghost use Rattle.fd_entries.specs.declared.batch.Pair.{Pair};
-ghost use Rattle.fd_schema.specs.declared.place.Place.{Place};
-ghost use Rattle.fd_schema.specs.Reading.{seen_place};
+ghost use Rattle.fd_schema.specs.{declared.place.Place.{Place}, Reading.{seen_place}};
 ghost use Rattle.fd_finding.specs.Spots.{StandsForSome, place_key};
 ghost use Rattle.fd_retriever.specs.Answers.{SomeUntold};
 ghost use Rattle.fd_dataset.specs.Listed.{listing};
-ghost use Rattle.fd_overlay.specs.Layers.{AllTell};
-ghost use Rattle.fd_overlay.specs.Spots.{AreTheOnlyOnes, IsLaidAnswer, IsUntoldNumber, IsWithinLayer, LayersSayOf, OnDamaged, StandsInNumber, shown};
-ghost use Rattle.fd_overlay.specs.Searching.{FoundIn, SearchedTo, SearchesMore, in_layer, merged, unfound};
+ghost use Rattle.fd_overlay.specs.{Layers.{AllTell}, Spots.{AreTheOnlyOnes, IsLaidAnswer, IsUntoldNumber, IsWithinLayer, LayersSayOf, OnDamaged, StandsInNumber, shown}, Searching.{FoundIn, SearchedTo, SearchesMore, in_layer, merged, unfound}};
 
 use crate::spot::{FindFault, LayerSpot};
 use fd_bytes::NoMemory;

@@ -1,10 +1,8 @@
 // The layers, and what is fetched of them.
 ghost use Rattle.std.specs.Prelude.{◌≡◌, ◌≤◌, List, IfOk, IfErr};
 ghost use Rattle.fd_bytes.specs.Causes.{Rose};
-ghost use Rattle.fd_entries.specs.declared.batch.Pair.{Pair};
-ghost use Rattle.fd_entries.specs.Batches.{newest};
-ghost use Rattle.fd_schema.specs.Rules.{file_key};
-ghost use Rattle.fd_schema.specs.Reading.{seen_place};
+ghost use Rattle.fd_entries.specs.{declared.batch.Pair.{Pair}, Batches.{newest}};
+ghost use Rattle.fd_schema.specs.{Rules.{file_key}, Reading.{seen_place}};
 ghost use Rattle.fd_retriever.specs.Answers.{IsAnswer, OnDamaged, OnWrite, TookAsMany, TookFront, UnlessWrite, Unwritten};
 ghost use Rattle.fd_layers.specs.Tables.{laid};
 ghost use Rattle.fd_overlay.specs.Layers.{AllTell, LayersSay, SomeLayerUntold, StandsInLayer};

@@ -1,6 +1,5 @@
 ghost use Rattle.std.specs.Prelude.{◌≡◌, Some};
-ghost use Rattle.fd_packing.specs.Faults.{of_template};
-ghost use Rattle.fd_packing.specs.FaultTexts.{field_fault_text, pack_fault_text};
+ghost use Rattle.fd_packing.specs.{Faults.{of_template}, FaultTexts.{field_fault_text, pack_fault_text}};
 
 use fd_bytes::NoMemory;
 use fd_templates::TemplateFault;

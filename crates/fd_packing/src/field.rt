@@ -1,7 +1,6 @@
 ghost use Rattle.std.specs.Prelude.{ℕ, ◌≡◌, ◌<◌, ◌^◌, Some, length, slice_get};
 ghost use Rattle.fd_sections.specs.Parts.{sections_of};
-ghost use Rattle.fd_packing.specs.Value.{value_of, values_of};
-ghost use Rattle.fd_packing.specs.Field.{field_of};
+ghost use Rattle.fd_packing.specs.{Value.{value_of, values_of}, Field.{field_of}};
 
 use crate::fault::FieldFault;
 use crate::parts::{Parts, value_of};
@@ -19,8 +18,7 @@ pub struct Field<'a> {
 }
 
 impl<'a> Model for Field<'a> {
-    ghost use Rattle.fd_packing.specs.Packed.{Packed};
-    ghost use Rattle.fd_packing.specs.Parts.{packed_of, IsSound};
+    ghost use Rattle.fd_packing.specs.{Packed.{Packed}, Parts.{packed_of, IsSound}};
 
     ghost Value = { Packed };
 

@@ -1,8 +1,5 @@
-ghost use Rattle.std.specs.Prelude.{◌≡◌, ◌==◌, ◌*◌, ◌<◌, ◌≤◌, ◌^◌, length, take, slice_index, IfSome};
-ghost use Rattle.std.specs.Option.{option_copied};
-ghost use Rattle.fd_packing.specs.Bits.{bits_of};
-ghost use Rattle.fd_packing.specs.Value.{ones, has_value, place_of};
-ghost use Rattle.fd_packing.specs.Field.{map_bits};
+ghost use Rattle.std.specs.{Prelude.{◌≡◌, ◌==◌, ◌*◌, ◌<◌, ◌≤◌, ◌^◌, length, take, slice_index, IfSome}, Option.{option_copied}};
+ghost use Rattle.fd_packing.specs.{Bits.{bits_of}, Value.{ones, has_value, place_of}, Field.{map_bits}};
 
 use crate::bits::bits_at;
 

@@ -1,6 +1,5 @@
 ghost use Rattle.std.specs.Prelude.{◌≡◌, ◌<◌, ℕ, slice_index, ◌*◌, ◌-◌, ◌%◌, ◌^◌, ◌≤◌, ◌++◌, length, IfOk, position, nat_le, replicate};
-ghost use Rattle.fd_packing.specs.Bits.{bits_of, number_at, packed};
-ghost use Rattle.fd_packing.specs.Pack.{FaultIs};
+ghost use Rattle.fd_packing.specs.{Bits.{bits_of, number_at, packed}, Pack.{FaultIs}};
 
 use crate::fault::PackFault;
 use crate::writer::BitWriter;

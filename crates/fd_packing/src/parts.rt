@@ -1,6 +1,5 @@
 ghost use Rattle.std.specs.Prelude.{◌≡◌, ◌+◌, ◌<◌, ◌≤◌, is_some, if◌then◌else◌};
-ghost use Rattle.fd_packing.specs.Value.{value_at, value_of, place_of};
-ghost use Rattle.fd_packing.specs.Parts.{packed_of, IsSound};
+ghost use Rattle.fd_packing.specs.{Value.{value_at, value_of, place_of}, Parts.{packed_of, IsSound}};
 
 use crate::bits::bits_at;
 use crate::ieee::Reference;

@@ -1,5 +1,4 @@
-ghost use Rattle.std.specs.Prelude.{◌≡◌};
-ghost use Rattle.std.specs.Iterator.{YieldsFirst, item_count};
+ghost use Rattle.std.specs.{Prelude.{◌≡◌}, Iterator.{YieldsFirst, item_count}};
 
 use crate::parts::{Parts, value_with_place};
 use fd_scaled::Scaled;
@@ -16,8 +15,7 @@ pub struct Points<'a> {
 impl<'a> Model for Points<'a> {
     ghost use Rattle.std.specs.Prelude.{◌≡◌, ◌≤◌, ◌-◌, List, Option};
     ghost use Rattle.fd_scaled.specs.declared.Scaled.{Scaled};
-    ghost use Rattle.fd_packing.specs.Value.{place_of, values_from};
-    ghost use Rattle.fd_packing.specs.Parts.{packed_of, IsSound};
+    ghost use Rattle.fd_packing.specs.{Value.{place_of, values_from}, Parts.{packed_of, IsSound}};
 
     ghost Value = { List (Option Scaled) };
 

@@ -1,12 +1,8 @@
-ghost use Rattle.std.specs.Prelude.{◌≡◌, ◌-◌, ◌*◌, ◌<◌, ◌≤◌, ◌^◌, length, IfOk, IfSome, unsigned_abs};
-ghost use Rattle.std.specs.Option.{option_copied};
+ghost use Rattle.std.specs.{Prelude.{◌≡◌, ◌-◌, ◌*◌, ◌<◌, ◌≤◌, ◌^◌, length, IfOk, IfSome, unsigned_abs}, Option.{option_copied}};
 ghost use Rattle.fd_bytes.specs.Numbers.{octets};
-ghost use Rattle.fd_sections.specs.Given.{Is};
-ghost use Rattle.fd_sections.specs.Parts.{sections_of};
+ghost use Rattle.fd_sections.specs.{Given.{Is}, Parts.{sections_of}};
 ghost use Rattle.fd_templates.specs.Simple.{Fits};
-ghost use Rattle.fd_packing.specs.Value.{NeedIs, IsNarrow, first_addend, second_addend};
-ghost use Rattle.fd_packing.specs.Field.{scaling_of, map_of, octets_at, field_of, octets_for};
-ghost use Rattle.fd_packing.specs.Parts.{packed_of, IsSound};
+ghost use Rattle.fd_packing.specs.{Value.{NeedIs, IsNarrow, first_addend, second_addend}, Field.{scaling_of, map_of, octets_at, field_of, octets_for}, Parts.{packed_of, IsSound}};
 
 use crate::fault::FieldFault;
 use crate::ieee::{Reference, reference_of};

@@ -1,5 +1,4 @@
-ghost use Rattle.std.specs.Prelude.{◌≡◌, ◌*◌, ◌^◌, ◌<◌};
-ghost use Rattle.std.specs.Option.{SomeIff};
+ghost use Rattle.std.specs.{Prelude.{◌≡◌, ◌*◌, ◌^◌, ◌<◌}, Option.{SomeIff}};
 ghost use Rattle.fd_packing.specs.Value.{digits, NeedIs};
 
 /// How many binary digits x * 2^by has.

@@ -1,9 +1,7 @@
 ghost use Rattle.std.specs.Prelude.{◌≡◌, ◌≤◌, ◌<◌, ◌+◌, ◌*◌, length, Err, IfOk, IfErr, IfSome, take};
 ghost use Rattle.fd_bytes.specs.Causes.{Rose};
 ghost use Rattle.fd_disk.specs.Reading.{raised};
-ghost use Rattle.fd_pages.specs.Causes.{OnFault, OnBadIndex};
-ghost use Rattle.fd_pages.specs.Paging.{HasRead, digits};
-ghost use Rattle.fd_pages.specs.Parts.{HasFrame, IsBadPage, IsFrameFault, IsNoIndex, IsPageOf, IsPlace, IsSeen, is_before, page_in, pages_by};
+ghost use Rattle.fd_pages.specs.{Causes.{OnFault, OnBadIndex}, Paging.{HasRead, digits}, Parts.{HasFrame, IsBadPage, IsFrameFault, IsNoIndex, IsPageOf, IsPlace, IsSeen, is_before, page_in, pages_by}};
 
 use crate::fault::PagedFault;
 use crate::frame::pages_of_frame;
@@ -29,8 +27,7 @@ pub struct Paged<F: Send, R: Reader<F>> {
 
 impl<F: Send, R: Reader<F>> Model for Paged<F, R> {
     ghost use Rattle.std.specs.Prelude.{◌≡◌, ◌≤◌};
-    ghost use Rattle.fd_pages.specs.Paging.{Paging};
-    ghost use Rattle.fd_pages.specs.Parts.{AreKept, IsShape, pages_by};
+    ghost use Rattle.fd_pages.specs.{Paging.{Paging}, Parts.{AreKept, IsShape, pages_by}};
 
     ghost Value = { Paging };
 

@@ -1,14 +1,11 @@
 //! A script over a dataset of the store.
-ghost use Rattle.std.specs.Prelude.{◌≡◌, ◌≤◌, [], All, List, ℕ, IfErr, IfOk, IfSome, None, OnErr, Some, false, length, map};
-ghost use Rattle.std.specs.Vec.{vec_capacity};
+ghost use Rattle.std.specs.{Prelude.{◌≡◌, ◌≤◌, [], All, List, ℕ, IfErr, IfOk, IfSome, None, OnErr, Some, false, length, map}, Vec.{vec_capacity}};
 ghost use Rattle.fd_disk.specs.Folders.{WhereTold};
 ghost use Rattle.fd_schema.specs.Reading.{seen_place};
 ghost use Rattle.fd_turn.specs.Passes.{BoardId, IsOf};
-ghost use Rattle.fd_library.specs.Answers.{IsOpened};
-ghost use Rattle.fd_library.specs.Open.{IsWhole, OpenDataset, OutAre, seat_of};
+ghost use Rattle.fd_library.specs.{Answers.{IsOpened}, Open.{IsWhole, OpenDataset, OutAre, seat_of}};
 ghost use Rattle.fd_lanes.specs.Acts.{ArePlaces, LanesFit};
-ghost use Rattle.fd_play.specs.Plays.{HoldsOpened, HoldsSame, IsPlain, LeavesUnplayed, IsUnopened, Played, PlayedOpen};
-ghost use Rattle.fd_play.specs.Staff.{HandsBack, IsSole, Staffs};
+ghost use Rattle.fd_play.specs.{Plays.{HoldsOpened, HoldsSame, IsPlain, LeavesUnplayed, IsUnopened, Played, PlayedOpen}, Staff.{HandsBack, IsSole, Staffs}};
 
 use crate::staff::{Archivers, add_archivers, hand_back};
 use fd_bytes::Bytes;

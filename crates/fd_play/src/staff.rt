@@ -1,11 +1,9 @@
 //! The archivers of a session: how they are asked for, and how all is given back.
-ghost use Rattle.std.specs.Prelude.{◌≡◌, ◌≤◌, ◌<◌, ◌+◌, [], All, List, ℕ, IfErr, IsSome, OnErr, OnOk, false, length};
-ghost use Rattle.std.specs.Vec.{vec_capacity};
+ghost use Rattle.std.specs.{Prelude.{◌≡◌, ◌≤◌, ◌<◌, ◌+◌, [], All, List, ℕ, IfErr, IsSome, OnErr, OnOk, false, length}, Vec.{vec_capacity}};
 ghost use Rattle.fd_disk.specs.Folders.{WhereTold};
 ghost use Rattle.fd_turn.specs.Passes.{BoardId};
 ghost use Rattle.fd_library.specs.Open.{OpenDataset, OutAre};
-ghost use Rattle.fd_play.specs.Plays.{IsPlain};
-ghost use Rattle.fd_play.specs.Staff.{HandsBack, IsSole, Staffs, Tried};
+ghost use Rattle.fd_play.specs.{Plays.{IsPlain}, Staff.{HandsBack, IsSole, Staffs, Tried}};
 
 use fd_archiver::Archiver;
 use fd_disk::{Down, Folder, Store};

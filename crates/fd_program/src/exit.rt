@@ -1,6 +1,5 @@
 // How the program ends: the exit status by the status of its run.
-ghost use Rattle.std.specs.Prelude.{◌≡◌, false, List, ℕ};
-ghost use Rattle.std.specs.Process.{exit_status};
+ghost use Rattle.std.specs.{Prelude.{◌≡◌, false, List, ℕ}, Process.{exit_status}};
 ghost use Rattle.fd_words.specs.Texts.{texts};
 ghost use Rattle.fd_outcome.specs.Codes.{code_of};
 ghost use Rattle.fd_objects.specs.Given.{Over};

@@ -2,8 +2,7 @@
 //! given its words, its store, its input and its outputs; `main` makes the real ones.
 #![tactic(auto)]
 
-ghost use Rattle.std.specs.Prelude.{◌≡◌, false, IfOk, List, ℕ, drop, map};
-ghost use Rattle.std.specs.String.{string_bytes};
+ghost use Rattle.std.specs.{Prelude.{◌≡◌, false, IfOk, List, ℕ, drop, map}, String.{string_bytes}};
 ghost use Rattle.fd_words.specs.Texts.{texts};
 
 mod exit;

@@ -1,7 +1,6 @@
 // The top call.
 ghost use Rattle.std.specs.Prelude.{◌≡◌, false, List, ℕ};
-ghost use Rattle.fd_words.specs.Texts.{texts};
-ghost use Rattle.fd_words.specs.Words.{command_of};
+ghost use Rattle.fd_words.specs.{Texts.{texts}, Words.{command_of}};
 ghost use Rattle.fd_objects.specs.Given.{Over};
 ghost use Rattle.fd_program.specs.Served.{Served};
 

@@ -1,9 +1,7 @@
 // A purge and a wipe, once it is known what is dropped.
 ghost use Rattle.std.specs.Prelude.{◌≡◌, ◌≤◌, [], true, false, None, Some, IfErr, OnErr, OnOk, option_map};
 ghost use Rattle.fd_bytes.specs.Causes.{Rose};
-ghost use Rattle.fd_disk.specs.Causes.{OnFault};
-ghost use Rattle.fd_disk.specs.Folders.{founded};
-ghost use Rattle.fd_disk.specs.Renewals.{GoesOn, unfounded};
+ghost use Rattle.fd_disk.specs.{Causes.{OnFault}, Folders.{founded}, Renewals.{GoesOn, unfounded}};
 ghost use Rattle.fd_purge.specs.Carrying.{IsMidway, LeavesMidway, thinned_by};
 
 use crate::removing::remove_all;

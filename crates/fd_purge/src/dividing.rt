@@ -1,9 +1,7 @@
 // The entries that are kept, and those that are dropped.
 ghost use Rattle.std.specs.Prelude.{◌≡◌, ◌≤◌, ◌<◌, ◌+◌, ◌++◌, ◌∷◌, [], None, Some, IfOk, IfErr, OnOk, length, if◌then◌else◌};
 ghost use Rattle.fd_entries.specs.Table.{AllFit};
-ghost use Rattle.fd_purge.specs.Dividing.{OnOver, next_over};
-ghost use Rattle.fd_purge.specs.Kept.{masked, unmasked};
-ghost use Rattle.fd_purge.specs.Purging.{first_over};
+ghost use Rattle.fd_purge.specs.{Dividing.{OnOver, next_over}, Kept.{masked, unmasked}, Purging.{first_over}};
 
 use fd_entries::Entry;
 use std::alloc::Global;

@@ -1,8 +1,7 @@
 // Keys of batches that were gone through.
 ghost use Rattle.std.specs.Prelude.{◌≡◌, ◌∷◌, List, ℕ, OnOk};
 ghost use Rattle.fd_index.specs.Records.{keys};
-ghost use Rattle.fd_purge.specs.Kept.{is_masked};
-ghost use Rattle.fd_purge.specs.Reads.{Knows};
+ghost use Rattle.fd_purge.specs.{Kept.{is_masked}, Reads.{Knows}};
 
 use fd_bytes::NoMemory;
 use fd_index::Index;

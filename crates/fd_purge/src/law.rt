@@ -1,5 +1,4 @@
-ghost use Rattle.fd_purge.specs.Kept.{KeepsNewest};
-ghost use Rattle.fd_purge.specs.Purging.{PurgeKeeps, PurgedHolds, WipeKeeps};
+ghost use Rattle.fd_purge.specs.{Kept.{KeepsNewest}, Purging.{PurgeKeeps, PurgedHolds, WipeKeeps}};
 
 /// What holds of every purge: each key has the newest bytes that it had; what it made of a dataset, and what a crash leaves at
 /// each moment of it, holds what the dataset held, or that without its masked batches. And of every wipe: what a crash leaves

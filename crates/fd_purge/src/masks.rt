@@ -1,9 +1,7 @@
 // Which batches are masked by later ones.
 ghost use Rattle.std.specs.Prelude.{◌≡◌, ◌∷◌, List, ℕ, IfErr, IfOk, length};
-ghost use Rattle.fd_segment.specs.Causes.{IsBadIndex, OnDamaged};
-ghost use Rattle.fd_segment.specs.Shared.{standings};
-ghost use Rattle.fd_purge.specs.Kept.{is_masked, masks};
-ghost use Rattle.fd_purge.specs.Reads.{AreRead, IsAmongBad, IsRead, Knows};
+ghost use Rattle.fd_segment.specs.{Causes.{IsBadIndex, OnDamaged}, Shared.{standings}};
+ghost use Rattle.fd_purge.specs.{Kept.{is_masked, masks}, Reads.{AreRead, IsAmongBad, IsRead, Knows}};
 
 use crate::keys::{Keys, add_keys, are_known};
 use fd_disk::Sealed;

@@ -3,12 +3,8 @@ ghost use Rattle.std.specs.Prelude.{◌≡◌, ◌≤◌, ◌+◌, List, ℕ, No
 ghost use Rattle.fd_entries.specs.Table.{AllFit, listed};
 ghost use Rattle.fd_recovery.specs.Recovered.{WithTable, with_firm_table};
 ghost use Rattle.fd_segment.specs.Shared.{entries, standings};
-ghost use Rattle.fd_purge.specs.Causes.{IsOfFolder, OnDamaged, OnNotATable, OnWriters};
+ghost use Rattle.fd_purge.specs.{Causes.{IsOfFolder, OnDamaged, OnNotATable, OnWriters}, Carrying.{IsCarriedOut, IsUnderWay, LeavesUnderWay}, Kept.{masked, masks, unmasked}, Purging.{IsDamagedIn, IsLeftByPurge, IsOver, IsPurged, IsSafe, first_over, read_of}, Reads.{AreRead, IsAmongBad}};
 ghost use Rattle.fd_disk.specs.Renewals.{GoesOn};
-ghost use Rattle.fd_purge.specs.Carrying.{IsCarriedOut, IsUnderWay, LeavesUnderWay};
-ghost use Rattle.fd_purge.specs.Kept.{masked, masks, unmasked};
-ghost use Rattle.fd_purge.specs.Purging.{IsDamagedIn, IsLeftByPurge, IsOver, IsPurged, IsSafe, first_over, read_of};
-ghost use Rattle.fd_purge.specs.Reads.{AreRead, IsAmongBad};
 
 use crate::PurgeFault;
 use crate::carrying::thin;

@@ -1,12 +1,8 @@
 // The removing of files that no kept entry names.
 ghost use Rattle.std.specs.Prelude.{◌≡◌, ◌≤◌, [], ◌∷◌, false, None, IfErr, OnErr, OnOk, option_map};
 ghost use Rattle.fd_bytes.specs.Causes.{Rose};
-ghost use Rattle.fd_disk.specs.Causes.{OnFault};
-ghost use Rattle.fd_disk.specs.declared.folders.FileKind.{FileKind};
-ghost use Rattle.fd_disk.specs.Renewals.{GoesOn};
-ghost use Rattle.fd_purge.specs.Carrying.{IsThinnerOf, LeavesThinnerOf, thinned_by};
-ghost use Rattle.fd_disk.specs.Names.{name_of};
-ghost use Rattle.fd_purge.specs.Purging.{are_named, names};
+ghost use Rattle.fd_disk.specs.{Causes.{OnFault}, declared.folders.FileKind.{FileKind}, Renewals.{GoesOn}, Names.{name_of}};
+ghost use Rattle.fd_purge.specs.{Carrying.{IsThinnerOf, LeavesThinnerOf, thinned_by}, Purging.{are_named, names}};
 
 use fd_disk::{Down, FileKind, FileName, Renew};
 use fd_entries::Entry;

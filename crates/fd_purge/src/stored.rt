@@ -1,13 +1,9 @@
 // Purging and wiping a dataset of a store.
 ghost use Rattle.std.specs.Prelude.{◌≡◌, ◌≤◌, true, false, List, ℕ, None, Err, Ok, is_some, IfErr, IfOk, IfSome, OnErr, MatchOption};
 ghost use Rattle.fd_disk.specs.Folders.{SameBut, WhereTold, folder_at};
-ghost use Rattle.fd_entries.specs.declared.table.Entry.{Entry};
-ghost use Rattle.fd_entries.specs.Table.{listed};
-ghost use Rattle.fd_recovery.specs.Damages.{IsFirst, damages};
-ghost use Rattle.fd_recovery.specs.Recovered.{WithTable, with_firm_table};
-ghost use Rattle.fd_purge.specs.Causes.{NoWriters, OnDamaged, OnNotATable, OnWriters};
-ghost use Rattle.fd_purge.specs.Stored.{IsLeftFirmly};
-ghost use Rattle.fd_purge.specs.Purging.{HasWiped, IsDamagedIn, IsLeftByPurge, IsLeftByWipe, IsOver, IsPurged, read_of};
+ghost use Rattle.fd_entries.specs.{declared.table.Entry.{Entry}, Table.{listed}};
+ghost use Rattle.fd_recovery.specs.{Damages.{IsFirst, damages}, Recovered.{WithTable, with_firm_table}};
+ghost use Rattle.fd_purge.specs.{Causes.{NoWriters, OnDamaged, OnNotATable, OnWriters}, Stored.{IsLeftFirmly}, Purging.{HasWiped, IsDamagedIn, IsLeftByPurge, IsLeftByWipe, IsOver, IsPurged, read_of}};
 
 use crate::{PurgeFault, Purged, purge, wipe};
 use fd_disk::{Renew, Store};

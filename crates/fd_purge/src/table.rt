@@ -1,7 +1,6 @@
 // The bytes of a table.
 ghost use Rattle.std.specs.Prelude.{◌≡◌, ◌≤◌, ◌++◌, [], ◌∷◌, List, ℕ, length, IfOk, OnOk};
-ghost use Rattle.fd_entries.specs.declared.table.Entry.{Entry};
-ghost use Rattle.fd_entries.specs.Table.{header, slots_of};
+ghost use Rattle.fd_entries.specs.{declared.table.Entry.{Entry}, Table.{header, slots_of}};
 
 use fd_bytes::NoMemory;
 use fd_disk::Disk;

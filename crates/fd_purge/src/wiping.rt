@@ -1,11 +1,8 @@
 // Wiping.
 ghost use Rattle.std.specs.Prelude.{◌≡◌, ◌≤◌, List, None, Ok, Err, true, false, is_some, IfErr, IfOk, IfSome, MatchOption, OnErr};
-ghost use Rattle.fd_entries.specs.declared.table.Entry.{Entry};
-ghost use Rattle.fd_entries.specs.Table.{listed};
-ghost use Rattle.fd_recovery.specs.Damages.{IsFirst, damages};
-ghost use Rattle.fd_recovery.specs.Recovered.{WithTable};
-ghost use Rattle.fd_purge.specs.Causes.{NoWriters, OnDamaged, OnNotATable};
-ghost use Rattle.fd_purge.specs.Purging.{HasWiped, IsLeftByWipe, IsSafe, read_of};
+ghost use Rattle.fd_entries.specs.{declared.table.Entry.{Entry}, Table.{listed}};
+ghost use Rattle.fd_recovery.specs.{Damages.{IsFirst, damages}, Recovered.{WithTable}};
+ghost use Rattle.fd_purge.specs.{Causes.{NoWriters, OnDamaged, OnNotATable}, Purging.{HasWiped, IsLeftByWipe, IsSafe, read_of}};
 
 use crate::PurgeFault;
 use crate::carrying::clear;

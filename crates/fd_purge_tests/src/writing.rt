@@ -1,7 +1,6 @@
 //! A dataset whose first batch the second masks, and what is found in it.
 ghost use Rattle.std.specs.Prelude.{◌≡◌, ◌≤◌, ◌<◌, false, true, length, codes, IfSome};
-ghost use Rattle.fd_disk.specs.declared.folders.FileKind.TheVariants.{Fields, Index};
-ghost use Rattle.fd_disk.specs.Names.{name_of};
+ghost use Rattle.fd_disk.specs.{declared.folders.FileKind.TheVariants.{Fields, Index}, Names.{name_of}};
 
 use fd_disk::{Disk, Folder, Sealed, Shelf, Store};
 use fd_entries::Entry;

@@ -1,8 +1,6 @@
 //! What readers see of a dataset.
 ghost use Rattle.std.specs.Prelude.{◌≡◌, ◌≤◌, map, false, true, IfSome, OnSome, codes};
-ghost use Rattle.fd_turn.specs.declared.view.Lock.TheVariants.{Free};
-ghost use Rattle.fd_turn.specs.Passes.{view, IsOf};
-ghost use Rattle.fd_turn.specs.Views.{all_parts};
+ghost use Rattle.fd_turn.specs.{declared.view.Lock.TheVariants.{Free}, Passes.{view, IsOf}, Views.{all_parts}};
 ghost use Rattle.fd_dataset.specs.Listed.{listing};
 ghost use Rattle.fd_retriever.specs.Kept.{Fits};
 

@@ -1,11 +1,8 @@
 //! What one writer does in a dataset.
 ghost use Rattle.std.specs.Prelude.{◌≡◌, ◌≤◌, ◌<◌, length, false, IfOk, OnSome, codes};
 ghost use Rattle.fd_disk.specs.declared.folders.FileName.{FileName};
-ghost use Rattle.fd_schema.specs.Rules.{file_key};
-ghost use Rattle.fd_schema.specs.Reading.{seen_place};
-ghost use Rattle.fd_turn.specs.declared.view.Lock.TheVariants.{Free};
-ghost use Rattle.fd_turn.specs.Passes.{view, IsOf};
-ghost use Rattle.fd_turn.specs.Views.{all_parts};
+ghost use Rattle.fd_schema.specs.{Rules.{file_key}, Reading.{seen_place}};
+ghost use Rattle.fd_turn.specs.{declared.view.Lock.TheVariants.{Free}, Passes.{view, IsOf}, Views.{all_parts}};
 
 use crate::reading::opened;
 use fd_archiver::{Archiver, Flush, FlushFault};

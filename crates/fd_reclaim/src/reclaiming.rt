@@ -1,9 +1,7 @@
 // A dataset is purged or wiped, where the store has a schema.
 ghost use Rattle.std.specs.Prelude.{◌≡◌, ◌≤◌, List, ℕ, Some, Ok, false, IfErr, IfOk, IfSome, OnOk};
 ghost use Rattle.fd_disk.specs.Folders.{WhereTold, folder_at};
-ghost use Rattle.fd_outcome.specs.Asking.{rules_of};
-ghost use Rattle.fd_outcome.specs.Outcome.{reclaimed, reported};
-ghost use Rattle.fd_outcome.specs.Reclaiming.{InDataset, PurgeDone, PurgeUnderWay, WipeDone, WipeUnderWay, purge_told, purged_line, wipe_told, wiped_line};
+ghost use Rattle.fd_outcome.specs.{Asking.{rules_of}, Outcome.{reclaimed, reported}, Reclaiming.{InDataset, PurgeDone, PurgeUnderWay, WipeDone, WipeUnderWay, purge_told, purged_line, wipe_told, wiped_line}};
 ghost use Rattle.fd_reclaim.specs.Halts.{IsRuled, LeavesHalted, Says, Unrules};
 
 use crate::halt::{Halt, of_fault, of_unruled};

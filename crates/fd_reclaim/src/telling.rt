@@ -1,9 +1,7 @@
 // The lines on the report.
 ghost use Rattle.std.specs.Prelude.{◌≡◌};
 ghost use Rattle.fd_bytes.specs.Causes.{Rose};
-ghost use Rattle.fd_outcome.specs.Causes.{WriterTooGreat, telling};
-ghost use Rattle.fd_outcome.specs.Reclaiming.{purged_line, wiped_line};
-ghost use Rattle.fd_outcome.specs.Told.{ToldOrNoMemory};
+ghost use Rattle.fd_outcome.specs.{Causes.{WriterTooGreat, telling}, Reclaiming.{purged_line, wiped_line}, Told.{ToldOrNoMemory}};
 ghost use Rattle.fd_reclaim.specs.Halts.{OnDisk, ToldHalt};
 
 use crate::halt::Halt;

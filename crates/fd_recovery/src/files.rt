@@ -1,8 +1,7 @@
 ghost use Rattle.std.specs.Prelude.{◌≡◌, ◌≤◌, [], ◌∷◌, Option, Some, IfOk, IfErr, OnOk, IfSome, IsSome};
 ghost use Rattle.fd_bytes.specs.Causes.{Rose};
 ghost use Rattle.fd_disk.specs.Renewals.{StandsStill};
-ghost use Rattle.fd_recovery.specs.Causes.{OnFileDamaged, OnFileDisk};
-ghost use Rattle.fd_recovery.specs.Damages.{damages_of, digest_damages, index_file};
+ghost use Rattle.fd_recovery.specs.{Causes.{OnFileDamaged, OnFileDisk}, Damages.{damages_of, digest_damages, index_file}};
 ghost use Rattle.fd_segment.specs.Copying.{IsDigestOf};
 
 use crate::fault::FileFault;

@@ -1,17 +1,10 @@
 ghost use Rattle.std.specs.Prelude.{◌≡◌, ◌⊎◌, ◌≤◌, [], List, ℕ, None, Ok, Err, is_some, false, IfOk, IfErr, IfSome, IsSome, OnOk, OnErr, option_map, map, length};
 ghost use Rattle.fd_bytes.specs.Causes.{Rose};
-ghost use Rattle.fd_disk.specs.Folders.{without_table};
-ghost use Rattle.fd_disk.specs.Images.{synced};
-ghost use Rattle.fd_disk.specs.Moments.{MayLeave};
-ghost use Rattle.fd_disk.specs.Renewals.{IsQuiet};
-ghost use Rattle.fd_entries.specs.declared.table.Entry.{Entry};
-ghost use Rattle.fd_entries.specs.Table.{AllFit, listed};
-ghost use Rattle.fd_segment.specs.Held.{batch_of};
-ghost use Rattle.fd_segment.specs.Shared.{AreOf, entries, standings};
+ghost use Rattle.fd_disk.specs.{Folders.{without_table}, Images.{synced}, Moments.{MayLeave}, Renewals.{IsQuiet}};
+ghost use Rattle.fd_entries.specs.{declared.table.Entry.{Entry}, Table.{AllFit, listed}};
+ghost use Rattle.fd_segment.specs.{Held.{batch_of}, Shared.{AreOf, entries, standings}};
 ghost use Rattle.fd_toc.specs.Lists.{Lists};
-ghost use Rattle.fd_recovery.specs.Causes.{IsOfTable, NotTooMany, OnDamaged, OnDisk, OnNotATable};
-ghost use Rattle.fd_recovery.specs.Damages.{IsFirst, damages};
-ghost use Rattle.fd_recovery.specs.Recovered.{AreTakenUp, ReadsImage, ReadsIndex, TableFailed, WithTable, all_of, held, with_firm_table};
+ghost use Rattle.fd_recovery.specs.{Causes.{IsOfTable, NotTooMany, OnDamaged, OnDisk, OnNotATable}, Damages.{IsFirst, damages}, Recovered.{AreTakenUp, ReadsImage, ReadsIndex, TableFailed, WithTable, all_of, held, with_firm_table}};
 
 use crate::OpenFault;
 use crate::fault::FileFault;

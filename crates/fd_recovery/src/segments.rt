@@ -1,9 +1,7 @@
 ghost use Rattle.std.specs.Prelude.{◌≡◌, ◌≤◌, ◌⊎◌, [], Option, IfOk, IfErr, IfSome, IsSome};
 ghost use Rattle.fd_bytes.specs.Causes.{Rose};
 ghost use Rattle.fd_disk.specs.Renewals.{StandsStill};
-ghost use Rattle.fd_recovery.specs.Causes.{OnFileDamaged, OnFileDisk};
-ghost use Rattle.fd_recovery.specs.Damages.{IsFirst, damages, damages_at, field_file};
-ghost use Rattle.fd_recovery.specs.Recovered.{AreTakenUp, IsNamed, SomeDigest, files_of};
+ghost use Rattle.fd_recovery.specs.{Causes.{OnFileDamaged, OnFileDisk}, Damages.{IsFirst, damages, damages_at, field_file}, Recovered.{AreTakenUp, IsNamed, SomeDigest, files_of}};
 ghost use Rattle.fd_segment.specs.Shared.{standings};
 
 use crate::fault::FileFault;

@@ -1,11 +1,7 @@
 // The ends of ranges, and the values behind them.
-ghost use Rattle.std.specs.Prelude.{◌≡◌, ◌<◌, ◌≤◌, ◌-◌, ◌^◌, ℤ, pos, neg_ℤ, ◌-ℤ◌, ◌≤ℤ◌, IsTrue, IfOk, IfSome, option_map, string_bytes};
-ghost use Rattle.std.specs.Fmt.{signed_decimal};
-ghost use Rattle.fd_spelling.specs.Names.{is_value};
-ghost use Rattle.fd_spelling.specs.Civil.{is_date};
-ghost use Rattle.fd_request.specs.Ranges.{whole, signed_whole, hour_of, day_if, day_of, end_in, end_of, place, same_kind, distance, distance_if, text_behind, step_of};
-ghost use Rattle.fd_request.specs.Ranges.{Number, OnDay};
-ghost use Rattle.fd_request.specs.Seen.{seen_day, seen_end, Fits};
+ghost use Rattle.std.specs.{Prelude.{◌≡◌, ◌<◌, ◌≤◌, ◌-◌, ◌^◌, ℤ, pos, neg_ℤ, ◌-ℤ◌, ◌≤ℤ◌, IsTrue, IfOk, IfSome, option_map, string_bytes}, Fmt.{signed_decimal}};
+ghost use Rattle.fd_spelling.specs.{Names.{is_value}, Civil.{is_date}};
+ghost use Rattle.fd_request.specs.{Ranges.{whole, signed_whole, hour_of, day_if, day_of, end_in, end_of, place, same_kind, distance, distance_if, text_behind, step_of}, Ranges.{Number, OnDay}, Seen.{seen_day, seen_end, Fits}};
 
 use crate::day::Day;
 use fd_bytes::NoMemory;

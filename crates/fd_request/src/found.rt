@@ -1,7 +1,6 @@
 // The keywords that were found so far.
 ghost use Rattle.std.specs.Prelude.{◌≡◌, ◌++◌, ◌∷◌, [], ◌+◌, IfOk, length};
-ghost use Rattle.fd_request.specs.Grammar.{has_name};
-ghost use Rattle.fd_request.specs.Keywords.{seen_keywords, AreNames};
+ghost use Rattle.fd_request.specs.{Grammar.{has_name}, Keywords.{seen_keywords, AreNames}};
 
 use crate::keyword::Keyword;
 use fd_bytes::NoMemory;

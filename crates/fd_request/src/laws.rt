@@ -1,9 +1,7 @@
 // What the expansion of a request is, by numbers.
 ghost use Rattle.std.specs.Prelude.{◌≡◌, ◌*◌, ◌/◌, ◌%◌, ℕ, List, ◌∷◌, length, Some, slice_get};
 ghost use Rattle.fd_key.specs.Pairs.{Pair};
-ghost use Rattle.fd_request.specs.Expansion.{Keyword, expand};
-ghost use Rattle.fd_request.specs.Ranges.{between};
-ghost use Rattle.fd_request.specs.Reached.{IsRange};
+ghost use Rattle.fd_request.specs.{Expansion.{Keyword, expand}, Ranges.{between}, Reached.{IsRange}};
 
 /// A request has as many keys as the product of its counts of values.
 pub fn count_of_keys()

@@ -1,10 +1,6 @@
 // The limits of requests.
 ghost use Rattle.std.specs.Prelude.{◌≡◌, ◌≤◌, Some, None, IfOk, IfErr, length};
-ghost use Rattle.fd_request.specs.Expansion.{expand};
-ghost use Rattle.fd_request.specs.Limits.{too_many, longest_text, longest_key, within_limits};
-ghost use Rattle.fd_request.specs.Keywords.{seen_keywords};
-ghost use Rattle.fd_request.specs.Values.{seen_values};
-ghost use Rattle.fd_request.specs.Reading.{Gives};
+ghost use Rattle.fd_request.specs.{Expansion.{expand}, Limits.{too_many, longest_text, longest_key, within_limits}, Keywords.{seen_keywords}, Values.{seen_values}, Reading.{Gives}};
 
 use crate::fault::{Refusal, RequestKind};
 use crate::keyword::Keyword;

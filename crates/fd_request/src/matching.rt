@@ -1,16 +1,8 @@
 // The values of keywords, asked for by their texts.
-ghost use Rattle.std.specs.Prelude.{◌≡◌, ◌↔◌, ◌==◌, ◌&&◌, ◌+◌, ◌/◌, ◌%◌, ◌^◌, ℤ, pos, neg_ℤ, ◌≤ℤ◌, nat_lt, IsTrue, Some, option_map};
-ghost use Rattle.std.specs.List.{list_any, Contains};
-ghost use Rattle.std.specs.Str.{bytes_eq};
-ghost use Rattle.std.specs.Fmt.{signed_decimal};
+ghost use Rattle.std.specs.{Prelude.{◌≡◌, ◌↔◌, ◌==◌, ◌&&◌, ◌+◌, ◌/◌, ◌%◌, ◌^◌, ℤ, pos, neg_ℤ, ◌≤ℤ◌, nat_lt, IsTrue, Some, option_map}, List.{list_any, Contains}, Str.{bytes_eq}, Fmt.{signed_decimal}};
 ghost use Rattle.fd_spelling.specs.Civil.{date_text, time_text};
 ghost use Rattle.fd_schema.specs.Seen.{texts};
-ghost use Rattle.fd_request.specs.Ranges.{text_behind};
-ghost use Rattle.fd_request.specs.Seen.{seen_end};
-ghost use Rattle.fd_request.specs.Values.{seen_range, seen_values};
-ghost use Rattle.fd_request.specs.Keywords.{seen_keyword};
-ghost use Rattle.fd_request.specs.Behind.{ReadsBehind};
-ghost use Rattle.fd_request.specs.Matching.{Admits};
+ghost use Rattle.fd_request.specs.{Ranges.{text_behind}, Seen.{seen_end}, Values.{seen_range, seen_values}, Keywords.{seen_keyword}, Behind.{ReadsBehind}, Matching.{Admits}};
 
 use crate::end::{End, day_of, distance, hour_of};
 use crate::keyword::Keyword;

@@ -1,7 +1,5 @@
 ghost use Rattle.std.specs.Prelude.{◌↔◌, IsTrue};
-ghost use Rattle.fd_request.specs.Limits.{partial_of};
-ghost use Rattle.fd_request.specs.Reading.{GivesKeywords};
-ghost use Rattle.fd_request.specs.Matching.{Matches};
+ghost use Rattle.fd_request.specs.{Limits.{partial_of}, Reading.{GivesKeywords}, Matching.{Matches}};
 
 use crate::fault::RequestFault;
 use crate::keyword::Keyword;

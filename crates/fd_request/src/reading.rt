@@ -3,12 +3,7 @@ ghost use Rattle.std.specs.Prelude.{◌≡◌, ◌<◌, ◌≤◌, ◌+◌, [], 
 ghost use Rattle.fd_spelling.specs.Names.{is_name, is_value, lower};
 ghost use Rattle.fd_tokens.specs.Tokens.{view, views, parts, tokens};
 ghost use Rattle.fd_schema.specs.Seen.{texts};
-ghost use Rattle.fd_request.specs.Ranges.{range_of};
-ghost use Rattle.fd_request.specs.Grammar.{marks, each_of, verb_of, value_of, value_in, values_of, range_or, word_texts, behind_words, led, has_name, behind_name, name_of, keyword_of, keyword_in, request_in, keywords_of};
-ghost use Rattle.fd_request.specs.Seen.{seen_word, seen_words};
-ghost use Rattle.fd_request.specs.Values.{seen_values, AreValues};
-ghost use Rattle.fd_request.specs.Keywords.{seen_keyword, seen_keywords, differ_after};
-ghost use Rattle.fd_request.specs.Reading.{Gives};
+ghost use Rattle.fd_request.specs.{Ranges.{range_of}, Grammar.{marks, each_of, verb_of, value_of, value_in, values_of, range_or, word_texts, behind_words, led, has_name, behind_name, name_of, keyword_of, keyword_in, request_in, keywords_of}, Seen.{seen_word, seen_words}, Values.{seen_values, AreValues}, Keywords.{seen_keyword, seen_keywords, differ_after}, Reading.{Gives}};
 
 use crate::fault::{Refusal, RequestKind};
 use crate::found::Found;

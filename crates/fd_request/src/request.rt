@@ -1,11 +1,5 @@
 ghost use Rattle.std.specs.Prelude.{◌≡◌, ◌<◌, ◌≤◌, [], Some, IfOk, true, length, slice_get};
-ghost use Rattle.fd_request.specs.Expansion.{expand};
-ghost use Rattle.fd_request.specs.Grammar.{wrong, TooLong};
-ghost use Rattle.fd_request.specs.Limits.{request_of};
-ghost use Rattle.fd_request.specs.Keywords.{seen_keywords, differ_after};
-ghost use Rattle.fd_request.specs.Reading.{GivesKeywords};
-ghost use Rattle.fd_request.specs.Requests.{IsPlace, IsFaultOf};
-ghost use Rattle.fd_request.specs.Spelled.{IsSpelled};
+ghost use Rattle.fd_request.specs.{Expansion.{expand}, Grammar.{wrong, TooLong}, Limits.{request_of}, Keywords.{seen_keywords, differ_after}, Reading.{GivesKeywords}, Requests.{IsPlace, IsFaultOf}, Spelled.{IsSpelled}};
 
 use crate::fault::{Refusal, RequestFault, RequestKind};
 use crate::keyword::Keyword;
@@ -29,8 +23,7 @@ pub struct Request {
 impl Model for Request {
     ghost use Rattle.std.specs.Prelude.{List};
     ghost use Rattle.fd_request.specs.Expansion as expansion;
-    ghost use Rattle.fd_request.specs.Keywords.{seen_keywords};
-    ghost use Rattle.fd_request.specs.Requests.{IsRequest};
+    ghost use Rattle.fd_request.specs.{Keywords.{seen_keywords}, Requests.{IsRequest}};
 
     ghost Value = { List expansion.Keyword };
 

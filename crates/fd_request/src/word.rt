@@ -1,10 +1,7 @@
 // Values as they are written.
-ghost use Rattle.std.specs.Prelude.{◌≡◌, ◌<◌, length, IfOk, option_map};
-ghost use Rattle.std.specs.List.{list_any};
+ghost use Rattle.std.specs.{Prelude.{◌≡◌, ◌<◌, length, IfOk, option_map}, List.{list_any}};
 ghost use Rattle.fd_tokens.specs.Tokens.{view, views};
-ghost use Rattle.fd_request.specs.Ranges.{is_to, is_by};
-ghost use Rattle.fd_request.specs.Grammar.{front_place, first_place, past, led, begins, word_of, words_of, is_range_word, behind_words};
-ghost use Rattle.fd_request.specs.Seen.{seen_word, seen_words};
+ghost use Rattle.fd_request.specs.{Ranges.{is_to, is_by}, Grammar.{front_place, first_place, past, led, begins, word_of, words_of, is_range_word, behind_words}, Seen.{seen_word, seen_words}};
 
 use fd_bytes::NoMemory;
 use fd_tokens::{Token, part_from};

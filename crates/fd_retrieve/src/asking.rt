@@ -2,8 +2,7 @@
 ghost use Rattle.std.specs.Prelude.{◌≡◌, ◌⊎◌, ◌≤◌, ◌<◌, [], List, ℕ, Some, Ok, length, map, slice_get, IfOk, IfErr, IfSome, OnOk};
 ghost use Rattle.fd_bytes.specs.Causes.{Rose};
 ghost use Rattle.fd_key.specs.Pairs.{Pair};
-ghost use Rattle.fd_schema.specs.Reading.{seen_place};
-ghost use Rattle.fd_schema.specs.Rules.{place_from};
+ghost use Rattle.fd_schema.specs.{Reading.{seen_place}, Rules.{place_from}};
 ghost use Rattle.fd_request.specs.Expansion.{expand};
 ghost use Rattle.fd_outcome.specs.Asking.{placed, request_in};
 ghost use Rattle.fd_answering.specs.Finding.{asked_of_all};

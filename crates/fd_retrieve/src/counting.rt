@@ -1,21 +1,12 @@
 // How many keys are found.
 ghost use Rattle.std.specs.Prelude.{◌≡◌, ◌≤◌, ◌<◌, List, ℕ, Option, Some, None, false, length, map, filter, IfOk, IfErr, IfSome, slice_index_or};
 ghost use Rattle.fd_disk.specs.Folders.{WhereTold};
-ghost use Rattle.fd_schema.specs.Reading.{seen_place};
-ghost use Rattle.fd_schema.specs.declared.place.Place.{Place};
-ghost use Rattle.fd_outcome.specs.Asking.{count_distinct};
-ghost use Rattle.fd_outcome.specs.Store.{Stays, has_table, table_at};
-ghost use Rattle.fd_outcome.specs.Trying.{tally_of};
-ghost use Rattle.fd_ahead.specs.Places.{AreIn};
-ghost use Rattle.fd_ahead.specs.Reading.{IsStock};
-ghost use Rattle.fd_answering.specs.Damages.{IsDamagedAt};
-ghost use Rattle.fd_retrieve.specs.Open.{table_in};
-ghost use Rattle.fd_answering.specs.Located.{IsAt};
-ghost use Rattle.fd_retrieve.specs.Located.{AreLocated, IsIn, OnLost};
-ghost use Rattle.fd_retrieve.specs.Looking.{IsLookedThrough};
-ghost use Rattle.fd_retrieve.specs.Counting.{IsBrokenAmong, IsLength, IsOfKeys, IsLostIn, IsTally, finds, with_length};
+ghost use Rattle.fd_schema.specs.{Reading.{seen_place}, declared.place.Place.{Place}};
+ghost use Rattle.fd_outcome.specs.{Asking.{count_distinct}, Store.{Stays, has_table, table_at}, Trying.{tally_of}};
+ghost use Rattle.fd_ahead.specs.{Places.{AreIn}, Reading.{IsStock}};
+ghost use Rattle.fd_answering.specs.{Damages.{IsDamagedAt}, Located.{IsAt}};
+ghost use Rattle.fd_retrieve.specs.{Open.{table_in}, Located.{AreLocated, IsIn, OnLost}, Looking.{IsLookedThrough}, Counting.{IsBrokenAmong, IsLength, IsOfKeys, IsLostIn, IsTally, finds, with_length}, Tables.{datasets_in}};
 ghost use Rattle.fd_telling.specs.Stops.{OnTooMany};
-ghost use Rattle.fd_retrieve.specs.Tables.{datasets_in};
 
 use crate::locating::{Lost, locate};
 use crate::preparing::open_all;

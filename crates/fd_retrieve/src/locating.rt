@@ -1,7 +1,5 @@
 // Where the newest fields of a request's keys stand.
-ghost use Rattle.std.specs.Prelude.{◌≡◌, ◌≤◌, ◌<◌, ◌+◌, ◌++◌, ◌∷◌, [], List, ℕ, Option, Some, None, cond, length, slice_get, slice_index_or, IfOk, IfErr, IfSome, OnOk};
-ghost use Rattle.std.specs.BTreeMap.{get_by_text};
-ghost use Rattle.std.specs.Str.{bytes_eq};
+ghost use Rattle.std.specs.{Prelude.{◌≡◌, ◌≤◌, ◌<◌, ◌+◌, ◌++◌, ◌∷◌, [], List, ℕ, Option, Some, None, cond, length, slice_get, slice_index_or, IfOk, IfErr, IfSome, OnOk}, BTreeMap.{get_by_text}, Str.{bytes_eq}};
 ghost use Rattle.fd_schema.specs.Reading.{seen_place};
 ghost use Rattle.fd_retrieve.specs.Located.{AreDealt, AreGroups, AreLocated, AreLocatedBy, AreNumbersOf, ArePlacesOf, AreWithin, IsFilled, IsNumberOf, OnLost, keys_in, located_in};
 ghost use Rattle.fd_answering.specs.Damages.{IsDamagedAt};

@@ -1,16 +1,11 @@
 // A dataset of the store that was opened, and given back.
 ghost use Rattle.std.specs.Prelude.{◌≡◌, ◌≤◌, List, ℕ, Option, Some, None, Ok, Err, false, is_some, length, IfOk, IfErr, IfSome};
 ghost use Rattle.fd_disk.specs.Folders.{WhereTold, folder_at};
-ghost use Rattle.fd_entries.specs.declared.table.Entry.{Entry};
-ghost use Rattle.fd_entries.specs.Table.{listed};
+ghost use Rattle.fd_entries.specs.{declared.table.Entry.{Entry}, Table.{listed}};
 ghost use Rattle.fd_segment.specs.Shared.{AreOf, standings};
-ghost use Rattle.fd_recovery.specs.Causes.{NotTooMany, OnDamaged, OnNotATable};
-ghost use Rattle.fd_recovery.specs.Crashing.{IsFirmTable};
-ghost use Rattle.fd_recovery.specs.Damages.{IsFirst, damages};
-ghost use Rattle.fd_recovery.specs.Recovered.{IsUndamaged, WithTable};
+ghost use Rattle.fd_recovery.specs.{Causes.{NotTooMany, OnDamaged, OnNotATable}, Crashing.{IsFirmTable}, Damages.{IsFirst, damages}, Recovered.{IsUndamaged, WithTable}};
 ghost use Rattle.fd_outcome.specs.Store.{StaysFolder, Stays, has_table};
-ghost use Rattle.fd_retrieve.specs.Looking.{IsLookedAt, IsLookedThrough};
-ghost use Rattle.fd_retrieve.specs.Open.{IsOpenOf, IsOpenIn, StandsAsSaid};
+ghost use Rattle.fd_retrieve.specs.{Looking.{IsLookedAt, IsLookedThrough}, Open.{IsOpenOf, IsOpenIn, StandsAsSaid}};
 
 use fd_ahead::Opened;
 use fd_bytes::{Bytes, NoMemory};

@@ -3,18 +3,11 @@ ghost use Rattle.std.specs.Prelude.{◌≡◌, ◌≤◌, [], ◌∷◌, List, �
 ghost use Rattle.fd_bytes.specs.Causes.{Rose};
 ghost use Rattle.fd_disk.specs.Folders.{WhereTold, folder_at};
 ghost use Rattle.fd_schema.specs.Seen.{texts};
-ghost use Rattle.fd_recovery.specs.Causes.{NotTooMany};
-ghost use Rattle.fd_recovery.specs.Crashing.{IsFirmTable};
-ghost use Rattle.fd_recovery.specs.Recovered.{IsUndamaged};
+ghost use Rattle.fd_recovery.specs.{Causes.{NotTooMany}, Crashing.{IsFirmTable}, Recovered.{IsUndamaged}};
 ghost use Rattle.fd_request.specs.Expansion.{expand};
-ghost use Rattle.fd_outcome.specs.Asking.{asked_of, rules_of};
-ghost use Rattle.fd_outcome.specs.Ends.{AmongAsked};
-ghost use Rattle.fd_outcome.specs.Noticing.{IsUnread};
-ghost use Rattle.fd_outcome.specs.Store.{Stays};
+ghost use Rattle.fd_outcome.specs.{Asking.{asked_of, rules_of}, Ends.{AmongAsked}, Noticing.{IsUnread}, Store.{Stays}};
 ghost use Rattle.fd_objects.specs.Given.{source_of};
-ghost use Rattle.fd_retrieve.specs.Looking.{IsLookedThrough};
-ghost use Rattle.fd_retrieve.specs.Ready.{AreFirmOf, AreOpen, NoneIsDamaged, IsBrokenOf, IsReady, IsUnopened, MayOpen, asked_at, placed_of};
-ghost use Rattle.fd_retrieve.specs.Tables.{datasets_in};
+ghost use Rattle.fd_retrieve.specs.{Looking.{IsLookedThrough}, Ready.{AreFirmOf, AreOpen, NoneIsDamaged, IsBrokenOf, IsReady, IsUnopened, MayOpen, asked_at, placed_of}, Tables.{datasets_in}};
 ghost use Rattle.fd_telling.specs.Stops.{IsOfRequest, IsRefused, OfDataset, OnInput, OnRefusal, Says};
 
 use crate::asking::{places_of, request_of};

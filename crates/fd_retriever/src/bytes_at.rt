@@ -2,11 +2,8 @@
 ghost use Rattle.std.specs.Prelude.{◌≡◌, ◌≤◌, ◌+◌, ◌-◌, ◌⊎◌, length, slice_get, Contains, IfOk, IfErr, IfSome, IsSome, OnOk};
 ghost use Rattle.fd_bytes.specs.Causes.{Rose};
 ghost use Rattle.fd_segment.specs.Causes as segments;
-ghost use Rattle.fd_segment.specs.Causes.{IsBadFrame, IsBadIndex, IsFieldDamage};
-ghost use Rattle.fd_segment.specs.Copying.{IsCopied, IsCopiedInPart, IsDigestedAt, IsPiece};
-ghost use Rattle.fd_segment.specs.Held.{Files, behind};
-ghost use Rattle.fd_retriever.specs.Kept.{AreThose, Kept};
-ghost use Rattle.fd_retriever.specs.Answers.{OnDamaged, OnWrite, UnlessWrite, Unwritten};
+ghost use Rattle.fd_segment.specs.{Causes.{IsBadFrame, IsBadIndex, IsFieldDamage}, Copying.{IsCopied, IsCopiedInPart, IsDigestedAt, IsPiece}, Held.{Files, behind}};
+ghost use Rattle.fd_retriever.specs.{Kept.{AreThose, Kept}, Answers.{OnDamaged, OnWrite, UnlessWrite, Unwritten}};
 
 use crate::checked::copy_checked;
 use crate::fault::FetchFault;

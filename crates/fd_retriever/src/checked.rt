@@ -1,9 +1,7 @@
 //! The bytes at a place of an opened segment, checked and copied.
 ghost use Rattle.std.specs.Prelude.{◌≡◌, ◌≤◌, ◌+◌, List, ℕ, Some, IfErr, IsSome, OnOk};
 ghost use Rattle.fd_bytes.specs.Causes.{Rose};
-ghost use Rattle.fd_segment.specs.Causes.{IsFieldDamage, IsPlace, StandsForNone};
-ghost use Rattle.fd_segment.specs.Copying.{IsCopied, IsCopiedInPart, IsDigestedAt};
-ghost use Rattle.fd_segment.specs.Held.{behind};
+ghost use Rattle.fd_segment.specs.{Causes.{IsFieldDamage, IsPlace, StandsForNone}, Copying.{IsCopied, IsCopiedInPart, IsDigestedAt}, Held.{behind}};
 ghost use Rattle.fd_retriever.specs.Answers.{OnDamaged, OnWrite, UnlessWrite, Unwritten};
 
 use crate::fault::FetchFault;

@@ -1,12 +1,9 @@
 ghost use Rattle.std.specs.Prelude.{◌≡◌, ◌≤◌, List, map, IfOk, IfErr};
 ghost use Rattle.fd_bytes.specs.Causes.{Rose};
-ghost use Rattle.fd_entries.specs.declared.batch.Pair.{Pair};
-ghost use Rattle.fd_entries.specs.Batches.{newest};
-ghost use Rattle.fd_schema.specs.Rules.{file_key};
-ghost use Rattle.fd_schema.specs.Reading.{seen_place};
+ghost use Rattle.fd_entries.specs.{declared.batch.Pair.{Pair}, Batches.{newest}};
+ghost use Rattle.fd_schema.specs.{Rules.{file_key}, Reading.{seen_place}};
 ghost use Rattle.fd_dataset.specs.Listed.{listing};
-ghost use Rattle.fd_retriever.specs.Kept.{AreThose, Fits};
-ghost use Rattle.fd_retriever.specs.Answers.{AllSay, IsAnswer, OnDamaged, OnWrite, SomeUntold, StandsAmong, Tells, TookAsMany, TookFront, UnlessWrite, Unwritten};
+ghost use Rattle.fd_retriever.specs.{Kept.{AreThose, Fits}, Answers.{AllSay, IsAnswer, OnDamaged, OnWrite, SomeUntold, StandsAmong, Tells, TookAsMany, TookFront, UnlessWrite, Unwritten}};
 
 use crate::fault::{FetchFault, Got};
 use crate::lenses::Lenses;

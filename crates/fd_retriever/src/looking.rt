@@ -1,11 +1,9 @@
 ghost use Rattle.std.specs.Prelude.{◌≡◌, ◌≤◌, ◌⊎◌, List, Some, None, Contains, IfOk, IfErr, OnErr};
 ghost use Rattle.fd_bytes.specs.Causes.{Rose};
-ghost use Rattle.fd_entries.specs.declared.batch.Pair.{Pair};
-ghost use Rattle.fd_entries.specs.Batches.{of_batch};
+ghost use Rattle.fd_entries.specs.{declared.batch.Pair.{Pair}, Batches.{of_batch}};
 ghost use Rattle.fd_segment.specs.Held.{Files, batch_of};
 ghost use Rattle.fd_dataset.specs.Listed.{listing_in};
-ghost use Rattle.fd_retriever.specs.Kept.{Kept};
-ghost use Rattle.fd_retriever.specs.Answers.{IsAnswer, IsMet, OnDamaged, OnWrite, Says, StandsIn, TookAsMany, TookFront, UnlessWrite, Unwritten};
+ghost use Rattle.fd_retriever.specs.{Kept.{Kept}, Answers.{IsAnswer, IsMet, OnDamaged, OnWrite, Says, StandsIn, TookAsMany, TookFront, UnlessWrite, Unwritten}};
 
 use crate::checked::copy_checked;
 use crate::fault::{FetchFault, Got};

@@ -1,8 +1,5 @@
-ghost use Rattle.std.specs.Prelude.{ℕ, ◌≡◌, ◌/◌, ◌%◌, ◌+◌, ◌-◌, ◌++◌, ◌≤◌, ◌^◌, ◌<◌, ◌*◌, IfOk, OnOk, ◌≤ℤ◌, ◌+ℤ◌, pos};
-ghost use Rattle.std.specs.Option.{SomeIff};
-ghost use Rattle.std.specs.String.{string_bytes};
-ghost use Rattle.fd_scaled.specs.Decimal.{last_digits, numerator, denominator, above, below, IsRounded, IsNearest};
-ghost use Rattle.fd_scaled.specs.Answers.{DecimalsAre};
+ghost use Rattle.std.specs.{Prelude.{ℕ, ◌≡◌, ◌/◌, ◌%◌, ◌+◌, ◌-◌, ◌++◌, ◌≤◌, ◌^◌, ◌<◌, ◌*◌, IfOk, OnOk, ◌≤ℤ◌, ◌+ℤ◌, pos}, Option.{SomeIff}, String.{string_bytes}};
+ghost use Rattle.fd_scaled.specs.{Decimal.{last_digits, numerator, denominator, above, below, IsRounded, IsNearest}, Answers.{DecimalsAre}};
 
 use crate::Scaled;
 use crate::fault::DecimalFault;

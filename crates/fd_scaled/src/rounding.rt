@@ -1,7 +1,6 @@
 //! Whole numbers times powers, and quotients rounded to even.
 
-ghost use Rattle.std.specs.Prelude.{◌≡◌, ◌*◌, ◌^◌, ◌<◌, ◌≤◌};
-ghost use Rattle.std.specs.Option.{SomeIff};
+ghost use Rattle.std.specs.{Prelude.{◌≡◌, ◌*◌, ◌^◌, ◌<◌, ◌≤◌}, Option.{SomeIff}};
 ghost use Rattle.fd_scaled.specs.Decimal.{rounded};
 
 /// x * base^count, where that is below the limit.

@@ -1,10 +1,7 @@
 // Rules, from the first token to the last.
 ghost use Rattle.std.specs.Prelude.{◌≡◌, ◌≤◌, ◌-◌, length, IfOk};
 ghost use Rattle.fd_tokens.specs.Tokens.{view, views};
-ghost use Rattle.fd_schema.specs.Rules.{same_level};
-ghost use Rattle.fd_schema.specs.Grammar.{opened, closed, is_required, has_required, rule_of, rules_of};
-ghost use Rattle.fd_schema.specs.Seen.{seen_items, seen_rules, seen_rule, seen_want};
-ghost use Rattle.fd_schema.specs.Reading.{Gives, seen_wrong};
+ghost use Rattle.fd_schema.specs.{Rules.{same_level}, Grammar.{opened, closed, is_required, has_required, rule_of, rules_of}, Seen.{seen_items, seen_rules, seen_rule, seen_want}, Reading.{Gives, seen_wrong}};
 
 use crate::fault::{Refusal, Wrong};
 use crate::items::{behind, level_of};

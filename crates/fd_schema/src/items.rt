@@ -1,12 +1,8 @@
 // The items of a level.
-ghost use Rattle.std.specs.Prelude.{◌≡◌, ◌≤◌, IsTrue, length, string_bytes};
-ghost use Rattle.std.specs.List.{prefix_len};
+ghost use Rattle.std.specs.{Prelude.{◌≡◌, ◌≤◌, IsTrue, length, string_bytes}, List.{prefix_len}};
 ghost use Rattle.fd_spelling.specs.Names.{is_name, is_name_byte};
 ghost use Rattle.fd_tokens.specs.Tokens.{view, views};
-ghost use Rattle.fd_schema.specs.Rules.{has_name};
-ghost use Rattle.fd_schema.specs.Grammar.{name_of, want_of, item_of, items_of, level_of, is_bracket, bracket_place, behind, front};
-ghost use Rattle.fd_schema.specs.Seen.{seen_items, seen_item, seen_want};
-ghost use Rattle.fd_schema.specs.Reading.{Gives};
+ghost use Rattle.fd_schema.specs.{Rules.{has_name}, Grammar.{name_of, want_of, item_of, items_of, level_of, is_bracket, bracket_place, behind, front}, Seen.{seen_items, seen_item, seen_want}, Reading.{Gives}};
 
 use crate::fault::{Refusal, Wrong};
 use crate::rule::{Item, Level, Version, Want};

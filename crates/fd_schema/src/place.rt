@@ -1,11 +1,6 @@
 // The place of a key: the first rule that admits it, and the three texts that the rule makes of it.
-ghost use Rattle.std.specs.Prelude.{◌≡◌, ◌≤◌, ℕ, List, IfOk, OnOk, string_bytes, length, is_some};
-ghost use Rattle.std.specs.List.{list_all, list_any};
-ghost use Rattle.std.specs.Str.{bytes_eq};
-ghost use Rattle.std.specs.Option.{option_copied};
-ghost use Rattle.fd_schema.specs.Rules.{suits, suits_key, has_meaning, is_known, admits, file_key, joined_behind, level_text, place_from};
-ghost use Rattle.fd_schema.specs.Seen.{seen_items, seen_want, seen_rule, seen_rules, texts};
-ghost use Rattle.fd_schema.specs.Reading.{GivesPlace, seen_place};
+ghost use Rattle.std.specs.{Prelude.{◌≡◌, ◌≤◌, ℕ, List, IfOk, OnOk, string_bytes, length, is_some}, List.{list_all, list_any}, Str.{bytes_eq}, Option.{option_copied}};
+ghost use Rattle.fd_schema.specs.{Rules.{suits, suits_key, has_meaning, is_known, admits, file_key, joined_behind, level_text, place_from}, Seen.{seen_items, seen_want, seen_rule, seen_rules, texts}, Reading.{GivesPlace, seen_place}};
 
 use crate::fault::PlaceFault;
 use crate::grammar::same_level;

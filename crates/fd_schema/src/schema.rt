@@ -1,11 +1,7 @@
 ghost use Rattle.std.specs.Prelude.{◌≡◌, ◌≤◌, ◌==◌, List, IfOk, Ok, length, take, drop, count_by, slice_index, string_bytes, is_some};
 ghost use Rattle.fd_key.specs.Pairs.{key_text};
-ghost use Rattle.fd_schema.specs.Rules.{IsShort, place_from};
+ghost use Rattle.fd_schema.specs.{Rules.{IsShort, place_from}, Grammar.{marks, written, version_behind, version_of, rules_in, schema_of}, Seen.{seen_rules}, Printed.{schema_text}, Reading.{Gives, GivesSchema, GivesPlace, Names, line_of, seen_place, seen_wrong}};
 ghost use Rattle.fd_tokens.specs.Tokens.{view, views};
-ghost use Rattle.fd_schema.specs.Grammar.{marks, written, version_behind, version_of, rules_in, schema_of};
-ghost use Rattle.fd_schema.specs.Seen.{seen_rules};
-ghost use Rattle.fd_schema.specs.Printed.{schema_text};
-ghost use Rattle.fd_schema.specs.Reading.{Gives, GivesSchema, GivesPlace, Names, line_of, seen_place, seen_wrong};
 
 use crate::fault::{PlaceFault, Refusal, SchemaFault, SchemaKind, Wrong};
 use crate::grammar::rules_of;
@@ -38,8 +34,7 @@ pub struct Schema {
 impl Model for Schema {
     ghost use Rattle.std.specs.Prelude.{List, ◌≤◌, length};
     ghost use Rattle.fd_schema.specs.Rules as rules_seen;
-    ghost use Rattle.fd_schema.specs.Grammar.{IsSchema};
-    ghost use Rattle.fd_schema.specs.Seen.{seen_rules};
+    ghost use Rattle.fd_schema.specs.{Grammar.{IsSchema}, Seen.{seen_rules}};
 
     ghost Value = { List rules_seen.Rule };
 

@@ -2,9 +2,7 @@
 ghost use Rattle.std.specs.Prelude.{◌≡◌, ℕ, Some, None, IfOk, IfSome, IsTrue, option_map, string_bytes, if◌then◌else◌};
 ghost use Rattle.fd_spelling.specs.Names.{is_value};
 ghost use Rattle.fd_tokens.specs.Tokens.{view, views};
-ghost use Rattle.fd_schema.specs.Grammar.{is_ascii, absent, begins_value, spelled, spelled_in, plain_value, value_of, values_of};
-ghost use Rattle.fd_schema.specs.Seen.{texts};
-ghost use Rattle.fd_schema.specs.Reading.{Gives, Fails};
+ghost use Rattle.fd_schema.specs.{Grammar.{is_ascii, absent, begins_value, spelled, spelled_in, plain_value, value_of, values_of}, Seen.{texts}, Reading.{Gives, Fails}};
 
 use crate::fault::{Refusal, Wrong};
 use crate::place::has_meaning;

@@ -1,11 +1,6 @@
 // Texts as lines.
-ghost use Rattle.std.specs.Prelude.{◌≡◌, ◌+◌, ◌∷◌, length, option_map, Some, None, IfSome, IfNone, IfOk, IfErr};
-ghost use Rattle.std.specs.Option.{option_copied};
-ghost use Rattle.std.specs.Prelude.{◌==◌};
-ghost use Rattle.std.specs.List.{position_or_len};
-ghost use Rattle.fd_script.specs.Lines.{lines_of};
-ghost use Rattle.fd_script.specs.Grammar.{Byte, foreign_byte, has_messages};
-ghost use Rattle.fd_script.specs.Lines.{lines_if};
+ghost use Rattle.std.specs.{Prelude.{◌≡◌, ◌+◌, ◌∷◌, length, option_map, Some, None, IfSome, IfNone, IfOk, IfErr}, Option.{option_copied}, Prelude.{◌==◌}, List.{position_or_len}};
+ghost use Rattle.fd_script.specs.{Lines.{lines_of}, Grammar.{Byte, foreign_byte, has_messages}, Lines.{lines_if}};
 
 use fd_schema::ascii_text;
 

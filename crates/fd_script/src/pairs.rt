@@ -1,6 +1,5 @@
 // Texts of datasets, names of lanes and numbers of messages.
-ghost use Rattle.std.specs.Prelude.{◌≡◌, IfOk};
-ghost use Rattle.std.specs.List.{list_all};
+ghost use Rattle.std.specs.{Prelude.{◌≡◌, IfOk}, List.{list_all}};
 ghost use Rattle.fd_key.specs.Given.{pieces_of};
 ghost use Rattle.fd_script.specs.Grammar.{is_spelled, is_dataset, is_lane_byte, is_lane_name, number_of, unless_zero};
 

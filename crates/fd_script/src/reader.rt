@@ -1,16 +1,10 @@
 // Scripts line by line.
-ghost use Rattle.std.specs.Prelude.{◌≡◌, ◌≤◌, ◌<◌, ◌+◌, ◌^◌, ◌∷◌, ◌++◌, [], List, ℕ, Option, Some, None, Result, Err, IfOk, IsSome, length, string_bytes};
-ghost use Rattle.std.specs.List.{AllZip, list_any};
-ghost use Rattle.std.specs.Str.{bytes_eq};
+ghost use Rattle.std.specs.{Prelude.{◌≡◌, ◌≤◌, ◌<◌, ◌+◌, ◌^◌, ◌∷◌, ◌++◌, [], List, ℕ, Option, Some, None, Result, Err, IfOk, IsSome, length, string_bytes}, List.{AllZip, list_any}, Str.{bytes_eq}};
 ghost use Rattle.fd_key.specs.Given.{given_of};
 ghost use Rattle.fd_request.specs.Limits.{request_of};
-ghost use Rattle.fd_script.specs.Grammar.{Group, dataset_in, few_or, given_wrong, is_messages, lane_wrong, lanes_from, last_lane, line_wrong, or_dataset, request_wrong, said_wrong, script_from, step_wrong, task_wrong, unended, unless_wrong};
+ghost use Rattle.fd_script.specs.{Grammar.{Group, dataset_in, few_or, given_wrong, is_messages, lane_wrong, lanes_from, last_lane, line_wrong, or_dataset, request_wrong, said_wrong, script_from, step_wrong, task_wrong, unended, unless_wrong}, Lines.{lines_of, said}, Scripts.{IsWithin}, Growing.{IsShort, after_said, onto_last}, Reading.{Gives, IsLane, IsRead, IsStep, Judges, Refuses, dataset_bytes, seen_said, seen_task}};
 ghost use Rattle.fd_script.specs.Grammar as grammar;
-ghost use Rattle.fd_script.specs.Lines.{lines_of, said};
 ghost use Rattle.fd_script.specs.Lines as lines;
-ghost use Rattle.fd_script.specs.Scripts.{IsWithin};
-ghost use Rattle.fd_script.specs.Growing.{IsShort, after_said, onto_last};
-ghost use Rattle.fd_script.specs.Reading.{Gives, IsLane, IsRead, IsStep, Judges, Refuses, dataset_bytes, seen_said, seen_task};
 
 use crate::fault::{Refusal, ScriptFault, ScriptKind};
 use crate::lines::{first_line, line_text};

@@ -1,8 +1,5 @@
 ghost use Rattle.std.specs.Prelude.{◌≡◌, ◌≤◌, ◌&&◌, All, IfOk, length, nat_lt, not};
-ghost use Rattle.fd_script.specs.Scripts.{IsWithin, HasStep, HasLine};
-ghost use Rattle.fd_script.specs.Grammar.{front_of, has_messages, script_of};
-ghost use Rattle.fd_script.specs.Lines.{lines_of};
-ghost use Rattle.fd_script.specs.Reading.{Gives};
+ghost use Rattle.fd_script.specs.{Scripts.{IsWithin, HasStep, HasLine}, Grammar.{front_of, has_messages, script_of}, Lines.{lines_of}, Reading.{Gives}};
 
 use crate::fault::{ScriptFault, ScriptKind};
 use crate::lines::has_messages;

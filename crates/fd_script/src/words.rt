@@ -1,8 +1,7 @@
 // What a line says.
 ghost use Rattle.std.specs.Prelude.{◌≡◌, option_map};
 ghost use Rattle.fd_spelling.specs.Numerals.{cut};
-ghost use Rattle.fd_script.specs.Lines.{is_silent, said, word_said, words_said};
-ghost use Rattle.fd_script.specs.Reading.{seen_said};
+ghost use Rattle.fd_script.specs.{Lines.{is_silent, said, word_said, words_said}, Reading.{seen_said}};
 
 /// What the line of a step asks for.
 #[derive(Clone, Copy)]

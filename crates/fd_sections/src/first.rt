@@ -1,8 +1,7 @@
 // What comes first in a stream.
 ghost use Rattle.std.specs.Prelude.{◌≡◌};
 ghost use Rattle.fd_bytes.specs.Numbers.{octets};
-ghost use Rattle.fd_sections.specs.Stream.{from_mark, first_at, first};
-ghost use Rattle.fd_sections.specs.FirstFound.{IsFirst, IsExact};
+ghost use Rattle.fd_sections.specs.{Stream.{from_mark, first_at, first}, FirstFound.{IsFirst, IsExact}};
 
 use crate::bad::Bad;
 use crate::fields::{MAX_LENGTH, octet, total_length};

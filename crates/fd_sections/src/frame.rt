@@ -1,6 +1,5 @@
 // What comes first in a stream of frames.
-ghost use Rattle.fd_sections.specs.Frames.{frame_at, first_frame};
-ghost use Rattle.fd_sections.specs.FoundFrames.{IsFirstFrame};
+ghost use Rattle.fd_sections.specs.{Frames.{frame_at, first_frame}, FoundFrames.{IsFirstFrame}};
 
 use crate::bad::Bad;
 use crate::fields::{MAX_LENGTH, octet, total_length};

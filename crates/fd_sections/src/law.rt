@@ -1,14 +1,6 @@
 ghost use Rattle.std.specs.Prelude.{◌≡◌, ◌≤◌, ◌-◌, ◌++◌, [], ◌∷◌, ℕ, List, length, take, drop};
-ghost use Rattle.fd_sections.specs.declared.refusal.BadAt.{BadAt};
-ghost use Rattle.fd_sections.specs.Joining.{EndsAs, GoesTo, IsRefusedStream, IsStream, IsWaiting, RefusesAs, SplitsOn};
-ghost use Rattle.fd_sections.specs.Progress.{Progress};
-ghost use Rattle.fd_sections.specs.Splitting.{answer, fed, finished, progress, start};
-ghost use Rattle.fd_sections.specs.Frames.{FramesEnd, FramesOn, FramesTo, IsFrames, first_frame, frame_answer, frame_progress, frames, read_frames};
-ghost use Rattle.fd_sections.specs.declared.bad.Bad.{Bad};
-ghost use Rattle.fd_sections.specs.Message.{Sections};
+ghost use Rattle.fd_sections.specs.{declared.refusal.BadAt.{BadAt}, Joining.{EndsAs, GoesTo, IsRefusedStream, IsStream, IsWaiting, RefusesAs, SplitsOn}, Progress.{Progress}, Splitting.{answer, fed, finished, progress, start}, Frames.{FramesEnd, FramesOn, FramesTo, IsFrames, first_frame, frame_answer, frame_progress, frames, read_frames}, declared.bad.Bad.{Bad}, Message.{Sections}, Reading.{reading}, Stream.{stream, first, first_at, taken, gap, pending, beginning, after, Refuses, Takes, Bad_end}};
 ghost use Rattle.fd_bytes.specs.Numbers.{octets};
-ghost use Rattle.fd_sections.specs.Reading.{reading};
-ghost use Rattle.fd_sections.specs.Stream.{stream, first, first_at, taken, gap, pending, beginning, after, Refuses, Takes, Bad_end};
 
 /// What holds of every stream of messages, in whatever pieces it comes.
 #[tactic(auto, using(crate::proofs::Pieces::streams, crate::proofs::Pending::pendings))]

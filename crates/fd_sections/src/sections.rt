@@ -1,5 +1,4 @@
-ghost use Rattle.std.specs.Prelude.{◌≡◌, ◌≤◌, length};
-ghost use Rattle.std.specs.Option.{option_copied};
+ghost use Rattle.std.specs.{Prelude.{◌≡◌, ◌≤◌, length}, Option.{option_copied}};
 ghost use Rattle.fd_sections.specs.Message.{section_octets};
 
 /// One whole GRIB edition 2 message (FM 92 GRIB, sections 0 to 8), lent from the octets that it was read from.

@@ -1,16 +1,5 @@
-ghost use Rattle.std.specs.Prelude.{◌≡◌, ◌≤◌, ◌<◌, ◌+◌, ◌^◌, [], length, drop, IfOk, IfSome, OnOk, OnErr, IsOk, Ok, Some, None};
-ghost use Rattle.std.specs.Borrow.{sem};
-ghost use Rattle.std.specs.Io.BufRead.{Rests};
-ghost use Rattle.fd_sections.specs.Stream.{first};
-ghost use Rattle.std.specs.Option.{option_map};
-ghost use Rattle.fd_sections.specs.Message.{Sections};
-ghost use Rattle.fd_sections.specs.Parts.{sections_of, IsWhole};
-ghost use Rattle.fd_sections.specs.Given.{Is};
-ghost use Rattle.fd_sections.specs.Reading.{reading};
-ghost use Rattle.fd_sections.specs.Joining.{GoesTo, SplitsOn};
-ghost use Rattle.fd_sections.specs.Splitting.{answer, answers_some, progress, finished, start, fed, passed};
-ghost use Rattle.fd_sections.specs.Frames.{first_frame, frame_answer, frame_comes, frame_progress, FramesTo};
-ghost use Rattle.fd_sections.specs.contracts.splitter.Splitter.{the_row};
+ghost use Rattle.std.specs.{Prelude.{◌≡◌, ◌≤◌, ◌<◌, ◌+◌, ◌^◌, [], length, drop, IfOk, IfSome, OnOk, OnErr, IsOk, Ok, Some, None}, Borrow.{sem}, Io.BufRead.{Rests}, Option.{option_map}};
+ghost use Rattle.fd_sections.specs.{Stream.{first}, Message.{Sections}, Parts.{sections_of, IsWhole}, Given.{Is}, Reading.{reading}, Joining.{GoesTo, SplitsOn}, Splitting.{answer, answers_some, progress, finished, start, fed, passed}, Frames.{first_frame, frame_answer, frame_comes, frame_progress, FramesTo}, contracts.splitter.Splitter.{the_row}};
 
 use crate::first::{Found, first};
 use crate::frame::{FoundFrame, first_frame};

@@ -1,8 +1,6 @@
 ghost use Rattle.std.specs.Prelude.{◌≡◌, ◌≤◌, ◌<◌, ◌+◌, ◌^◌, length, IfErr, OnErr, OnOk};
 ghost use Rattle.fd_bytes.specs.Causes.{Rose};
-ghost use Rattle.fd_segment.specs.Causes.{OnCopyFault, UnlessWrite};
-ghost use Rattle.fd_segment.specs.Copying.{IsCopied, IsCopiedInPart};
-ghost use Rattle.fd_segment.specs.Counts.{pieces};
+ghost use Rattle.fd_segment.specs.{Causes.{OnCopyFault, UnlessWrite}, Copying.{IsCopied, IsCopiedInPart}, Counts.{pieces}};
 
 use crate::fault::CopyFault;
 use fd_disk::Reader;

@@ -1,7 +1,6 @@
 ghost use Rattle.std.specs.Prelude.{◌≡◌, ◌≤◌, ◌<◌, ◌+◌, ◌^◌, length, IfOk, OnOk};
 ghost use Rattle.fd_bytes.specs.Causes.{HasCause};
-ghost use Rattle.fd_segment.specs.Copying.{IsDigestOf, IsHashed, IsPiece};
-ghost use Rattle.fd_segment.specs.Counts.{pieces};
+ghost use Rattle.fd_segment.specs.{Copying.{IsDigestOf, IsHashed, IsPiece}, Counts.{pieces}};
 
 use fd_disk::Reader;
 use sha2::{Digest, Sha256};

@@ -1,18 +1,9 @@
 ghost use Rattle.std.specs.Prelude.{◌≡◌, ◌≤◌, ◌<◌, ◌+◌, ◌^◌, ◌⊎◌, ◌↔◌, ◌++◌, [], ◌∷◌, List, true, false, Some, length, is_some, IsTrue, IfOk, IfErr, OnOk, OnErr, option_map};
 ghost use Rattle.fd_bytes.specs.Causes.{Rose};
-ghost use Rattle.fd_disk.specs.declared.folders.FileKind.TheVariants.{Fields, Index};
-ghost use Rattle.fd_disk.specs.declared.folders.FileName.{FileName};
-ghost use Rattle.fd_disk.specs.Causes.{OnFault, OnNoMemory};
-ghost use Rattle.fd_disk.specs.Folders.{WhereTold};
-ghost use Rattle.fd_disk.specs.Images.{firm_file, synced};
-ghost use Rattle.fd_disk.specs.Names.{name_of};
-ghost use Rattle.fd_entries.specs.declared.batch.Pair.{Pair};
-ghost use Rattle.fd_entries.specs.Batches.{distinct};
-ghost use Rattle.fd_index.specs.Builder.{room_for};
-ghost use Rattle.fd_index.specs.Pages.{index_of};
-ghost use Rattle.fd_segment.specs.Causes.{FullAs, OnPutFault, OnPutFull};
-ghost use Rattle.fd_segment.specs.Filling.{HoldsSame, IsOf, IsSealed, Puts};
-ghost use Rattle.fd_segment.specs.Steps.{StopsPutting, StopsSealing, digested, with_front};
+ghost use Rattle.fd_disk.specs.{declared.folders.FileKind.TheVariants.{Fields, Index}, declared.folders.FileName.{FileName}, Causes.{OnFault, OnNoMemory}, Folders.{WhereTold}, Images.{firm_file, synced}, Names.{name_of}};
+ghost use Rattle.fd_entries.specs.{declared.batch.Pair.{Pair}, Batches.{distinct}};
+ghost use Rattle.fd_index.specs.{Builder.{room_for}, Pages.{index_of}};
+ghost use Rattle.fd_segment.specs.{Causes.{FullAs, OnPutFault, OnPutFull}, Filling.{HoldsSame, IsOf, IsSealed, Puts}, Steps.{StopsPutting, StopsSealing, digested, with_front}};
 ghost use Rattle.sha2.specs.Sha256.{sha256};
 
 use crate::fault::PutFault;
@@ -49,8 +40,7 @@ pub struct Draft<F: Send, H: Shelf<F>> {
 
 impl<F: Send, H: Shelf<F>> Model for Draft<F, H> {
     ghost use Rattle.std.specs.Prelude.{◌≡◌, ◌≤◌, ◌<◌, ◌^◌, ◌&&◌, Some, is_some, option_map};
-    ghost use Rattle.fd_disk.specs.declared.folders.FileKind.TheVariants.{Fields, Index};
-    ghost use Rattle.fd_disk.specs.Names.{name_of};
+    ghost use Rattle.fd_disk.specs.{declared.folders.FileKind.TheVariants.{Fields, Index}, Names.{name_of}};
     ghost use Rattle.fd_segment.specs.Filling.{Filling};
 
     ghost Value = { Filling };

@@ -1,7 +1,6 @@
 ghost use Rattle.std.specs.Prelude.{◌≡◌, ◌≤◌, ◌⊎◌, true, Some, length, is_some, IfOk, IfErr, OnOk, OnErr, option_map};
 ghost use Rattle.fd_bytes.specs.Causes.{Rose};
-ghost use Rattle.fd_disk.specs.Causes.{OnFault, OnNoMemory};
-ghost use Rattle.fd_disk.specs.Images.{synced, written};
+ghost use Rattle.fd_disk.specs.{Causes.{OnFault, OnNoMemory}, Images.{synced, written}};
 ghost use Rattle.fd_index.specs.Pages.{IsIndex, index_of};
 ghost use Rattle.fd_segment.specs.Steps.{StopsSealing};
 ghost use Rattle.sha2.specs.Sha256.{sha256};

@@ -1,15 +1,8 @@
 ghost use Rattle.std.specs.Prelude.{◌≡◌, ◌≤◌, ◌+◌, ℕ, List, Option, Some, None, Ok, take, IfOk, IfErr, OnOk, IfSome, IsSome};
-ghost use Rattle.fd_disk.specs.Names.{name_of};
+ghost use Rattle.fd_disk.specs.{Names.{name_of}, declared.folders.FileKind.TheVariants.{Fields}};
 ghost use Rattle.fd_bytes.specs.Causes.{Rose};
-ghost use Rattle.fd_pages.specs.Paging.{HasRead, digits};
-ghost use Rattle.fd_pages.specs.Parts.{IsSeen, pages_by};
-ghost use Rattle.fd_disk.specs.declared.folders.FileKind.TheVariants.{Fields};
-ghost use Rattle.fd_segment.specs.declared.fault.Damage.TheVariants.{Beyond};
-ghost use Rattle.fd_segment.specs.declared.fault.LensFault.TheVariants.{Damaged};
-ghost use Rattle.fd_segment.specs.Causes.{AreAllOf, IsBadIndex, IsFieldDamage, IsFindDamage, IsPlace, OnCheckDamaged, OnCheckFault, OnCopyFault, OnDamaged, OnLensFault, StandsForNone, UnlessWrite, lens_fault};
-ghost use Rattle.fd_segment.specs.Copying.{IsBatchIndex, IsCopied, IsCopiedInPart, IsDigestedAt, IsOfBatch, IsPiece};
-ghost use Rattle.fd_segment.specs.Counts.{HasChecked, HasCopied, HasReadOnce, KeepsFieldCounts, KeepsIndexCounts, paging_of};
-ghost use Rattle.fd_segment.specs.Held.{IsIndexOf, behind};
+ghost use Rattle.fd_pages.specs.{Paging.{HasRead, digits}, Parts.{IsSeen, pages_by}};
+ghost use Rattle.fd_segment.specs.{declared.fault.Damage.TheVariants.{Beyond}, declared.fault.LensFault.TheVariants.{Damaged}, Causes.{AreAllOf, IsBadIndex, IsFieldDamage, IsFindDamage, IsPlace, OnCheckDamaged, OnCheckFault, OnCopyFault, OnDamaged, OnLensFault, StandsForNone, UnlessWrite, lens_fault}, Copying.{IsBatchIndex, IsCopied, IsCopiedInPart, IsDigestedAt, IsOfBatch, IsPiece}, Counts.{HasChecked, HasCopied, HasReadOnce, KeepsFieldCounts, KeepsIndexCounts, paging_of}, Held.{IsIndexOf, behind}};
 
 use crate::copying::copy_pieces;
 use crate::digest::{digest_at, kept_at};

@@ -1,11 +1,7 @@
 ghost use Rattle.std.specs.Prelude.{◌≡◌, ◌≤◌, ◌⊎◌, true, take, Some, IfOk, IfErr, OnOk, OnErr, IfSome};
-ghost use Rattle.fd_disk.specs.declared.folders.FileKind.TheVariants.{Fields, Index};
-ghost use Rattle.fd_disk.specs.declared.folders.FileName.{FileName};
-ghost use Rattle.fd_disk.specs.Folders.{keeping};
-ghost use Rattle.fd_disk.specs.Names.{name_of};
+ghost use Rattle.fd_disk.specs.{declared.folders.FileKind.TheVariants.{Fields, Index}, declared.folders.FileName.{FileName}, Folders.{keeping}, Names.{name_of}};
 ghost use Rattle.fd_pages.specs.Parts.{HasFrame};
-ghost use Rattle.fd_segment.specs.Causes.{IsBadFrame, IsBadIndex, OnDamaged};
-ghost use Rattle.fd_segment.specs.Counts.{HasReadFrame};
+ghost use Rattle.fd_segment.specs.{Causes.{IsBadFrame, IsBadIndex, OnDamaged}, Counts.{HasReadFrame}};
 
 use crate::fault::LensFault;
 use crate::lens::{Lens, lens_fault};

@@ -1,10 +1,8 @@
 // The end of a session that ran: what it found, its transcript, and its status.
 ghost use Rattle.std.specs.Prelude.{◌≡◌};
-ghost use Rattle.fd_transcript.specs.Lines.{found_bytes};
-ghost use Rattle.fd_transcript.specs.Transcripts.{transcript_text};
+ghost use Rattle.fd_transcript.specs.{Lines.{found_bytes}, Transcripts.{transcript_text}};
 ghost use Rattle.fd_outcome.specs.Causes.{BadFile, damaged_line};
-ghost use Rattle.fd_session.specs.Endings.{closing, count_faults, damage_of, ends_in, first_damage, is_fault, lane_damage, lane_faults, lane_has, one_if, some_has};
-ghost use Rattle.fd_session.specs.Writes.{HasCounted, ToldClosing, Writes};
+ghost use Rattle.fd_session.specs.{Endings.{closing, count_faults, damage_of, ends_in, first_damage, is_fault, lane_damage, lane_faults, lane_has, one_if, some_has}, Writes.{HasCounted, ToldClosing, Writes}};
 
 use fd_bytes::Items;
 use fd_disk::Store;

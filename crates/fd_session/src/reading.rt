@@ -5,8 +5,7 @@ ghost use Rattle.fd_script.specs.Grammar.{script_of};
 ghost use Rattle.fd_outcome.specs.Reading as unread;
 ghost use Rattle.fd_outcome.specs.Limits.{input_limit};
 ghost use Rattle.fd_casting.specs.Steps.{AreMessages};
-ghost use Rattle.fd_session.specs.Inputs.{IsInput};
-ghost use Rattle.fd_session.specs.Unaccepted.{IsNamed, OnRefused, OnUnread, Says};
+ghost use Rattle.fd_session.specs.{Inputs.{IsInput}, Unaccepted.{IsNamed, OnRefused, OnUnread, Says}};
 
 use crate::splitting::{Unsplit, split_stream};
 use fd_bytes::{Bytes, Items};

@@ -2,18 +2,13 @@
 ghost use Rattle.std.specs.Prelude.{◌≡◌, ◌≤◌, false, List, ℕ, Option, Ok, Some, IfSome, length, map};
 ghost use Rattle.fd_bytes.specs.Causes.{Rose};
 ghost use Rattle.fd_disk.specs.Folders.{Holdings};
-ghost use Rattle.fd_schema.specs.Grammar.{IsSchema};
+ghost use Rattle.fd_schema.specs.{Grammar.{IsSchema}, Reading.{seen_place}};
 ghost use Rattle.fd_words.specs.declared.command.Command.TheVariants as commands;
-ghost use Rattle.fd_outcome.specs.Asking.{rules_of};
-ghost use Rattle.fd_outcome.specs.Noticing.{ReadsFitly};
-ghost use Rattle.fd_outcome.specs.Objects.{Object};
+ghost use Rattle.fd_outcome.specs.{Asking.{rules_of}, Noticing.{ReadsFitly}, Objects.{Object}};
 ghost use Rattle.fd_objects.specs.Given.{Over, sink_of, source_of, store_of, store_since};
-ghost use Rattle.fd_casting.specs.Miscasts.{NoneFails};
-ghost use Rattle.fd_casting.specs.Steps.{AreMessages, all_posed};
-ghost use Rattle.fd_schema.specs.Reading.{seen_place};
+ghost use Rattle.fd_casting.specs.{Miscasts.{NoneFails}, Steps.{AreMessages, all_posed}};
 ghost use Rattle.fd_lanes.specs.Acts.{ArePlaces, LanesFit};
-ghost use Rattle.fd_session.specs.Sessions.{Begun, SessionRan};
-ghost use Rattle.fd_session.specs.Unopened.{OnDisk, ToldUnopened};
+ghost use Rattle.fd_session.specs.{Sessions.{Begun, SessionRan}, Unopened.{OnDisk, ToldUnopened}};
 
 use crate::closing::{note_all, tell_session};
 use crate::reading::{Input, Unaccepted, read_input};

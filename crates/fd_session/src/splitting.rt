@@ -1,11 +1,7 @@
 // A stream that is in memory, split into its messages.
 ghost use Rattle.std.specs.Prelude.{◌≡◌, ◌≤◌, ◌<◌, ◌^◌, List, ℕ, Some, IfOk, IfErr, OnOk, drop, length};
-ghost use Rattle.fd_sections.specs.Stream.{stream};
-ghost use Rattle.fd_sections.specs.Splitting.{fed, start};
-ghost use Rattle.fd_session.specs.Inputs.{refusal_of};
-ghost use Rattle.fd_sections.specs.Joining.{IsWaiting};
-ghost use Rattle.fd_session.specs.Splits.{HasGiven, Measures};
-ghost use Rattle.fd_session.specs.Split.{IsRefusal, IsSplit, Splits};
+ghost use Rattle.fd_sections.specs.{Stream.{stream}, Splitting.{fed, start}, Joining.{IsWaiting}};
+ghost use Rattle.fd_session.specs.{Inputs.{refusal_of}, Splits.{HasGiven, Measures}, Split.{IsRefusal, IsSplit, Splits}};
 
 use fd_bytes::{Bytes, Items, NoMemory};
 use fd_outcome::{Refusal, refusal_of};

@@ -1,7 +1,6 @@
 //! To which worker a message is dealt.
 ghost use Rattle.std.specs.Prelude.{◌≡◌, ◌≤◌, ◌<◌, ◌+◌, ◌%◌, ℕ, sum};
-ghost use Rattle.fd_schema.specs.Rules.{file_key};
-ghost use Rattle.fd_schema.specs.Reading.{seen_place};
+ghost use Rattle.fd_schema.specs.{Rules.{file_key}, Reading.{seen_place}};
 ghost use Rattle.fd_sheets.specs.Dealt.{dealt};
 
 use fd_schema::Place;

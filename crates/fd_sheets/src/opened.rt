@@ -1,7 +1,6 @@
 //! Messages of several fields, whose fields are taken one after the other.
 ghost use Rattle.std.specs.Prelude.{◌≡◌, ◌<◌, ◌≤◌, All, [], length, drop, true, false};
-ghost use Rattle.fd_split.specs.Reading.{reading_fields};
-ghost use Rattle.fd_split.specs.Seen.{IsOpened, IsWhole};
+ghost use Rattle.fd_split.specs.{Reading.{reading_fields}, Seen.{IsOpened, IsWhole}};
 ghost use Rattle.fd_sheets.specs.Sheets.{TookFields, TookOne, TookSome};
 
 use crate::rounds::Rounds;

@@ -1,12 +1,10 @@
 //! What reads an input ahead: its fields, with their places, up to where they have to be dealt before more is read.
 ghost use Rattle.std.specs.Prelude.{◌≡◌, ◌<◌, ◌≤◌, All, Ok, Err, [], IfOk, IfErr, OnOk, true, false};
 ghost use Rattle.fd_bytes.specs.Causes.{Rose};
-ghost use Rattle.fd_sections.specs.Splitting.{finished, start};
-ghost use Rattle.fd_sections.specs.Stream.{first};
+ghost use Rattle.fd_sections.specs.{Splitting.{finished, start}, Stream.{first}};
 ghost use Rattle.fd_outcome.specs.Positions.{IsIdle, at_message};
 ghost use Rattle.fd_schema.specs.Grammar.{IsSchema};
-ghost use Rattle.fd_sheets.specs.Names.{IsKnown};
-ghost use Rattle.fd_sheets.specs.Reading.{HasRead, HasTaken, IsFed, IsStop, ReadOn, is_end, is_full, is_starved, is_unread};
+ghost use Rattle.fd_sheets.specs.{Names.{IsKnown}, Reading.{HasRead, HasTaken, IsFed, IsStop, ReadOn, is_end, is_full, is_starved, is_unread}};
 
 use crate::buffers::Buffers;
 use crate::names::Names;

@@ -3,8 +3,7 @@ ghost use Rattle.std.specs.Prelude.{◌≡◌, ◌<◌, ◌≤◌, ◌+◌, ◌*
 ghost use Rattle.fd_sections.specs.Parts.{sections_of};
 ghost use Rattle.fd_split.specs.Reading.{reading_fields};
 ghost use Rattle.fd_schema.specs.Grammar.{IsSchema};
-ghost use Rattle.fd_sheets.specs.Opened.{Repeats};
-ghost use Rattle.fd_sheets.specs.Sheets.{FoundAs, IsLookedUp, IsOpen, IsReadable, IsUnsplit, Next, Shrinks, Took, TookMessage, TookOne, standing};
+ghost use Rattle.fd_sheets.specs.{Opened.{Repeats}, Sheets.{FoundAs, IsLookedUp, IsOpen, IsReadable, IsUnsplit, Next, Shrinks, Took, TookMessage, TookOne, standing}};
 
 use crate::buffers::Buffers;
 use crate::opened::{Opened, put_sheet};

@@ -1,8 +1,6 @@
 // Civil dates and times of day.
 ghost use Rattle.std.specs.Prelude.{◌≡◌, ◌≤◌, ◌+◌, ◌%◌, ◌++◌, IfOk, OnOk, IsTrue, length, string_bytes};
-ghost use Rattle.fd_spelling.specs.Civil.{is_date, is_time, two_digits, date_text, time_text, date_in, date_spelling, time_in, time_spelling};
-ghost use Rattle.fd_spelling.specs.Names.{is_value};
-ghost use Rattle.fd_spelling.specs.Canonical.{GivesText};
+ghost use Rattle.fd_spelling.specs.{Civil.{is_date, is_time, two_digits, date_text, time_text, date_in, date_spelling, time_in, time_spelling}, Names.{is_value}, Canonical.{GivesText}};
 
 use crate::fault::ValueFault;
 use crate::numerals::number_up_to;

@@ -1,13 +1,6 @@
 // Levels: the types and values of the two fixed surfaces of a field.
-ghost use Rattle.std.specs.Prelude.{◌≡◌, ◌≤◌, ◌<◌, ◌+◌, ◌++◌, ◌∷◌, [], ◌&&◌, not, if◌then◌else◌, true, IfOk, OnOk, IsTrue, Some, None, length, replicate, string_bytes};
-ghost use Rattle.std.specs.List.{list_all};
-ghost use Rattle.std.specs.Char.{is_ascii_digit};
-ghost use Rattle.fd_spelling.specs.Names.{is_ascii, is_value};
-ghost use Rattle.fd_spelling.specs.Levels.{IsDecimal};
-ghost use Rattle.fd_spelling.specs.Levels.{levtype_text, types_in, levtype_spelling, without_first_zeros, without_last_zeros, or_zero, with_point, is_zero, level_text, unsigned_level, level_spelling, levels_text, levelist_spelling, scaled_text};
-ghost use Rattle.std.specs.Prelude.{take, drop, unsigned_abs};
-ghost use Rattle.std.specs.Fmt.{decimal};
-ghost use Rattle.fd_spelling.specs.Canonical.{GivesText};
+ghost use Rattle.std.specs.{Prelude.{◌≡◌, ◌≤◌, ◌<◌, ◌+◌, ◌++◌, ◌∷◌, [], ◌&&◌, not, if◌then◌else◌, true, IfOk, OnOk, IsTrue, Some, None, length, replicate, string_bytes}, List.{list_all}, Char.{is_ascii_digit}, Prelude.{take, drop, unsigned_abs}, Fmt.{decimal}};
+ghost use Rattle.fd_spelling.specs.{Names.{is_ascii, is_value}, Levels.{IsDecimal}, Levels.{levtype_text, types_in, levtype_spelling, without_first_zeros, without_last_zeros, or_zero, with_point, is_zero, level_text, unsigned_level, level_spelling, levels_text, levelist_spelling, scaled_text}, Canonical.{GivesText}};
 
 use crate::fault::ValueFault;
 use crate::names::push_bytes;

@@ -1,5 +1,4 @@
-ghost use Rattle.std.specs.Prelude.{◌≡◌, ◌++◌, true, IfOk, OnOk, string_bytes};
-ghost use Rattle.std.specs.List.{list_all};
+ghost use Rattle.std.specs.{Prelude.{◌≡◌, ◌++◌, true, IfOk, OnOk, string_bytes}, List.{list_all}};
 ghost use Rattle.fd_spelling.specs.Names.{lower, is_ascii, is_letter, is_name, is_name_byte, is_value, is_value_byte};
 
 use fd_bytes::NoMemory;

@@ -1,8 +1,5 @@
 // Numbers as decimal digits, and texts cut at a byte.
-ghost use Rattle.std.specs.Prelude.{◌≡◌, ◌≤◌, ◌<◌, ◌^◌, ◌==◌, true, IfSome, Some, None, length, option_map, nat_le, if◌then◌else◌};
-ghost use Rattle.std.specs.List.{position_or_len, list_all};
-ghost use Rattle.std.specs.Char.{is_ascii_digit, digit_value};
-ghost use Rattle.std.specs.Str.Parse.{digits_value};
+ghost use Rattle.std.specs.{Prelude.{◌≡◌, ◌≤◌, ◌<◌, ◌^◌, ◌==◌, true, IfSome, Some, None, length, option_map, nat_le, if◌then◌else◌}, List.{position_or_len, list_all}, Char.{is_ascii_digit, digit_value}, Str.Parse.{digits_value}};
 ghost use Rattle.fd_spelling.specs.Numerals.{is_numeral, number_up_to, digit_count, cut};
 
 /// The place of the first such byte, or the length.

@@ -1,8 +1,6 @@
 // Texts cut at a byte.
-ghost use Rattle.std.specs.Prelude.{◌≡◌, ◌+◌, ◌<◌, ◌∷◌, length, option_map, IfNone, IfSome};
-ghost use Rattle.std.specs.Option.{option_copied};
-ghost use Rattle.fd_spelling.specs.Numerals.{cut};
-ghost use Rattle.fd_spelling.specs.Pieces.{pieces, pieces_behind};
+ghost use Rattle.std.specs.{Prelude.{◌≡◌, ◌+◌, ◌<◌, ◌∷◌, length, option_map, IfNone, IfSome}, Option.{option_copied}};
+ghost use Rattle.fd_spelling.specs.{Numerals.{cut}, Pieces.{pieces, pieces_behind}};
 
 use crate::numerals::cut;
 

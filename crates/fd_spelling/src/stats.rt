@@ -1,8 +1,6 @@
 // Statistics over time ranges.
 ghost use Rattle.std.specs.Prelude.{◌≡◌, ◌≤◌, ◌+◌, ◌++◌, [], if◌then◌else◌, codes, IfOk, OnOk, IsTrue, length, string_bytes};
-ghost use Rattle.fd_spelling.specs.Names.{is_value};
-ghost use Rattle.fd_spelling.specs.Canonical.{GivesText};
-ghost use Rattle.fd_spelling.specs.Stats.{part_text, part_spelling, joined_spelling, stat_spelling};
+ghost use Rattle.fd_spelling.specs.{Names.{is_value}, Canonical.{GivesText}, Stats.{part_text, part_spelling, joined_spelling, stat_spelling}};
 
 use crate::fault::ValueFault;
 use crate::numerals::{cut, number_up_to};

@@ -1,9 +1,6 @@
 // Forecast times with their unit.
 ghost use Rattle.std.specs.Prelude.{◌≡◌, ◌≤◌, ◌<◌, ◌^◌, ◌++◌, IfOk, OnOk, IsTrue, IfSome, length, string_bytes};
-ghost use Rattle.fd_spelling.specs.Steps.{unit_seconds, sign_text, seconds_text, magnitude_text, step_text, unit_of, unsigned_step, step_spelling, without_seconds};
-ghost use Rattle.fd_spelling.specs.Numerals.{number_up_to};
-ghost use Rattle.fd_spelling.specs.Names.{is_value};
-ghost use Rattle.fd_spelling.specs.Canonical.{GivesText};
+ghost use Rattle.fd_spelling.specs.{Steps.{unit_seconds, sign_text, seconds_text, magnitude_text, step_text, unit_of, unsigned_step, step_spelling, without_seconds}, Numerals.{number_up_to}, Names.{is_value}, Canonical.{GivesText}};
 
 use crate::fault::ValueFault;
 use crate::numerals::{digit_count, number_of, number_up_to};

@@ -1,8 +1,5 @@
-ghost use Rattle.std.specs.Prelude.{◌≡◌, ◌≤◌, ◌++◌, IfOk, OnOk, IsTrue, IfSome, Some, length, string_bytes, option_map};
-ghost use Rattle.std.specs.Fmt.{decimal};
-ghost use Rattle.fd_spelling.specs.Numerals.{number_up_to, cut};
-ghost use Rattle.fd_spelling.specs.Names.{lower, is_name, is_value};
-ghost use Rattle.fd_spelling.specs.Canonical.{GivesText, GivesPair, canonical, pair_of, param_text, param_of, param_numbers, spelling, is_text_of};
+ghost use Rattle.std.specs.{Prelude.{◌≡◌, ◌≤◌, ◌++◌, IfOk, OnOk, IsTrue, IfSome, Some, length, string_bytes, option_map}, Fmt.{decimal}};
+ghost use Rattle.fd_spelling.specs.{Numerals.{number_up_to, cut}, Names.{lower, is_name, is_value}, Canonical.{GivesText, GivesPair, canonical, pair_of, param_text, param_of, param_numbers, spelling, is_text_of}};
 
 use crate::civil::{date_spelling, time_spelling};
 use crate::fault::ValueFault;

@@ -1,7 +1,6 @@
 // The fields of rounds: each has the sections of its own round, and else the last ones before it.
 ghost use Rattle.std.specs.Prelude.{◌≡◌, ◌≤◌, [], List, ℕ, length, map, IfOk, OnOk};
-ghost use Rattle.fd_split.specs.Rounds.{field_in, fields_in, forced, lacks_by, lacks_map, no_force, unmapped};
-ghost use Rattle.fd_split.specs.Seen.{all_seen, seen, seen_force, seen_parts};
+ghost use Rattle.fd_split.specs.{Rounds.{field_in, fields_in, forced, lacks_by, lacks_map, no_force, unmapped}, Seen.{all_seen, seen, seen_force, seen_parts}};
 
 use crate::slices::Slices;
 use fd_bytes::NoMemory;

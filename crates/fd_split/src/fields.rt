@@ -1,10 +1,8 @@
 // A message that is split into its fields.
-ghost use Rattle.std.specs.Prelude.{◌≡◌, ◌≤◌, ◌<◌, ◌++◌, [], List, All, true, length, map, take, drop, slice_index_or, IfOk, OnOk};
+ghost use Rattle.std.specs.{Prelude.{◌≡◌, ◌≤◌, ◌<◌, ◌++◌, [], List, All, true, length, map, take, drop, slice_index_or, IfOk, OnOk}, Option.{option_copied}};
 ghost use Rattle.byteorder.specs.Endian.{big_bytes};
-ghost use Rattle.std.specs.Option.{option_copied};
 ghost use Rattle.fd_sections.specs.Message.{if_present, message_octets};
-ghost use Rattle.fd_split.specs.Reading.{reading_fields, round_at, round_before, rounds_at};
-ghost use Rattle.fd_split.specs.Seen.{AreRead, IsOpened, IsWhole, seen_parts};
+ghost use Rattle.fd_split.specs.{Reading.{reading_fields, round_at, round_before, rounds_at}, Seen.{AreRead, IsOpened, IsWhole, seen_parts}};
 
 use crate::cutting::{Parts, cut};
 use crate::fault::SplitFault;
@@ -87,8 +85,7 @@ pub struct Fields<'a> {
 impl<'a> Model for Fields<'a> {
     ghost use Rattle.std.specs.Prelude.{◌≡◌, ◌≤◌, ◌<◌, List, length, map, vec_len};
     ghost use Rattle.fd_sections.specs.Message.{Sections};
-    ghost use Rattle.fd_split.specs.Rounds.{measured_all};
-    ghost use Rattle.fd_split.specs.Seen.{seen_parts};
+    ghost use Rattle.fd_split.specs.{Rounds.{measured_all}, Seen.{seen_parts}};
 
     ghost Value = { List Sections };
 

@@ -1,10 +1,6 @@
 ghost use Rattle.std.specs.Prelude.{◌≡◌, ◌<◌, ◌≤◌, ◌*◌, ℕ, List, [], ◌∷◌, length, Ok, Err, All};
-ghost use Rattle.fd_sections.specs.declared.bad.Bad.TheVariants.{MultiField};
-ghost use Rattle.fd_sections.specs.Message.{Sections};
-ghost use Rattle.fd_sections.specs.Reading.{reading};
-ghost use Rattle.fd_split.specs.Rounds.{HasRounds, Rounds};
-ghost use Rattle.fd_split.specs.Seen.{IsWhole};
-ghost use Rattle.fd_split.specs.Reading.{NoMessage, reading_fields, reading_rounds};
+ghost use Rattle.fd_sections.specs.{declared.bad.Bad.TheVariants.{MultiField}, Message.{Sections}, Reading.{reading}};
+ghost use Rattle.fd_split.specs.{Rounds.{HasRounds, Rounds}, Seen.{IsWhole}, Reading.{NoMessage, reading_fields, reading_rounds}};
 
 /// What holds of every message that is split into its fields.
 #[tactic(auto, using(crate::proofs::Splits::splits))]

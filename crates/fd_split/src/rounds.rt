@@ -1,9 +1,7 @@
 // The rounds of sections of a message, from left to right.
-ghost use Rattle.std.specs.Prelude.{◌≡◌, ◌≤◌, ◌+◌, length};
-ghost use Rattle.std.specs.Option.{option_copied};
+ghost use Rattle.std.specs.{Prelude.{◌≡◌, ◌≤◌, ◌+◌, length}, Option.{option_copied}};
 ghost use Rattle.fd_sections.specs.Given.{Is};
-ghost use Rattle.fd_split.specs.Reading.{ends, grid_at, round_at, rounds_at};
-ghost use Rattle.fd_split.specs.Seen.{AreRead, seen};
+ghost use Rattle.fd_split.specs.{Reading.{ends, grid_at, round_at, rounds_at}, Seen.{AreRead, seen}};
 
 use crate::fault::SplitFault;
 use crate::slices::Slices;

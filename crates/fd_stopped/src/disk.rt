@@ -1,9 +1,7 @@
 // A file that is written until it stops.
 ghost use Rattle.std.specs.Prelude.{◌≡◌, ◌<◌, ◌+◌, ◌^◌, true, false, length, max, OnOk, OnErr, option_map};
 ghost use Rattle.fd_bytes.specs.Causes.{HasCause};
-ghost use Rattle.fd_disk.specs.Folders.{WhereTold};
-ghost use Rattle.fd_disk.specs.Images.{IsAfterFailedWrite, synced, written};
-ghost use Rattle.fd_disk.specs.Moments.{Elapses};
+ghost use Rattle.fd_disk.specs.{Folders.{WhereTold}, Images.{IsAfterFailedWrite, synced, written}, Moments.{Elapses}};
 ghost use Rattle.fd_stopped.specs.Stopping.{OnStopped};
 
 use crate::{StopFault, Stopped};

@@ -1,12 +1,7 @@
 // One dataset, until it stops.
 ghost use Rattle.std.specs.Prelude.{◌≡◌, ◌⊎◌, ◌≤◌, ◌<◌, ◌+◌, false, Option, Some, None, length, IfOk, IfErr, OnOk, OnErr, IfSome, IsSome, MatchOption, is_some, option_map};
-ghost use Rattle.fd_disk.specs.declared.folders.FileName.{FileName};
-ghost use Rattle.fd_disk.specs.Causes.{HasDownCause, OnNoMemory};
-ghost use Rattle.fd_disk.specs.Folders.{founded, no_files, without_table};
-ghost use Rattle.fd_disk.specs.Renewals.{StandsStill};
-ghost use Rattle.fd_stopped.specs.declared.stopped.Stopped.{Stopped};
-ghost use Rattle.fd_stopped.specs.Counts.{count_of};
-ghost use Rattle.fd_stopped.specs.Stopping.{OnCallStopped};
+ghost use Rattle.fd_disk.specs.{declared.folders.FileName.{FileName}, Causes.{HasDownCause, OnNoMemory}, Folders.{founded, no_files, without_table}, Renewals.{StandsStill}};
+ghost use Rattle.fd_stopped.specs.{declared.stopped.Stopped.{Stopped}, Counts.{count_of}, Stopping.{OnCallStopped}};
 
 use crate::{StopFault, Stopped};
 use fd_disk::{Down, FileName, Folder};

@@ -1,8 +1,6 @@
 // A dataset whose table is renewed, until it stops.
 ghost use Rattle.std.specs.Prelude.{◌≡◌, ◌⊎◌, ◌+◌, true, false, Some, None, IfErr, OnOk, OnErr, option_map};
-ghost use Rattle.fd_disk.specs.Causes.{HasDownCause, OnNoMemory};
-ghost use Rattle.fd_disk.specs.Folders.{founded, with_table};
-ghost use Rattle.fd_disk.specs.Renewals.{GoesOn, IsLeftBetween, removed, unfounded};
+ghost use Rattle.fd_disk.specs.{Causes.{HasDownCause, OnNoMemory}, Folders.{founded, with_table}, Renewals.{GoesOn, IsLeftBetween, removed, unfounded}};
 ghost use Rattle.fd_stopped.specs.Stopping.{OnCallStopped};
 
 use crate::{StopFault, Stopped};

@@ -1,11 +1,7 @@
 // One writer's files, until they stop.
 ghost use Rattle.std.specs.Prelude.{◌≡◌, ◌⊎◌, ◌+◌, [], true, false, Some, IfOk, IfErr, option_map};
-ghost use Rattle.fd_disk.specs.declared.folders.FileName.{FileName};
-ghost use Rattle.fd_disk.specs.Causes.{HasDownCause, OnNoMemory};
-ghost use Rattle.fd_disk.specs.Images.{firm_file};
-ghost use Rattle.fd_disk.specs.Names.{name_of};
-ghost use Rattle.fd_stopped.specs.Counts.{count_of};
-ghost use Rattle.fd_stopped.specs.Stopping.{OnCallStopped};
+ghost use Rattle.fd_disk.specs.{declared.folders.FileName.{FileName}, Causes.{HasDownCause, OnNoMemory}, Images.{firm_file}, Names.{name_of}};
+ghost use Rattle.fd_stopped.specs.{Counts.{count_of}, Stopping.{OnCallStopped}};
 
 use crate::{StopFault, Stopped};
 use fd_bytes::NoMemory;

@@ -1,9 +1,7 @@
 // A store, until it stops.
 ghost use Rattle.std.specs.Prelude.{◌≡◌, ◌⊎◌, ◌+◌, true, false, List, ℕ, None, IfOk, IfErr, OnOk, OnErr, IfSome, option_map};
-ghost use Rattle.fd_disk.specs.Causes.{HasDownCause, OnNoMemory};
-ghost use Rattle.fd_disk.specs.Folders.{SameBut, WhereTold, folder_at, planted};
-ghost use Rattle.fd_stopped.specs.Counts.{count_of};
-ghost use Rattle.fd_stopped.specs.Stopping.{OnCallStopped};
+ghost use Rattle.fd_disk.specs.{Causes.{HasDownCause, OnNoMemory}, Folders.{SameBut, WhereTold, folder_at, planted}};
+ghost use Rattle.fd_stopped.specs.{Counts.{count_of}, Stopping.{OnCallStopped}};
 
 use crate::{StopFault, Stopped};
 use fd_disk::{Down, Store};

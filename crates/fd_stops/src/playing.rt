@@ -3,8 +3,7 @@ ghost use Rattle.std.specs.Prelude.{◌≡◌, false, List, ℕ, IfSome};
 ghost use Rattle.fd_disk.specs.Folders.{WhereTold};
 ghost use Rattle.fd_objects.specs.Given.{sink_of};
 ghost use Rattle.fd_stopped.specs.declared.fault.StopFault.{StopFault};
-ghost use Rattle.fd_stops.specs.Found.{EachLeft};
-ghost use Rattle.fd_stops.specs.Playing.{FoundOfSession};
+ghost use Rattle.fd_stops.specs.{Found.{EachLeft}, Playing.{FoundOfSession}};
 
 use fd_disk::Store;
 use fd_io::{Gate, Sink, Source};

@@ -1,8 +1,7 @@
 // `purge` and `wipe`, until the store stops.
 ghost use Rattle.std.specs.Prelude.{◌≡◌, [], false, List, ℕ};
 ghost use Rattle.fd_disk.specs.Folders.{WhereTold};
-ghost use Rattle.fd_purge.specs.Kept.{kept};
-ghost use Rattle.fd_purge.specs.Purging.{IsLeftByPurge, IsLeftByWipe};
+ghost use Rattle.fd_purge.specs.{Kept.{kept}, Purging.{IsLeftByPurge, IsLeftByWipe}};
 ghost use Rattle.fd_stops.specs.Found.{EachLeft, FoundReclaimed, HasOldOr};
 
 use fd_disk::{Renew, Store};

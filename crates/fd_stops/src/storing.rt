@@ -1,8 +1,7 @@
 // `archive` and `trial`, until the store stops.
 ghost use Rattle.std.specs.Prelude.{◌≡◌, ◌≤◌, false, List, ℕ, IfSome};
 ghost use Rattle.fd_disk.specs.Folders.{WhereTold};
-ghost use Rattle.fd_outcome.specs.Asking.{rules_of};
-ghost use Rattle.fd_outcome.specs.Trying.{trial_rules};
+ghost use Rattle.fd_outcome.specs.{Asking.{rules_of}, Trying.{trial_rules}};
 ghost use Rattle.fd_stops.specs.Found.{EachLeft, FoundStored, FoundTried};
 
 use fd_archive::archive;

@@ -1,9 +1,7 @@
 //! A board over a small list of entries, which two lanes list in threads.
 ghost use Rattle.std.specs.Prelude.{◌≡◌, ◌<◌, true, None, IfOk, IfSome, ◌++◌, [], ◌∷◌, length};
-ghost use Rattle.fd_store_tests.specs.Lanes.{IsLane};
-ghost use Rattle.fd_store_tests.specs.Rows.{untold, all_untold};
-ghost use Rattle.fd_turn.specs.Views.{first_view};
-ghost use Rattle.fd_turn.specs.Passes.{identity, view, IsOf};
+ghost use Rattle.fd_store_tests.specs.{Lanes.{IsLane}, Rows.{untold, all_untold}};
+ghost use Rattle.fd_turn.specs.{Views.{first_view}, Passes.{identity, view, IsOf}};
 
 use fd_bytes::NoMemory;
 use fd_entries::Entry;

@@ -3,8 +3,7 @@ ghost use Rattle.std.specs.Prelude.{◌≡◌, ◌≤◌, IfErr, OnErr, OnOk};
 ghost use Rattle.fd_bytes.specs.Causes.{Rose};
 ghost use Rattle.fd_io.specs.Streams.{Takes, TakesFront};
 ghost use Rattle.fd_words.specs.declared.command.Command.TheVariants.{Generate};
-ghost use Rattle.fd_outcome.specs.Outcome.{generated_messages};
-ghost use Rattle.fd_outcome.specs.Ran.{Ran};
+ghost use Rattle.fd_outcome.specs.{Outcome.{generated_messages}, Ran.{Ran}};
 ghost use Rattle.fd_objects.specs.Given.{OverSinks};
 ghost use Rattle.fd_streams.specs.Generating.{OnUnwritten};
 

@@ -2,11 +2,8 @@
 ghost use Rattle.std.specs.Prelude.{◌≡◌, ◌≤◌, ◌<◌, ◌^◌, ℕ, List, Option, [], length, Some, Ok, IfSome, IfOk, IfErr, OnOk};
 ghost use Rattle.fd_io.specs.Streams.{Takes};
 ghost use Rattle.fd_split.specs.Reading.{Wrong, reading_fields};
-ghost use Rattle.fd_outcome.specs.Fields.{refusal_of_wrong};
-ghost use Rattle.fd_outcome.specs.Listed.{alone, ended};
-ghost use Rattle.fd_outcome.specs.Splitting.{split_of};
-ghost use Rattle.fd_streams.specs.Halted.{HaltedAs, HasCauses, HasOutputCause, StopsOutput};
-ghost use Rattle.fd_streams.specs.Parted.{AreWritten, HaltsParting, IsUnsplit, Parts, PartsAll, PartsOne, messages_of, parts_of};
+ghost use Rattle.fd_outcome.specs.{Fields.{refusal_of_wrong}, Listed.{alone, ended}, Splitting.{split_of}};
+ghost use Rattle.fd_streams.specs.{Halted.{HaltedAs, HasCauses, HasOutputCause, StopsOutput}, Parted.{AreWritten, HaltsParting, IsUnsplit, Parts, PartsAll, PartsOne, messages_of, parts_of}};
 
 use crate::listing::Halt;
 use fd_io::{Sink, Source, write_all};

@@ -1,9 +1,8 @@
 // From a stream to its last message that has the pairs.
 ghost use Rattle.std.specs.Prelude.{◌≡◌, [], IfOk, IfSome, IfErr, OnOk, Some, false};
-ghost use Rattle.fd_key.specs.Pairs.{has_all};
+ghost use Rattle.fd_key.specs.{Pairs.{has_all}, Keys.{key_of}};
 ghost use Rattle.fd_outcome.specs.Picking.{found};
 ghost use Rattle.fd_streams.specs.Found.{Answers, HasInputCause, IsNoMemory, Stopped, Took, TookAll, is_fault};
-ghost use Rattle.fd_key.specs.Keys.{key_of};
 ghost use Rattle.fd_sections.specs.Parts.{sections_of};
 
 use fd_bytes::NoMemory;

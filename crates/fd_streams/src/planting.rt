@@ -1,13 +1,9 @@
 // `create`.
 ghost use Rattle.std.specs.Prelude.{◌≡◌, false, List, ℕ, None, IfSome};
 ghost use Rattle.fd_disk.specs.Folders.{WhereTold};
-ghost use Rattle.fd_schema.specs.Reading.{IsFirst};
-ghost use Rattle.fd_schema.specs.Grammar.{Fault};
+ghost use Rattle.fd_schema.specs.{Reading.{IsFirst}, Grammar.{Fault}};
 ghost use Rattle.fd_words.specs.declared.command.Command.TheVariants.{Create};
-ghost use Rattle.fd_outcome.specs.Causes.{InSchema, telling};
-ghost use Rattle.fd_outcome.specs.Noticing.{ReadsFitly};
-ghost use Rattle.fd_outcome.specs.Ran.{Ran};
-ghost use Rattle.fd_outcome.specs.Told.{ToldOrNoMemory};
+ghost use Rattle.fd_outcome.specs.{Causes.{InSchema, telling}, Noticing.{ReadsFitly}, Ran.{Ran}, Told.{ToldOrNoMemory}};
 ghost use Rattle.fd_objects.specs.Given.{OverInput, source_of, store_of};
 ghost use Rattle.fd_streams.specs.Creating.{IsCreatedOnly};
 

@@ -1,11 +1,8 @@
 // The commands over a stream.
 ghost use Rattle.fd_words.specs.declared.command.Command.TheVariants.{Pick, Split};
-ghost use Rattle.fd_outcome.specs.Ran.{Ran};
-ghost use Rattle.fd_outcome.specs.Splitting.{split_line};
-ghost use Rattle.fd_outcome.specs.Told.{ToldOrNoMemory};
+ghost use Rattle.fd_outcome.specs.{Ran.{Ran}, Splitting.{split_line}, Told.{ToldOrNoMemory}};
 ghost use Rattle.fd_objects.specs.Given.{OverStreams};
-ghost use Rattle.fd_streams.specs.Halted.{AreFew};
-ghost use Rattle.fd_streams.specs.Streams.{listing_command};
+ghost use Rattle.fd_streams.specs.{Halted.{AreFew}, Streams.{listing_command}};
 
 use crate::listing::{Halt, list};
 use crate::parting::{Tally, split_input};

@@ -1,12 +1,10 @@
 // The lines that tell why a request isn't answered.
 ghost use Rattle.std.specs.Prelude.{◌≡◌, List, ℕ, string_bytes, IfOk};
 ghost use Rattle.fd_bytes.specs.Causes.{Rose};
-ghost use Rattle.fd_schema.specs.Grammar.{Fault};
-ghost use Rattle.fd_schema.specs.Reading.{IsFirst};
+ghost use Rattle.fd_schema.specs.{Grammar.{Fault}, Reading.{IsFirst}};
 ghost use Rattle.fd_request.specs.Reading.{seen_kind};
 ghost use Rattle.fd_outcome.specs.Causes as causes;
-ghost use Rattle.fd_outcome.specs.Causes.{InRequest, InStored, broken_text, damaged_line, file_text, hex_text, kind_text, telling};
-ghost use Rattle.fd_outcome.specs.Told.{ToldOrNoMemory};
+ghost use Rattle.fd_outcome.specs.{Causes.{InRequest, InStored, broken_text, damaged_line, file_text, hex_text, kind_text, telling}, Told.{ToldOrNoMemory}};
 ghost use Rattle.fd_outcome.specs.Unruled as rulings;
 ghost use Rattle.fd_telling.specs.Stops.{OnDisk, ToldSome, ToldStop, ToldUnruled, seen_broken};
 

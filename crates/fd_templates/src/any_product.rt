@@ -1,11 +1,6 @@
 ghost use Rattle.std.specs.Prelude.{◌≡◌, ◌≤◌, ◌+◌, ◌++◌, length, IfOk, OnOk, OnErr, Ok};
-ghost use Rattle.fd_sections.specs.Message.{IsSection};
-ghost use Rattle.fd_sections.specs.Parts.{sections_of};
-ghost use Rattle.fd_templates.specs.Product.{Fits, process_octets, time_octets, surface_octets};
-ghost use Rattle.fd_templates.specs.Widths.{ProductRanges, AnyRanges};
-ghost use Rattle.fd_templates.specs.Ensemble.{ensemble_octets};
-ghost use Rattle.fd_templates.specs.Interval.{interval_octets};
-ghost use Rattle.fd_templates.specs.AnyProduct.{template_in, has_ensemble, has_interval, is_known, front_of, tail_of, interval_least, least_of, any_product_is, any_product_of, GivesAny, template_of, added_octets, header_octets, any_octets, Extends};
+ghost use Rattle.fd_sections.specs.{Message.{IsSection}, Parts.{sections_of}};
+ghost use Rattle.fd_templates.specs.{Product.{Fits, process_octets, time_octets, surface_octets}, Widths.{ProductRanges, AnyRanges}, Ensemble.{ensemble_octets}, Interval.{interval_octets}, AnyProduct.{template_in, has_ensemble, has_interval, is_known, front_of, tail_of, interval_least, least_of, any_product_is, any_product_of, GivesAny, template_of, added_octets, header_octets, any_octets, Extends}};
 
 use crate::ensemble::{Ensemble, ensemble_if, ensemble_in_range, push_ensemble};
 use crate::fault::{AnyFault, TemplateFault};

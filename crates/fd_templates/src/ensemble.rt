@@ -1,7 +1,5 @@
 ghost use Rattle.std.specs.Prelude.{◌≡◌, ◌≤◌, ◌++◌, true, length, IfSome, OnOk, OnErr};
-ghost use Rattle.fd_templates.specs.Widths.{EnsembleRanges};
-ghost use Rattle.fd_templates.specs.Ensemble.{ensemble_of, member_octets, ensemble_octets};
-ghost use Rattle.fd_templates.specs.AnyProduct.{Extends, ensemble_if};
+ghost use Rattle.fd_templates.specs.{Widths.{EnsembleRanges}, Ensemble.{ensemble_of, member_octets, ensemble_octets}, AnyProduct.{Extends, ensemble_if}};
 
 use crate::octets::read_u8;
 use fd_bytes::NoMemory;

@@ -1,8 +1,6 @@
 ghost use Rattle.std.specs.Prelude.{◌≡◌, ◌≤◌, ◌++◌, length, OnOk, OnErr, IfOk, IfSome, Ok};
-ghost use Rattle.fd_sections.specs.Message.{IsSection};
-ghost use Rattle.fd_sections.specs.Parts.{sections_of};
-ghost use Rattle.fd_templates.specs.Grid.{grid_is, grid_of, grid_octets, header_octets, earth_octets, size_octets, area_octets, step_octets, Fits};
-ghost use Rattle.fd_templates.specs.Octets.{signed_or_ones, FitsOrMissing};
+ghost use Rattle.fd_sections.specs.{Message.{IsSection}, Parts.{sections_of}};
+ghost use Rattle.fd_templates.specs.{Grid.{grid_is, grid_of, grid_octets, header_octets, earth_octets, size_octets, area_octets, step_octets, Fits}, Octets.{signed_or_ones, FitsOrMissing}};
 
 use crate::fault::TemplateFault;
 use crate::octets::{

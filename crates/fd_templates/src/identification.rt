@@ -1,6 +1,5 @@
 ghost use Rattle.std.specs.Prelude.{◌≡◌, ◌≤◌, ◌++◌, length, OnOk, OnErr};
-ghost use Rattle.fd_sections.specs.Message.{IsSection};
-ghost use Rattle.fd_sections.specs.Parts.{sections_of};
+ghost use Rattle.fd_sections.specs.{Message.{IsSection}, Parts.{sections_of}};
 ghost use Rattle.fd_templates.specs.Identification.{identification_of, identification_octets, origin_octets, time_octets};
 
 use crate::octets::{read_u8, read_u16};

@@ -1,7 +1,5 @@
 ghost use Rattle.std.specs.Prelude.{◌≡◌, ◌≤◌, ◌<◌, ◌*◌, ◌+◌, ◌++◌, ◌^◌, List, true, length, IfOk, IfSome, OnOk, OnErr};
-ghost use Rattle.fd_templates.specs.Interval.{range_of, ranges_of, count_of, interval_of, range_octets, ranges_octets, end_octets, interval_octets};
-ghost use Rattle.fd_templates.specs.AnyProduct.{Extends, interval_if};
-ghost use Rattle.fd_templates.specs.Widths.{RangeRanges, AllRanges, IntervalRanges};
+ghost use Rattle.fd_templates.specs.{Interval.{range_of, ranges_of, count_of, interval_of, range_octets, ranges_octets, end_octets, interval_octets}, AnyProduct.{Extends, interval_if}, Widths.{RangeRanges, AllRanges, IntervalRanges}};
 
 use crate::octets::{read_u8, read_u16, read_u32};
 use fd_bytes::NoMemory;

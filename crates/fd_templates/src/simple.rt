@@ -1,6 +1,5 @@
 ghost use Rattle.std.specs.Prelude.{◌≡◌, ◌≤◌, ◌++◌, length, OnOk, OnErr, IfOk, Ok};
-ghost use Rattle.fd_sections.specs.Message.{IsSection};
-ghost use Rattle.fd_sections.specs.Parts.{sections_of};
+ghost use Rattle.fd_sections.specs.{Message.{IsSection}, Parts.{sections_of}};
 ghost use Rattle.fd_templates.specs.Simple.{simple_is, simple_of, simple_octets, header_octets, packing_octets, Fits};
 
 use crate::fault::TemplateFault;

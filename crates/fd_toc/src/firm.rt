@@ -1,7 +1,5 @@
 ghost use Rattle.std.specs.Prelude.{◌≡◌, ◌+◌, ◌<◌, ◌^◌, length, OnOk, OnErr, option_map};
-ghost use Rattle.fd_disk.specs.Folders.{WhereTold};
-ghost use Rattle.fd_disk.specs.Images.{synced, written};
-ghost use Rattle.fd_disk.specs.Moments.{LeavesOnly};
+ghost use Rattle.fd_disk.specs.{Folders.{WhereTold}, Images.{synced, written}, Moments.{LeavesOnly}};
 ghost use Rattle.fd_bytes.specs.Causes.{HasCause};
 ghost use Rattle.fd_toc.specs.Writes.{IsUnsynced, LeftMeanwhile};
 

@@ -1,11 +1,8 @@
 ghost use Rattle.std.specs.Prelude.{◌≡◌, ◌⊎◌, ◌≤◌, List, ℕ, None, Ok, Err, length, take, IfOk, IfErr, IfSome, MatchResult, option_map};
 ghost use Rattle.fd_bytes.specs.Causes.{Rose};
-ghost use Rattle.fd_disk.specs.Causes.{OnFault};
-ghost use Rattle.fd_disk.specs.Images.{synced};
-ghost use Rattle.fd_disk.specs.Moments.{LeavesOnly, MayLeave};
+ghost use Rattle.fd_disk.specs.{Causes.{OnFault}, Images.{synced}, Moments.{LeavesOnly, MayLeave}};
 ghost use Rattle.fd_entries.specs.Table.{AllFit, IsTable, listed};
-ghost use Rattle.fd_toc.specs.Lists.{IsFront, Lists};
-ghost use Rattle.fd_toc.specs.Causes.{OnNotATable, OnLoadDisk, UnlessLoadDisk};
+ghost use Rattle.fd_toc.specs.{Lists.{IsFront, Lists}, Causes.{OnNotATable, OnLoadDisk, UnlessLoadDisk}};
 
 use crate::parse::{ReadFault, parsed};
 use crate::{LoadFault, Toc};

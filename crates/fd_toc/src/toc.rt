@@ -1,12 +1,8 @@
 ghost use Rattle.std.specs.Prelude.{◌≡◌, ◌⊎◌, ◌≤◌, ◌<◌, ◌+◌, ◌^◌, [], ◌∷◌, ◌++◌, List, ℕ, Some, None, length, OnOk, OnErr, IfOk, IfErr, IfSome, IsSome, option_map};
 ghost use Rattle.fd_bytes.specs.Causes.{HasCause, Rose};
-ghost use Rattle.fd_disk.specs.Folders.{WhereTold};
-ghost use Rattle.fd_disk.specs.Moments.{LeavesOnly, MayLeave};
+ghost use Rattle.fd_disk.specs.{Folders.{WhereTold}, Moments.{LeavesOnly, MayLeave}};
 ghost use Rattle.fd_entries.specs.Table.{AllFit, gate_at, greatest_writer};
-ghost use Rattle.fd_toc.specs.Causes.{IsFullAt, OnAppendDisk, OnFull};
-ghost use Rattle.fd_toc.specs.Lists.{Lists, ListsOrAlso, ListsOrOneMore};
-ghost use Rattle.fd_toc.specs.Sound.{IsOpen};
-ghost use Rattle.fd_toc.specs.Calls.{AppendFails, BodyFails, ClosingFails, OpeningFails, appended, bodied, closed, mended, opened};
+ghost use Rattle.fd_toc.specs.{Causes.{IsFullAt, OnAppendDisk, OnFull}, Lists.{Lists, ListsOrAlso, ListsOrOneMore}, Sound.{IsOpen}, Calls.{AppendFails, BodyFails, ClosingFails, OpeningFails, appended, bodied, closed, mended, opened}};
 
 use crate::AppendFault;
 use crate::firm::write_firm;
@@ -36,8 +32,7 @@ pub struct Toc<F: Send, T: Disk<F>> {
 
 impl<F: Send, T: Disk<F>> Model for Toc<F, T> {
     ghost use Rattle.std.specs.Prelude.{◌-◌, ◌^◌, length, min, vec_capacity};
-    ghost use Rattle.fd_toc.specs.OpenTable.{OpenTable};
-    ghost use Rattle.fd_toc.specs.Sound.{IsOpen};
+    ghost use Rattle.fd_toc.specs.{OpenTable.{OpenTable}, Sound.{IsOpen}};
 
     ghost Value = { OpenTable T };
 

@@ -1,9 +1,6 @@
 // The listed flushes in the order of the table.
-ghost use Rattle.std.specs.Prelude.{◌≡◌, ◌<◌, ◌+◌, ◌-◌, ◌^◌, ◌++◌, ℕ, IfOk, OnOk, filter_map, flat_map, length, map, string_bytes};
-ghost use Rattle.std.specs.List.Sorted.{IsNonDecreasingBy};
-ghost use Rattle.std.specs.Option.{option_to_list};
-ghost use Rattle.fd_transcript.specs.History.{all_flushed, at_entry, entry_of, flushed_from, flushed_within, history_line, in_order, is_within};
-ghost use Rattle.fd_transcript.specs.Seen.{entry_number, seen_flush};
+ghost use Rattle.std.specs.{Prelude.{◌≡◌, ◌<◌, ◌+◌, ◌-◌, ◌^◌, ◌++◌, ℕ, IfOk, OnOk, filter_map, flat_map, length, map, string_bytes}, List.Sorted.{IsNonDecreasingBy}, Option.{option_to_list}};
+ghost use Rattle.fd_transcript.specs.{History.{all_flushed, at_entry, entry_of, flushed_from, flushed_within, history_line, in_order, is_within}, Seen.{entry_number, seen_flush}};
 
 use fd_bytes::{Items, NoMemory};
 use fd_lanes::{End, Ends};

@@ -2,8 +2,7 @@
 ghost use Rattle.std.specs.Prelude.{◌≡◌, ◌++◌, OnErr, OnOk, flat_map, string_bytes};
 ghost use Rattle.fd_io.specs.Streams.{TakesFront};
 ghost use Rattle.fd_listing.specs.Sinks.{HasSinkCause, TakesAllBut};
-ghost use Rattle.fd_transcript.specs.Lines.{all_told, answer_line, answers_of, end_text, step_line, step_lines, told_from, word};
-ghost use Rattle.fd_transcript.specs.Starving.{OnStarved, TakesShort};
+ghost use Rattle.fd_transcript.specs.{Lines.{all_told, answer_line, answers_of, end_text, step_line, step_lines, told_from, word}, Starving.{OnStarved, TakesShort}};
 
 use crate::writing::write_many;
 use fd_bytes::{Items, NoMemory};

@@ -2,9 +2,7 @@
 ghost use Rattle.std.specs.Prelude.{◌≡◌, ◌++◌, OnErr, OnOk, string_bytes};
 ghost use Rattle.fd_io.specs.Streams.{Takes, TakesFront};
 ghost use Rattle.fd_listing.specs.Sinks.{HasSinkCause};
-ghost use Rattle.fd_transcript.specs.History.{all_flushed, history_line, in_order};
-ghost use Rattle.fd_transcript.specs.Starving.{OnStarved, TakesShort};
-ghost use Rattle.fd_transcript.specs.Transcripts.{before_line, transcript_text};
+ghost use Rattle.fd_transcript.specs.{History.{all_flushed, history_line, in_order}, Starving.{OnStarved, TakesShort}, Transcripts.{before_line, transcript_text}};
 
 use crate::history::{all_listed, push_history};
 use crate::steps::tell_lanes;

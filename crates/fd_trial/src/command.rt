@@ -1,24 +1,14 @@
 //! `trial`.
-ghost use Rattle.std.specs.Prelude.{◌≡◌, ◌⊎◌, ◌≤◌, ◌++◌, None, false, codes, List, ℕ, Ok, Option, IfOk, IfSome, string_bytes};
-ghost use Rattle.std.specs.Fmt.{decimal};
+ghost use Rattle.std.specs.{Prelude.{◌≡◌, ◌⊎◌, ◌≤◌, ◌++◌, None, false, codes, List, ℕ, Ok, Option, IfOk, IfSome, string_bytes}, Fmt.{decimal}};
 ghost use Rattle.fd_disk.specs.Folders.{Holdings, WhereTold};
 ghost use Rattle.fd_listing.specs.Lines.{line};
 ghost use Rattle.fd_schema.specs.Grammar.{IsSchema};
 ghost use Rattle.fd_words.specs.declared.command.Command.TheVariants.{Trial};
-ghost use Rattle.fd_outcome.specs.Archiving.{taken};
-ghost use Rattle.fd_outcome.specs.Ends.{IsPlanted};
-ghost use Rattle.fd_outcome.specs.Noticing.{Notices, SparesDamaged};
-ghost use Rattle.fd_outcome.specs.Objects.{object};
-ghost use Rattle.fd_outcome.specs.Outcome.{generated_messages};
-ghost use Rattle.fd_outcome.specs.Ran.{Ran};
-ghost use Rattle.fd_outcome.specs.Told.{ToldOrNoMemory};
-ghost use Rattle.fd_outcome.specs.Trying.{trial_given, trial_rules};
+ghost use Rattle.fd_outcome.specs.{Archiving.{taken}, Ends.{IsPlanted}, Noticing.{Notices, SparesDamaged}, Objects.{object}, Outcome.{generated_messages}, Ran.{Ran}, Told.{ToldOrNoMemory}, Trying.{trial_given, trial_rules}};
 ghost use Rattle.fd_objects.specs.Given.{OverStore, sink_of, store_of, store_since};
-ghost use Rattle.fd_archive.specs.Crashing.{OutlastsCrash, OutlastsTrial};
-ghost use Rattle.fd_archive.specs.Kept.{NoneDamaged};
+ghost use Rattle.fd_archive.specs.{Crashing.{OutlastsCrash, OutlastsTrial}, Kept.{NoneDamaged}};
 ghost use Rattle.fd_retrieve.specs.Looking.{IsLookedThrough};
-ghost use Rattle.fd_trial.specs.Asking.{Begins};
-ghost use Rattle.fd_trial.specs.Telling.{ToldUnstored};
+ghost use Rattle.fd_trial.specs.{Asking.{Begins}, Telling.{ToldUnstored}};
 
 use crate::made::{MadeMessages, Unmade};
 use crate::places::places_of;

@@ -1,12 +1,9 @@
 //! The places of messages that are made up.
 ghost use Rattle.std.specs.Prelude.{◌≡◌, ◌≤◌, ◌<◌, None, List, Ok, Some, map, IfOk, length};
 ghost use Rattle.fd_sections.specs.Parts.{sections_of};
-ghost use Rattle.fd_key.specs.Keys.{key_of};
-ghost use Rattle.fd_key.specs.Pairs.{Pair};
-ghost use Rattle.fd_schema.specs.Reading.{seen_place};
-ghost use Rattle.fd_schema.specs.Rules.{Texts, place_from};
-ghost use Rattle.fd_outcome.specs.Archiving.{taken};
-ghost use Rattle.fd_outcome.specs.Outcome.{generated_messages};
+ghost use Rattle.fd_key.specs.{Keys.{key_of}, Pairs.{Pair}};
+ghost use Rattle.fd_schema.specs.{Reading.{seen_place}, Rules.{Texts, place_from}};
+ghost use Rattle.fd_outcome.specs.{Archiving.{taken}, Outcome.{generated_messages}};
 ghost use Rattle.fd_trial.specs.Placed.{ArePlaced, IsPlacedAt};
 
 use fd_bytes::NoMemory;

@@ -3,9 +3,7 @@ ghost use Rattle.std.specs.Prelude.{◌≡◌, ◌≤◌, None, Ok, Some, IfErr,
 ghost use Rattle.fd_bytes.specs.Causes.{Rose};
 ghost use Rattle.fd_disk.specs.Folders.{WhereTold};
 ghost use Rattle.fd_schema.specs.Grammar.{IsSchema};
-ghost use Rattle.fd_outcome.specs.Asking.{rules_of, ◌then◌};
-ghost use Rattle.fd_outcome.specs.Trying.{if_trial, trial_rules, trial_schema};
-ghost use Rattle.fd_outcome.specs.Ends.{IsPlanted};
+ghost use Rattle.fd_outcome.specs.{Asking.{rules_of, ◌then◌}, Trying.{if_trial, trial_rules, trial_schema}, Ends.{IsPlanted}};
 ghost use Rattle.fd_trial.specs.Ruling.{IsLeft, IsOfStore, IsPlantedOnly, IsUnruledBy, IsUnruledIn, OnDisk};
 
 use fd_disk::{Down, Store};

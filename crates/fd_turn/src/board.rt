@@ -1,10 +1,7 @@
 //! Boards and their passes.
 ghost use Rattle.std.specs.Prelude.{◌≡◌, ◌<◌, [], ◌∷◌, MatchResult};
 ghost use mathlib.Core.List.{IsPrefix};
-ghost use Rattle.fd_turn.specs.declared.view.Turn.TheVariants.{Away};
-ghost use Rattle.fd_turn.specs.declared.view.Lock.TheVariants.{Free};
-ghost use Rattle.fd_turn.specs.Views.{all_parts};
-ghost use Rattle.fd_turn.specs.Steps.{slots_out, Accounts};
+ghost use Rattle.fd_turn.specs.{declared.view.Turn.TheVariants.{Away}, declared.view.Lock.TheVariants.{Free}, Views.{all_parts}, Steps.{slots_out, Accounts}};
 
 use crate::handed::{Guarded, Handed};
 use crate::rule::{BoardRule, Slot};
@@ -56,8 +53,7 @@ impl<V: Handed, W: Guarded + Drop> Drop for Board<V, W> {
 impl<V: Handed, W: Guarded> Board<V, W> {
     ghost use Rattle.std.specs.Prelude.{◌+◌, length, Some, None, IfOk, IfErr, Contains};
     ghost use Rattle.fd_entries.specs.declared.batch.Listing.{Listing};
-    ghost use Rattle.fd_turn.specs.Views.{first_view};
-    ghost use Rattle.fd_turn.specs.Passes.{view, identity, IsOf};
+    ghost use Rattle.fd_turn.specs.{Views.{first_view}, Passes.{view, identity, IsOf}};
 
     /// A board with this value and this state, which are about one subject, and its one pass: it has their list as
     /// its history, their subject, whether the state tells its contents, every part, the amount 0 and no doubts. Where

@@ -20,8 +20,7 @@ pub enum Slot<V, W> {
 pub struct BoardRule;
 
 impl<V: Handed, W: Guarded> TableRule<Slot<V, W>, SeatView, Snapshot<W>> for BoardRule {
-    ghost use Rattle.fd_turn.specs.Rule.{IsKept};
-    ghost use Rattle.fd_turn.specs.Seats.{first_seat, subject_by};
+    ghost use Rattle.fd_turn.specs.{Rule.{IsKept}, Seats.{first_seat, subject_by}};
 
     ghost holds = { λ _. IsKept V.list V.subject W.list W.doubt (subject_by W.subject W.told) };
 

@@ -44,8 +44,7 @@ impl<V, W> Play<Slot<V, W>, SeatView> for LeaveTurn {
 pub(crate) struct TakeLock;
 
 impl<V, W: Guarded> Play<Slot<V, W>, SeatView> for TakeLock {
-    ghost use Rattle.fd_turn.specs.Seats.{subject_by};
-    ghost use Rattle.fd_turn.specs.Steps.{took_lock};
+    ghost use Rattle.fd_turn.specs.{Seats.{subject_by}, Steps.{took_lock}};
 
     ghost then = { took_lock W.list W.doubt (subject_by W.subject W.told) };
 }

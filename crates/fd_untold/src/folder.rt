@@ -1,7 +1,6 @@
 // One dataset.
 ghost use Rattle.std.specs.Prelude.{◌≡◌, ◌≤◌, None, true, false, string_bytes};
-ghost use Rattle.fd_disk.specs.Folders.{with_table};
-ghost use Rattle.fd_disk.specs.Renewals.{StandsStill};
+ghost use Rattle.fd_disk.specs.{Folders.{with_table}, Renewals.{StandsStill}};
 
 use crate::fault::{counted, told};
 use crate::shelf::path_of;

@@ -1,6 +1,5 @@
 // A store.
-ghost use Rattle.std.specs.Prelude.{◌≤◌, IfOk};
-ghost use Rattle.std.specs.List.Sorted.{IsStrictlySortedBy};
+ghost use Rattle.std.specs.{Prelude.{◌≤◌, IfOk}, List.Sorted.{IsStrictlySortedBy}};
 ghost use Rattle.fd_bytes.specs.Causes.{Rose};
 
 use crate::fault::{counted, told};

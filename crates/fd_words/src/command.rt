@@ -1,12 +1,6 @@
-ghost use Rattle.std.specs.Prelude.{◌≡◌, ◌≤◌, codes, IfOk, IfSome, option_and_then};
-ghost use Rattle.std.specs.Str.{bytes_eq};
-ghost use Rattle.std.specs.Map.{lookup};
-ghost use Rattle.std.specs.Option.{option_copied};
+ghost use Rattle.std.specs.{Prelude.{◌≡◌, ◌≤◌, codes, IfOk, IfSome, option_and_then}, Str.{bytes_eq}, Map.{lookup}, Option.{option_copied}};
 ghost use Rattle.clap.specs.Words.{rows_of, found_of};
-ghost use Rattle.fd_words.specs.Texts.{texts};
-ghost use Rattle.fd_words.specs.Reading.{Said, Tells};
-ghost use Rattle.fd_words.specs.Grammar.{options_of};
-ghost use Rattle.fd_words.specs.Words.{archive_of, command_of, command_said, listing_of, rooted, wanted_pairs, pick_of, describe_of, values_of, is_root, root_of, given_in, given_read, workers_in, IsWithinLimits, generate_of, trial_of, split_of, retrieve_of, root_and_dataset, purge_of, wipe_of};
+ghost use Rattle.fd_words.specs.{Texts.{texts}, Reading.{Said, Tells}, Grammar.{options_of}, Words.{archive_of, command_of, command_said, listing_of, rooted, wanted_pairs, pick_of, describe_of, values_of, is_root, root_of, given_in, given_read, workers_in, IsWithinLimits, generate_of, trial_of, split_of, retrieve_of, root_and_dataset, purge_of, wipe_of}};
 
 use crate::dataset::Dataset;
 use crate::layers::{Layers, layers_read};

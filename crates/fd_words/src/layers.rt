@@ -1,7 +1,5 @@
-ghost use Rattle.std.specs.Prelude.{◌≡◌, ◌<◌, ◌++◌, ◌∷◌, [], length, option_map, Some, IfOk, IfSome, OnOk, OnErr, slice_get};
-ghost use Rattle.std.specs.Option.{option_copied};
-ghost use Rattle.fd_spelling.specs.Numerals.{cut};
-ghost use Rattle.fd_spelling.specs.Pieces.{pieces, pieces_behind};
+ghost use Rattle.std.specs.{Prelude.{◌≡◌, ◌<◌, ◌++◌, ◌∷◌, [], length, option_map, Some, IfOk, IfSome, OnOk, OnErr, slice_get}, Option.{option_copied}};
+ghost use Rattle.fd_spelling.specs.{Numerals.{cut}, Pieces.{pieces, pieces_behind}};
 ghost use Rattle.fd_words.specs.Words.{AreLayers, layer_read, layers_read};
 
 use crate::command::given_read;

@@ -1,13 +1,7 @@
 // The words by the parser, and what it hands out.
-ghost use Rattle.std.specs.Prelude.{◌≡◌, ◌≢◌, [], false, true, IfOk, IsErrOf, MatchOption, None, map, option_map};
-ghost use Rattle.std.specs.Str.{bytes_eq};
-ghost use Rattle.std.specs.Map.{lookup};
-ghost use Rattle.std.specs.Option.{option_copied};
+ghost use Rattle.std.specs.{Prelude.{◌≡◌, ◌≢◌, [], false, true, IfOk, IsErrOf, MatchOption, None, map, option_map}, Str.{bytes_eq}, Map.{lookup}, Option.{option_copied}};
 ghost use Rattle.clap.specs.Words.{app_of, fault_of, is_simple, is_simple_and_free, subcommand_of, subcommand_rows_of, rows_of, found_of};
-ghost use Rattle.fd_words.specs.Grammar.{fdb_app};
-ghost use Rattle.fd_words.specs.Texts.{texts};
-ghost use Rattle.fd_words.specs.Reading.{Said, has_dash, double_dash, AreClean, IsClean, is_name, Tells, alone_of};
-ghost use Rattle.fd_words.specs.Saying.{said, Means};
+ghost use Rattle.fd_words.specs.{Grammar.{fdb_app}, Texts.{texts}, Reading.{Said, has_dash, double_dash, AreClean, IsClean, is_name, Tells, alone_of}, Saying.{said, Means}};
 
 use crate::app::program;
 use clap::error::ErrorKind;

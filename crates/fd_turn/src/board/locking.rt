@@ -2,11 +2,7 @@
 ghost use Rattle.std.specs.Prelude.{◌≡◌, ◌+◌, ◌<◌, ◌∷◌, length, Some, Contains};
 ghost use mathlib.Core.List.{IsPrefix};
 ghost use Rattle.fd_entries.specs.declared.batch.Listing.{Listing};
-ghost use Rattle.fd_turn.specs.declared.view.Lock.TheVariants.{Free, Owner};
-ghost use Rattle.fd_turn.specs.Views.{all_parts, IsOwner, Settles};
-ghost use Rattle.fd_turn.specs.Seats.{owner_seat};
-ghost use Rattle.fd_turn.specs.Steps.{Accounts};
-ghost use Rattle.fd_turn.specs.Passes.{view, identity, IsOf, IsSame};
+ghost use Rattle.fd_turn.specs.{declared.view.Lock.TheVariants.{Free, Owner}, Views.{all_parts, IsOwner, Settles}, Seats.{owner_seat}, Steps.{Accounts}, Passes.{view, identity, IsOf, IsSame}};
 
 use super::{Board, Pass, SPINS};
 use crate::handed::{Guarded, Handed};

@@ -2,11 +2,7 @@
 ghost use Rattle.std.specs.Prelude.{◌≡◌, ◌+◌, ◌^◌, ◌<◌, [], ◌∷◌, ◌++◌, length, Option, IfOk, OnErr, false};
 ghost use mathlib.Core.List.{IsPrefix};
 ghost use Rattle.fd_entries.specs.declared.batch.Listing.{Listing};
-ghost use Rattle.fd_turn.specs.declared.view.Lock.TheVariants.{Free, Owner};
-ghost use Rattle.fd_turn.specs.declared.view.Turn.TheVariants.{Away, Holder};
-ghost use Rattle.fd_turn.specs.Views.{all_parts, IsOwner};
-ghost use Rattle.fd_turn.specs.Seats.{with_turn};
-ghost use Rattle.fd_turn.specs.Passes.{view, identity, IsOf, IsSame};
+ghost use Rattle.fd_turn.specs.{declared.view.Lock.TheVariants.{Free, Owner}, declared.view.Turn.TheVariants.{Away, Holder}, Views.{all_parts, IsOwner}, Seats.{with_turn}, Passes.{view, identity, IsOf, IsSame}};
 
 use super::{Board, Pass, SPINS};
 use crate::handed::{Guarded, Handed};

@@ -1,9 +1,7 @@
 //! One pass in two, and two in one.
 ghost use Rattle.std.specs.Prelude.{◌≡◌, ◌≤◌};
 ghost use mathlib.Core.List.{IsPrefix};
-ghost use Rattle.fd_turn.specs.declared.view.Lock.TheVariants.{Free};
-ghost use Rattle.fd_turn.specs.Views.{donor, recipient, merger};
-ghost use Rattle.fd_turn.specs.Passes.{view, identity, IsOf, IsSame};
+ghost use Rattle.fd_turn.specs.{declared.view.Lock.TheVariants.{Free}, Views.{donor, recipient, merger}, Passes.{view, identity, IsOf, IsSame}};
 
 use super::{Board, Pass};
 use crate::handed::{Guarded, Handed};
