@@ -1,4 +1,4 @@
-ghost use Rattle.std.specs.Fork.{AcceptsEach};
+ghost use Rattle.std.specs.{Prelude.{◌≡◌}, Fork.{AcceptsEach}};
 ghost use denote.Param.Send.{IsSend, IsSync};
 ghost use Rattle.fd_beside.specs.Beside.{AcceptsAll, AcceptsShown, AreChanged, AreShown, ChangesShown};
 

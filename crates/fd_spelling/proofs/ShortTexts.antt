@@ -44,7 +44,7 @@ magnitude_short : (n unit : ℕ) (o : Option ℕ) → n < 2 ^ 52 → unit < 2 ^ 
 magnitude_short n unit None small few bound = short_with_unit n unit (decimal n ++ codes "u" ++ decimal unit) refl small few
 magnitude_short n unit (Some s) small few bound = seconds_short (n * s) (bound s refl)
 
-sign_short : (b : Bool) → length (cond b (45 ∷ []) []) ≤ 1
+sign_short : (b : Bool) → length {A = ℕ} (cond b (45 ∷ []) []) ≤ 1
 sign_short true = omega arith
 sign_short false = omega arith
 
