@@ -2,6 +2,7 @@
 ghost use Rattle.std.specs.{Prelude.{◌≡◌, ◌≤◌, ◌<◌, ◌+◌, ◌-◌, ◌^◌, ◌++◌, length, true, codes, IfOk, OnOk, string_bytes}, Fmt.{decimal}};
 ghost use Rattle.fd_templates.specs.Product.{Fits};
 ghost use Rattle.fd_sections.specs.Parts.{sections_of};
+ghost use Rattle.fd_spelling.specs.{Canonical.{param_text}, Levels.{levtype_text}, Steps.{step_text}};
 ghost use Rattle.fd_key.specs.{Pairs.{with_pair, with_pair_if, key_text}, Given.{are_reserved}, Fields.{levels_of}, Values.{value_text}, Keys.{key_of, GivesKey, message_pairs, discipline_of, dated_pairs, has_date, date_of, time_of, param_in, levtype_of, step_of, number_of, stat_of, origin_pairs, field_pairs, pairs_in}};
 
 use crate::fault::KeyFault;
@@ -93,29 +94,40 @@ fn origin_key(alloc: Global, ident: &Ident) -> Result<Key, NoMemory>
     Ok(key)
 }
 
-/// The quantity, by its discipline, category and number.
-#[tactic(auto, using(fd_spelling::proofs::ShortTexts::param_short))]
-fn param_in(discipline: u8, product: &Product) -> Value
-    ensures text { value_text result ≡ param_in discipline product.now }
+/// The value of these numbers of a parameter.
+fn param_value(discipline: u8, category: u8, number: u8) -> Value
+    ensures text { value_text result ≡ param_text discipline category number }
     ensures short { length (value_text result) ≤ 32 }
 {
     Value::Param {
         discipline,
-        category: product.category,
-        number: product.parameter,
+        category,
+        number,
     }
 }
 
+/// The quantity, by its discipline, category and number.
+fn param_in(discipline: u8, product: &Product) -> Value
+    ensures text { value_text result ≡ param_in discipline product.now }
+    ensures short { length (value_text result) ≤ 32 }
+{
+    param_value(discipline, product.category, product.parameter)
+}
+
+/// The value of the types of two surfaces.
+fn levtype_value(first: u8, second: u8) -> Value
+    ensures text { value_text result ≡ levtype_text first second }
+    ensures short { length (value_text result) ≤ 32 }
+{
+    Value::Levtype { first, second }
+}
+
 /// The types of the surfaces.
-#[tactic(auto, using(fd_spelling::proofs::ShortTexts::levtype_short))]
 fn levtype_of(product: &Product) -> Value
     ensures text { value_text result ≡ levtype_of product.now }
     ensures short { length (value_text result) ≤ 32 }
 {
-    Value::Levtype {
-        first: product.first_surface_type,
-        second: product.second_surface_type,
-    }
+    levtype_value(product.first_surface_type, product.second_surface_type)
 }
 
 /// Puts the parameter and the types of the surfaces.
@@ -267,16 +279,27 @@ fn put_number(key: &mut Key, name: &str, number: u32) -> Result<(), NoMemory>
     key.spell(name, &Value::Number(number))
 }
 
+/// The value of a time in units.
+fn step_value(negative: bool, number: u32, unit: u8) -> Value
+    ensures text { value_text result ≡ step_text negative number unit }
+    ensures short { length (value_text result) ≤ 40 }
+{
+    Value::Step {
+        negative,
+        number: u64::from(number),
+        unit,
+    }
+}
+
 /// The forecast time.
-#[tactic(auto, using(fd_spelling::proofs::ShortTexts::step_short))]
 fn step_of(product: &Product) -> Value
     ensures text { value_text result ≡ step_of product.now }
     ensures short { length (value_text result) ≤ 40 }
 {
     let number = product.forecast_time;
-    Value::Step {
-        negative: number.is_negative(),
-        number: u64::from(number.unsigned_abs()),
-        unit: product.time_unit,
-    }
+    step_value(
+        number.is_negative(),
+        number.unsigned_abs(),
+        product.time_unit,
+    )
 }
