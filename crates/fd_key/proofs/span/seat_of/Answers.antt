@@ -1,4 +1,4 @@
-use Rattle.std.proofs.Common.{◌≡◌, ◌<◌, ◌∙◌, ℕ, List, true, false, Some, ap, arith, bytes_eq, length, refl, slice_get, subst, sym}
+use Rattle.std.proofs.Common.{◌≡◌, ◌<◌, ◌∙◌, List, true, false, Some, arith, bytes_eq, length, refl, slice_get, subst, sym}
 use Rattle.std.proofs.lemmas.Option.{slice_get_read}
 use Rattle.fd_key.specs.Spans.{Entry}
 use Rattle.fd_key.specs.declared.span.Span.{Span}

@@ -1,8 +1,8 @@
-use Rattle.std.proofs.Common.{◌≡◌, ◌<◌, ◌∙◌, ℕ, List, All, ap, arith, length, string_bytes, sym}
+use Rattle.std.proofs.Common.{◌≡◌, ◌∙◌, ℕ, List, ap, arith, length, string_bytes, sym}
 use Rattle.std.specs.Prelude.{slice_get}
 use Rattle.std.proofs.lemmas.List.{length-map}
 use Rattle.fd_key.specs.Pairs.{Pair}
-use Rattle.fd_key.specs.Spans.{Entry, IsEntry, pair_at, pairs_at}
+use Rattle.fd_key.specs.Spans.{Entry, pair_at, pairs_at}
 use Rattle.fd_key.proofs.key.Key.short_pair.Goals as goal
 
 pub pair_in-requires-clause-kept : goal.pair_in-requires-clause-kept
