@@ -19,26 +19,26 @@ use Rattle.fd_library.specs.Calls.{Changes}
 use Rattle.fd_library.specs.Open.{AreDistinct, OpenDataset, OpenDatasets, among, names_of}
 use Rattle.fd_library.specs.Stores.{held_in, held_of, held_with}
 use Rattle.fd_outcome.specs.Archiving.{Stored, pairs_for}
-use Rattle.fd_bulk.specs.declared.round.Desk.{Desk}
-use Rattle.fd_bulk.specs.declared.round.Job.{Job}
+use Rattle.fd_shares.specs.declared.round.Desk.{Desk}
+use Rattle.fd_shares.specs.declared.round.Job.{Job}
 use Rattle.fd_outcome.specs.Store.{Adds, AddsAll}
 use Rattle.fd_bulk.specs.Archived.{Grows, GrowsAll, IsBack, IsSure}
 use Rattle.fd_bulk.specs.Columns.{ColumnWorks}
 use Rattle.fd_bulk.specs.Crewing.{Crewed, Finished, HasBegun, HasFull, HoldsRest, SeeFull, Stopping, desks_at}
-use Rattle.fd_bulk.specs.Dealing.{dealt_to}
+use Rattle.fd_shares.specs.Dealing.{dealt_to}
 use Rattle.fd_sheets.specs.Dealt.{dealt}
 use Rattle.fd_bulk.specs.Ending.{CanEndOne, CanHand, EndedAs, Ends, IsEnded, IsShorter, column, desk_in, desk_of, parts_in}
 use Rattle.fd_bulk.specs.Halting.{Each}
-use Rattle.fd_bulk.specs.Sharing.{AllWork, MayWork, its_pairs, name_at}
-use Rattle.fd_bulk.specs.Working.{Flushed, HasSealed, Stage, Works, pairs_in}
-use Rattle.fd_bulk.proofs.Dealing.{equal_is, equal_to}
+use Rattle.fd_shares.specs.Sharing.{AllWork, MayWork, its_pairs, name_at}
+use Rattle.fd_shares.specs.Working.{Flushed, HasSealed, Stage, Works, pairs_in}
+use Rattle.fd_shares.proofs.Dealing.{equal_is, equal_to}
 use Rattle.fd_bulk.proofs.Ended.{openings, all_parts_one, desks_column, grown, grown_all, is_back, is_sure, none_added, none_added_all, still_full}
 use Rattle.fd_bulk.proofs.Handed.{column_long, prefix_on, prefix_same, somes}
 use Rattle.fd_bulk.proofs.Joined.{at_end, each_there, work_long}
 use Rattle.fd_bulk.proofs.Matching.{MatchedAt, matched_at, matched_long}
 use Rattle.fd_bulk.proofs.Meeting.{name_there, names_set}
-use Rattle.fd_bulk.proofs.Rounds.{among_at}
-use Rattle.fd_bulk.proofs.Shares.{at_place, get_set, inside}
+use Rattle.fd_shares.proofs.Rounds.{among_at}
+use Rattle.fd_shares.proofs.Shares.{at_place, get_set, inside}
 use Rattle.fd_bulk.proofs.Tables.{dealt_among}
 use Rattle.fd_bulk.proofs.Tellings.{held_outside}
 use Rattle.fd_bulk.proofs.Texts.{one_text, true_or_false}
@@ -89,7 +89,7 @@ take_long (x ∷ xs) zero le = refl
 take_long (x ∷ xs) (suc n) le = let e = take_long xs n (omega (arith, le)) in omega (arith, e)
 
 get_prefix : {A : Type 0} (xs ys : List A) (n : ℕ) (x : A) → IsPrefix xs ys → slice_get xs n ≡ Some x → slice_get ys n ≡ Some x
-get_prefix xs ys n x p at = Rattle.fd_bulk.proofs.Storing.get_seen xs ys n x p at
+get_prefix xs ys n x p at = Rattle.fd_shares.proofs.Storing.get_seen xs ys n x p at
 
 all_from : {A : Type 0} (P : A → Type 0) (xs : List A) → ((n : ℕ) (x : A) → slice_get xs n ≡ Some x → P x) → All P xs
 all_from P [] each = All-nil P

@@ -10,16 +10,16 @@ use Rattle.fd_turn.specs.Passes.{BoardId, view}
 use Rattle.fd_dataset.specs.Listed.{entries_of}
 use Rattle.fd_recovery.specs.Recovered.{batches_listed}
 use Rattle.fd_archiver.specs.Writing.{Writing}
-use Rattle.fd_bulk.specs.declared.round.Desk.{Desk}
+use Rattle.fd_shares.specs.declared.round.Desk.{Desk}
 use Rattle.fd_outcome.specs.Store.{Adds, AddsAll}
 use Rattle.fd_bulk.specs.Columns.{AreHome, ColumnWorks, amounts, numbers}
-use Rattle.fd_bulk.specs.Dealing.{dealt_to}
+use Rattle.fd_shares.specs.Dealing.{dealt_to}
 use Rattle.fd_bulk.specs.Gathering.{AreLanes, Lane, receipts_of, writers_in}
-use Rattle.fd_bulk.specs.Merging.{joined, lane_at}
+use Rattle.fd_shares.specs.Merging.{joined, lane_at}
 use Rattle.fd_bulk.specs.Tables.{AreListed, Every, IsHeld, listing_of, writer_of}
-use Rattle.fd_bulk.specs.Working.{IsAtStage, Sealing, Stage, pairs_in}
-use Rattle.fd_bulk.specs.Working.{Emptied, Filling, Flushed, Stopped}
-use Rattle.fd_bulk.proofs.Dealing.{equal_is}
+use Rattle.fd_shares.specs.Working.{IsAtStage, Sealing, Stage, pairs_in}
+use Rattle.fd_shares.specs.Working.{Emptied, Filling, Flushed, Stopped}
+use Rattle.fd_shares.proofs.Dealing.{equal_is}
 use Rattle.fd_bulk.proofs.Lanes.{works_lane}
 use Rattle.fd_bulk.proofs.Tables.{are_tables}
 

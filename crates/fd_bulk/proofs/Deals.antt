@@ -8,8 +8,8 @@ use Rattle.fd_library.specs.Open.{OpenDatasets}
 use Rattle.fd_outcome.specs.Archiving.{Stored}
 use Rattle.fd_bulk.specs.declared.bulk.BulkFault.{BulkFault}
 use Rattle.fd_bulk.specs.declared.bulk.BulkFault.TheVariants as faults
-use Rattle.fd_bulk.specs.declared.round.Job.{Job}
-use Rattle.fd_bulk.specs.declared.round.Parcel.{Parcel}
+use Rattle.fd_shares.specs.declared.round.Job.{Job}
+use Rattle.fd_shares.specs.declared.round.Parcel.{Parcel}
 use Rattle.fd_bulk.specs.Inputs.{is_calm}
 use Rattle.fd_bulk.specs.Crewing.{SeatedAs, TooManyAt, Undealt}
 

@@ -7,11 +7,11 @@ use Rattle.fd_turn.specs.declared.board.Pass.{Pass}
 use Rattle.fd_turn.specs.Passes.{BoardId}
 use Rattle.fd_archiver.specs.Writing.{Writing}
 use Rattle.fd_library.specs.Open.{OpenDataset}
-use Rattle.fd_bulk.specs.declared.round.Desk.{Desk}
-use Rattle.fd_bulk.specs.declared.round.Job.{Job}
+use Rattle.fd_shares.specs.declared.round.Desk.{Desk}
+use Rattle.fd_shares.specs.declared.round.Job.{Job}
 use Rattle.fd_bulk.specs.Crewing.{AllBegun, HasBegun, IsLent, desks_at, with_desk, writers_of}
 use Rattle.fd_bulk.specs.Halting.{Each}
-use Rattle.fd_bulk.specs.Sharing.{SameMet, StaysDesk}
+use Rattle.fd_shares.specs.Sharing.{SameMet, StaysDesk}
 use Rattle.fd_bulk.proofs.Matching.{matched_map}
 
 pub each_behind : {A : Type 0} (R : A → A → Type 0) (x y : A) (xs ys : List A) → Each (λ i. R) (x ∷ xs) (y ∷ ys) → Each (λ i. R) xs ys

@@ -12,15 +12,15 @@ use Rattle.fd_turn.specs.Passes.{BoardId, view}
 use Rattle.fd_turn.specs.Views.{View}
 use Rattle.fd_dataset.specs.Listed.{listing}
 use Rattle.fd_archiver.specs.Writing.{IsKept, IsPendingIn, IsSealedFrom, Writing}
-use Rattle.fd_bulk.specs.declared.round.Desk.{Desk}
+use Rattle.fd_shares.specs.declared.round.Desk.{Desk}
 use Rattle.fd_bulk.specs.Adding.{IsHeldBy, IsOnlyOf}
 use Rattle.fd_bulk.specs.Columns.{ColumnWorks, amounts}
-use Rattle.fd_bulk.specs.Dealing.{dealt_to}
+use Rattle.fd_shares.specs.Dealing.{dealt_to}
 use Rattle.fd_bulk.specs.Ending.{desk_in}
-use Rattle.fd_bulk.specs.Sharing.{MayWork}
-use Rattle.fd_bulk.specs.Working.{Emptied, Filling, Flushed, InDoubt, IsAtStage, IsDoubted, Stage, Stopped, Works, pairs_in}
+use Rattle.fd_shares.specs.Sharing.{MayWork}
+use Rattle.fd_shares.specs.Working.{Emptied, Filling, Flushed, InDoubt, IsAtStage, IsDoubted, Stage, Stopped, Works, pairs_in}
 use Rattle.fd_bulk.proofs.Columns.{stage_few}
-use Rattle.fd_bulk.proofs.Dealing.{few_of, some_pairs, total, total_bound, total_first}
+use Rattle.fd_shares.proofs.Dealing.{few_of, some_pairs, total, total_bound, total_first}
 use Rattle.fd_bulk.proofs.Handed.{AllHold, AllTell, Holds, doubts_in}
 use Rattle.fd_bulk.proofs.Tables.{in_batch}
 

@@ -21,16 +21,16 @@ use Rattle.fd_archiver.specs.Writing.{Writing}
 use Rattle.fd_library.specs.Open.{OpenDataset, Seated, seat_of}
 use Rattle.fd_library.specs.Stores.{held_by_pass, held_in}
 use Rattle.fd_outcome.specs.Archiving.{Stored, pairs_for}
-use Rattle.fd_bulk.specs.declared.round.Desk.{Desk}
-use Rattle.fd_bulk.specs.declared.round.Job.{Job}
+use Rattle.fd_shares.specs.declared.round.Desk.{Desk}
+use Rattle.fd_shares.specs.declared.round.Job.{Job}
 use Rattle.fd_outcome.specs.Store.{Adds, AddsAll}
 use Rattle.fd_bulk.specs.Adding.{IsHeldBy, IsOnlyOf}
 use Rattle.fd_bulk.specs.Archived.{IsBack, IsSure}
 use Rattle.fd_bulk.specs.Columns.{ColumnWorks, amounts, numbers}
 use Rattle.fd_bulk.specs.Crewing.{HasBegun, IsLent, desks_at, with_desk, writers_of}
-use Rattle.fd_bulk.specs.Dealing.{dealt_to}
+use Rattle.fd_shares.specs.Dealing.{dealt_to}
 use Rattle.fd_bulk.specs.Ending.{EndedAs, column, desk_in, parts_in}
-use Rattle.fd_bulk.specs.Working.{Flushed, Stage}
+use Rattle.fd_shares.specs.Working.{Flushed, Stage}
 use Rattle.fd_bulk.proofs.Columns.{column_adds, column_adds_all}
 use Rattle.fd_bulk.proofs.Doubts.{all_held, all_only, all_sure, few_in_doubt}
 use Rattle.fd_bulk.proofs.Handed.{AllHold, AllOpened, AllSeen, AllTell, FilesTook, StayBut, Took, all_home, doubts_in, prefix_on, seen_on, somes, took, took_files}
@@ -151,7 +151,7 @@ module _ {D H X Y : Type 0} (has : D → Option Contents) (faults : D → ℕ) (
       (let long = front_long (view d.pass).history e.mid_view.history (its ds w at t.each) in let more = front_long e.mid_view.history e.seat.view.history e.seen in let few = e.few in omega (arith, long, more, few, full))
     where
       front_long : (xs ys : List Listing) → IsPrefix xs ys → length xs ≤ length ys
-      front_long xs ys q = Rattle.fd_bulk.proofs.Storing.front_length xs ys q
+      front_long xs ys q = Rattle.fd_shares.proofs.Storing.front_length xs ys q
 
       its : (es : List (Option (Desk (Writing H) (Pass X Y)))) (i : ℕ) → slice_get es i ≡ Some (Some d) → AllSeen es e.mid_view.history → IsPrefix (view d.pass).history e.mid_view.history
       its [] i at all = absurd (cc at)

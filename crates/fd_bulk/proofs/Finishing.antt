@@ -20,14 +20,14 @@ use Rattle.fd_bulk.specs.declared.bulk.Bulk.{Bulk}
 use Rattle.fd_bulk.specs.declared.bulk.BulkFault.{BulkFault}
 use Rattle.fd_bulk.specs.declared.bulk.BulkFault.TheVariants as faults
 use Rattle.fd_bulk.specs.declared.reading.Counts.{Counts}
-use Rattle.fd_bulk.specs.declared.round.Job.{Job}
-use Rattle.fd_bulk.specs.declared.round.Parcel.{Parcel}
+use Rattle.fd_shares.specs.declared.round.Job.{Job}
+use Rattle.fd_shares.specs.declared.round.Parcel.{Parcel}
 use Rattle.fd_bulk.specs.Archived.{Archived, Grows, GrowsAll, IsBack, IsCause, IsFront, IsNumbered, IsRead, IsSure, OnDisk, OnInput, StoppedArchived, WholeArchived, IsWholeTaken}
 use Rattle.fd_bulk.specs.Crewing.{AllBegun, CanEnd, Crewed, Deals, Finished, HasBegun, HasFull, HoldsRest, SeeFull, Stopping, desks_at}
 use Rattle.fd_bulk.specs.Halting.{HaveMetNone, OnStore}
 use Rattle.fd_bulk.specs.Inputs.{BeginsIn, ComesTo, EndsAfter, InputEnds, is_calm, is_unread}
-use Rattle.fd_bulk.specs.Sharing.{AllFit, AllWork, AreParcels, its_pairs}
-use Rattle.fd_bulk.specs.Working.{Filling}
+use Rattle.fd_shares.specs.Sharing.{AllFit, AllWork, AreParcels, its_pairs}
+use Rattle.fd_shares.specs.Working.{Filling}
 use Rattle.fd_bulk.proofs.Keeping.{keeps_same}
 use Rattle.fd_bulk.proofs.Matching.{matched_long}
 use Rattle.fd_bulk.proofs.Texts.{one_text}

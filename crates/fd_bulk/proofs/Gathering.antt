@@ -2,10 +2,10 @@
 use Rattle.std.proofs.Common.{◌≡◌, ◌==◌, ◌≤◌, ◌<◌, ◌+◌, ◌-◌, ℕ, zero, suc, Bool, true, false, if◌then◌else◌, List, [], ◌∷◌, ◌++◌, map, take, drop, length, slice_get, Option, Some, None, ◌⊎◌, inl, inr, refl, sym, ap, ap₂, subst, ◌∙◌, arith, append_assoc, length-append}
 use Rattle.fd_numbers.specs.Numbers.{Differ, IsIn}
 use Rattle.fd_entries.specs.declared.batch.Pair.{Pair}
-use Rattle.fd_bulk.specs.Dealing.{Marked, batches_by, dealt_to}
-use Rattle.fd_bulk.specs.Merging.{AllRise, joined, lane_at, numbers_from, numbers_in, those}
+use Rattle.fd_shares.specs.Dealing.{Marked, batches_by, dealt_to}
+use Rattle.fd_shares.specs.Merging.{AllRise, joined, lane_at, numbers_from, numbers_in, those}
 use Rattle.fd_bulk.specs.Gathering.{AreLanes, AreOwned, AreShown, Gathered, IsOwned, IsShown, Lane, receipts_of, writers_in, writers_with}
-use Rattle.fd_bulk.proofs.Dealing.{equal_not, equal_to}
+use Rattle.fd_shares.proofs.Dealing.{equal_not, equal_to}
 use Rattle.fd_bulk.proofs.Merging.{are_merged, differ_both, in_either, rise_differ}
 use mathlib.Core.List.{map-append}
 

@@ -11,12 +11,12 @@ use Rattle.fd_dataset.specs.Causes.{AreFewer}
 use Rattle.fd_archiver.specs.Writing.{Writing}
 use Rattle.fd_library.specs.Calls.{Changes}
 use Rattle.fd_library.specs.Open.{IsWhole, OpenDataset, OpenDatasets, seat_of}
-use Rattle.fd_bulk.specs.declared.round.Desk.{Desk}
-use Rattle.fd_bulk.specs.declared.round.Job.{Job}
+use Rattle.fd_shares.specs.declared.round.Desk.{Desk}
+use Rattle.fd_shares.specs.declared.round.Job.{Job}
 use Rattle.fd_bulk.specs.Ending.{CanEndOne, CanGive, CanGiveAll, CanHand, EndedAs, Hands, HandsAll, column, desk_of}
 use Rattle.fd_bulk.proofs.Handed.{Took, changed, changes_none, changes_on, column_next, hands_push, took}
 use Rattle.fd_bulk.proofs.Joined.{at_end}
-use Rattle.fd_bulk.proofs.Shares.{take_all}
+use Rattle.fd_shares.proofs.Shares.{take_all}
 
 -- ---- the last of a worker's datasets
 

@@ -20,8 +20,8 @@ use Rattle.fd_outcome.specs.Archiving.{Stored, datasets_in, is_too_many, stored_
 use Rattle.fd_sheets.specs.Sheets.{Passes}
 use Rattle.fd_bulk.specs.declared.bulk.BulkFault.{BulkFault}
 use Rattle.fd_bulk.specs.declared.bulk.BulkFault.TheVariants as faults
-use Rattle.fd_bulk.specs.declared.round.Job.{Job}
-use Rattle.fd_bulk.specs.declared.round.Parcel.{Parcel}
+use Rattle.fd_shares.specs.declared.round.Job.{Job}
+use Rattle.fd_shares.specs.declared.round.Parcel.{Parcel}
 use Rattle.fd_bulk.specs.Crewing.{AreMet, CanRun, Deals, RanAs, TooManyAt, Undealt, Waits, message_at, octets_of}
 use Rattle.fd_bulk.specs.Inputs.{CanGo, EndedThere, EndsFor, GoesOn, Going, PlacedAs, WentOn, is_unread}
 use Rattle.fd_bulk.specs.Taking.{StoredOn}

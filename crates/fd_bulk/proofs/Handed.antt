@@ -14,14 +14,14 @@ use Rattle.fd_recovery.specs.Recovered.{files_of}
 use Rattle.fd_archiver.specs.Writing.{IsKept, Writing}
 use Rattle.fd_library.specs.Calls.{Changes, TakesFiles}
 use Rattle.fd_library.specs.Open.{OpenDataset, OpenDatasets}
-use Rattle.fd_bulk.specs.declared.round.Desk.{Desk}
-use Rattle.fd_bulk.specs.declared.round.Job.{Job}
+use Rattle.fd_shares.specs.declared.round.Desk.{Desk}
+use Rattle.fd_shares.specs.declared.round.Job.{Job}
 use Rattle.fd_bulk.specs.Columns.{AreHome, amounts, numbers}
 use Rattle.fd_bulk.specs.Ending.{Hands, HandsAll, column, desk_of, parts_in}
 use Rattle.fd_bulk.specs.Tables.{Every, IsHeld}
-use Rattle.fd_bulk.specs.Working.{AreSealed, Sealing}
+use Rattle.fd_shares.specs.Working.{AreSealed, Sealing}
 use Rattle.fd_bulk.proofs.Lanes.{files_stay, held_each, held_stay, sealed_owned, segment_back}
-use Rattle.fd_bulk.proofs.Shares.{get_set, set_same}
+use Rattle.fd_shares.proofs.Shares.{get_set, set_same}
 use Rattle.fd_bulk.proofs.Tellings.{as_told, through}
 use Rattle.fd_bulk.proofs.Texts.{true_or_false}
 

@@ -15,17 +15,17 @@ use Rattle.fd_library.specs.Answers.{IsOpened}
 use Rattle.fd_library.specs.Open.{IsWhole, OpenDataset, Seated, seat_of}
 use Rattle.fd_library.specs.Stores.{held_by_pass, held_in, held_of}
 use Rattle.fd_outcome.specs.Archiving.{Stored, pairs_for}
-use Rattle.fd_bulk.specs.declared.round.Desk.{Desk}
-use Rattle.fd_bulk.specs.declared.round.Job.{Job}
-use Rattle.fd_bulk.specs.declared.round.Parcel.{Parcel}
+use Rattle.fd_shares.specs.declared.round.Desk.{Desk}
+use Rattle.fd_shares.specs.declared.round.Job.{Job}
+use Rattle.fd_shares.specs.declared.round.Parcel.{Parcel}
 use Rattle.fd_bulk.specs.Crewing.{HasBegun, IsLent, Running, Waits, desks_at, with_desk}
-use Rattle.fd_bulk.specs.Dealing.{dealt_to}
+use Rattle.fd_shares.specs.Dealing.{dealt_to}
 use Rattle.fd_sheets.specs.Dealt.{dealt}
 use Rattle.fd_bulk.specs.Halting.{Each, HasOneMore, IsSameJob}
-use Rattle.fd_bulk.specs.Sharing.{AllFit, AllWork, AreParcels, SameMet, its_pairs, name_at}
-use Rattle.fd_bulk.specs.Working.{Filling, Stage}
+use Rattle.fd_shares.specs.Sharing.{AllFit, AllWork, AreParcels, SameMet, its_pairs, name_at}
+use Rattle.fd_shares.specs.Working.{Filling, Stage}
 use Rattle.fd_bulk.proofs.Desks.{IsOn, each_behind}
-use Rattle.fd_bulk.proofs.Shares.{at_place, met_there, same_met}
+use Rattle.fd_shares.proofs.Shares.{at_place, met_there, same_met}
 use Rattle.fd_bulk.proofs.Stored.{work_named}
 use Rattle.fd_bulk.proofs.Texts.{among_apart}
 use Rattle.fd_bulk.proofs.Turns.{has_at}

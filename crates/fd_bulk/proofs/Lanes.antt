@@ -15,10 +15,10 @@ use Rattle.fd_recovery.specs.Damages.{field_file, index_file}
 use Rattle.fd_recovery.specs.Recovered.{all_of, batches_listed, files_of}
 use Rattle.fd_archiver.specs.Writing.{IsKept, Writing}
 use Rattle.fd_bulk.specs.Gathering.{AreOwned, AreShown}
-use Rattle.fd_bulk.specs.Merging.{Rise}
+use Rattle.fd_shares.specs.Merging.{Rise}
 use Rattle.fd_bulk.specs.Tables.{Every, IsHeld, listing_of, writer_of}
-use Rattle.fd_bulk.specs.Working.{AreSealed, Sealing, Stage, Works}
-use Rattle.fd_bulk.proofs.Storing.{front_length, get_seen, rise_wider}
+use Rattle.fd_shares.specs.Working.{AreSealed, Sealing, Stage, Works}
+use Rattle.fd_shares.proofs.Storing.{front_length, get_seen, rise_wider}
 
 -- ---- in the history that all know in the end
 

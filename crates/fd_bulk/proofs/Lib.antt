@@ -1,15 +1,8 @@
-pub mod Dealing
 pub mod Merging
 pub mod Gathering
-pub mod Filled
-pub mod Storing
 pub mod Tables
 pub mod Lanes
-pub mod Sharing
-pub mod Rounds
-pub mod Shares
 pub mod Stored
-pub mod Listing
 pub mod Turns
 pub mod Texts
 pub mod Tellings

@@ -5,8 +5,8 @@ use Rattle.fd_bytes.specs.Causes.{Rose}
 use Rattle.fd_archiver.specs.declared.fault.FlushFault.{FlushFault}
 use Rattle.fd_bulk.specs.declared.bulk.BulkFault.{BulkFault}
 use Rattle.fd_bulk.specs.declared.bulk.BulkFault.TheVariants as faults
-use Rattle.fd_bulk.specs.declared.round.Halt.{Halt}
-use Rattle.fd_bulk.specs.declared.round.Job.{Job}
+use Rattle.fd_shares.specs.declared.round.Halt.{Halt}
+use Rattle.fd_shares.specs.declared.round.Job.{Job}
 use Rattle.fd_bulk.specs.Halting.{Halted, HaltedSo, IsLower, IsLowest, IsTold, OnStore}
 
 below_or : (v w : ℕ) → v < w + 1 → (v < w) ⊎ (v ≡ w)

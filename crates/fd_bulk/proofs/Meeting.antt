@@ -12,17 +12,17 @@ use Rattle.fd_archiver.specs.Writing.{Writing}
 use Rattle.fd_library.specs.Calls.{AsksWriter, Changes, IsNewWriter}
 use Rattle.fd_library.specs.Open.{OpenDataset, OpenDatasets, names_of}
 use Rattle.fd_outcome.specs.Archiving.{Stored}
-use Rattle.fd_bulk.specs.declared.round.Desk.{Desk}
-use Rattle.fd_bulk.specs.declared.round.Job.{Job}
-use Rattle.fd_bulk.specs.declared.round.Parcel.{Parcel}
+use Rattle.fd_shares.specs.declared.round.Desk.{Desk}
+use Rattle.fd_shares.specs.declared.round.Job.{Job}
+use Rattle.fd_shares.specs.declared.round.Parcel.{Parcel}
 use Rattle.fd_bulk.specs.Crewing.{AllBegun, AreMet, AreUntouched, Closes, Deals, HasBegun, HasDesk, HoldsRest, Running, Waits, desks_at}
 use Rattle.fd_opener.specs.Opening.{AreOpen}
-use Rattle.fd_bulk.specs.Sharing.{AllWork, AreParcels, DeskWorks, its_pairs}
-use Rattle.fd_bulk.specs.Working.{Filling, Stage, Works}
-use Rattle.fd_bulk.proofs.Dealing.{equal_is, equal_to}
+use Rattle.fd_shares.specs.Sharing.{AllWork, AreParcels, DeskWorks, its_pairs}
+use Rattle.fd_shares.specs.Working.{Filling, Stage, Works}
+use Rattle.fd_shares.proofs.Dealing.{equal_is, equal_to}
 use Rattle.fd_bulk.proofs.Matching.{matched_at, matched_set}
 use Rattle.fd_bulk.proofs.Seating.{begun_refused, begun_seated, desk_kept, desks_insert, desks_same, works_begin}
-use Rattle.fd_bulk.proofs.Shares.{get_set}
+use Rattle.fd_shares.proofs.Shares.{get_set}
 use Rattle.fd_bulk.proofs.Turns.{get_other}
 
 set_same_place : {A : Type 0} (xs : List A) (n : ℕ) (x : A) → slice_get xs n ≡ Some x → slice_set xs n x ≡ xs

@@ -5,9 +5,9 @@ use mathlib.Core.List.{map-append}
 use mathlib.Core.Logic.{dite}
 use native.Mathlib.Decide.{ℕ_discrete}
 use Rattle.fd_numbers.specs.Numbers.{Differ, IsIn}
-use Rattle.fd_bulk.specs.Merging.{AllRise, AreMerged, Merged, Rise, joined, lane_at, numbers_in, those}
+use Rattle.fd_shares.specs.Merging.{AllRise, AreMerged, Merged, Rise, joined, lane_at, numbers_in, those}
 use Rattle.fd_numbers.proofs.Numbers.{all_of_them}
-use Rattle.fd_bulk.proofs.Dealing.{equal_is, equal_to}
+use Rattle.fd_shares.proofs.Dealing.{equal_is, equal_to}
 
 pub in_left : (xs ys : List ℕ) (z : ℕ) → IsIn xs z → IsIn (xs ++ ys) z
 in_left [] ys z i = absurd i

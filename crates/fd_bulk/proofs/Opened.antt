@@ -17,12 +17,12 @@ use Rattle.fd_library.specs.Open.{IsWhole, OpenDataset, OpenDatasets, among, nam
 use Rattle.fd_library.specs.Stores.{held_in, held_of}
 use Rattle.fd_outcome.specs.Archiving.{Stored, datasets_in, pairs_for}
 use Rattle.fd_outcome.specs.Asking.{is_among}
-use Rattle.fd_bulk.specs.declared.round.Job.{Job}
-use Rattle.fd_bulk.specs.declared.round.Parcel.{Parcel}
+use Rattle.fd_shares.specs.declared.round.Job.{Job}
+use Rattle.fd_shares.specs.declared.round.Parcel.{Parcel}
 use Rattle.fd_bulk.specs.Crewing.{AllBegun, AreUntouched, Closes, Crewed, Deals, HasBegun, HoldsRest, OpenedAs, Running, Waits, desks_at}
 use Rattle.fd_bulk.specs.Halting.{Each, HasOneMore, IsSameJob}
 use Rattle.fd_opener.specs.Opening.{AreOpen}
-use Rattle.fd_bulk.specs.Working.{Filling}
+use Rattle.fd_shares.specs.Working.{Filling}
 use Rattle.fd_bulk.proofs.Desks.{all_begun_on}
 use Rattle.fd_bulk.proofs.Joined.{at_end, begun_lost, begun_new, desks_more, desks_none, each_back, each_same_on, running_more, running_same, set_end, waits_more, waits_on, work_long}
 use Rattle.fd_bulk.proofs.Keeping.{keeps_on}

@@ -6,14 +6,14 @@ use Rattle.fd_archiver.specs.Writing.{Writing}
 use Rattle.fd_library.specs.Calls.{Changes, Opens}
 use Rattle.fd_library.specs.Open.{OpenDataset, OpenDatasets, among, names_of}
 use Rattle.fd_outcome.specs.Archiving.{is_too_many}
-use Rattle.fd_bulk.specs.declared.round.Desk.{Desk}
-use Rattle.fd_bulk.specs.declared.round.Job.{Job}
+use Rattle.fd_shares.specs.declared.round.Desk.{Desk}
+use Rattle.fd_shares.specs.declared.round.Job.{Job}
 use Rattle.fd_bulk.specs.Crewing.{AreMet}
 use Rattle.fd_bulk.specs.Halting.{Each, HasOneMore, IsSameJob}
 use Rattle.fd_opener.specs.Opening.{AreOpen}
 use Rattle.fd_bulk.proofs.Joined.{at_end, each_back}
 use Rattle.fd_bulk.proofs.Meeting.{names_set}
-use Rattle.fd_bulk.proofs.Shares.{inside}
+use Rattle.fd_shares.proofs.Shares.{inside}
 use Rattle.fd_bulk.proofs.Texts.{not_too_many_few, not_too_many_open, true_or_false}
 use Rattle.std.proofs.lemmas.List.{length-map}
 

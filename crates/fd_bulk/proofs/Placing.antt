@@ -20,8 +20,8 @@ use Rattle.fd_library.specs.Open.{OpenDatasets}
 use Rattle.fd_outcome.specs.Archiving.{Stored, datasets_in, is_too_many}
 use Rattle.fd_bulk.specs.declared.bulk.BulkFault.{BulkFault}
 use Rattle.fd_bulk.specs.declared.bulk.BulkFault.TheVariants as faults
-use Rattle.fd_bulk.specs.declared.round.Job.{Job}
-use Rattle.fd_bulk.specs.declared.round.Parcel.{Parcel}
+use Rattle.fd_shares.specs.declared.round.Job.{Job}
+use Rattle.fd_shares.specs.declared.round.Parcel.{Parcel}
 use Rattle.fd_bulk.specs.Crewing.{DealtAs, TooManyAt, message_at}
 use Rattle.fd_bulk.specs.Halting.{OnStore}
 use Rattle.fd_bulk.specs.Inputs.{EndedThere, GoesOn, Going, PlacedAs, WentOn}

@@ -15,23 +15,23 @@ use Rattle.fd_library.specs.Open.{AreDistinct, OpenDataset, OpenDatasets, among,
 use Rattle.fd_outcome.specs.Archiving.{Stored, pairs_for}
 use Rattle.std.specs.Str.{bytes_eq}
 use Rattle.fd_bulk.specs.declared.bulk.BulkFault.{BulkFault}
-use Rattle.fd_bulk.specs.declared.round.Halt.{Halt}
-use Rattle.fd_bulk.specs.declared.round.Job.{Job}
-use Rattle.fd_bulk.specs.declared.round.Parcel.{Parcel}
+use Rattle.fd_shares.specs.declared.round.Halt.{Halt}
+use Rattle.fd_shares.specs.declared.round.Job.{Job}
+use Rattle.fd_shares.specs.declared.round.Parcel.{Parcel}
 use Rattle.fd_bulk.specs.Crewing.{CanFinish, CanRun, Crewed, Finished, FinishedAs, OnFull, RanAs, Running, Stopping, Waits, octets_of}
-use Rattle.fd_bulk.specs.Dealing.{dealt_to}
+use Rattle.fd_shares.specs.Dealing.{dealt_to}
 use Rattle.fd_sheets.specs.Dealt.{dealt}
 use Rattle.fd_bulk.specs.Halting.{Each, Halted, IsLowest, IsQuiet, IsTold}
-use Rattle.fd_bulk.specs.Sharing.{AllWork, AreParcels, CanListAll, CanShare, IsFullAt, Listed, ListedTo, SameMet, Shared, SharedTo, its_pairs, listed_below, name_at, pair_of, share, stopped_at, with_stage}
-use Rattle.fd_bulk.specs.Working.{Filling, Flushed, Stopped}
+use Rattle.fd_shares.specs.Sharing.{AllWork, AreParcels, CanListAll, CanShare, IsFullAt, Listed, ListedTo, SameMet, Shared, SharedTo, its_pairs, listed_below, name_at, pair_of, share, stopped_at, with_stage}
+use Rattle.fd_shares.specs.Working.{Filling, Flushed, Stopped}
 use Rattle.fd_bulk.proofs.Desks.{IsOn, all_begun_on}
 use Rattle.fd_bulk.proofs.Joined.{each_back, each_there, work_long}
-use Rattle.fd_bulk.proofs.Rounds.{among_at, dealt_both, pairs_both, share_both, share_is}
-use Rattle.fd_bulk.proofs.Shares.{at_place, met_on, same_met}
+use Rattle.fd_shares.proofs.Rounds.{among_at, dealt_both, pairs_both, share_both, share_is}
+use Rattle.fd_shares.proofs.Shares.{at_place, met_on, same_met}
 use Rattle.fd_bulk.proofs.Stored.{round_stored}
 use Rattle.fd_bulk.proofs.Texts.{one_text}
 use Rattle.fd_bulk.proofs.Turns.{get_place}
-use Rattle.fd_bulk.proofs.Storing.{stored_both}
+use Rattle.fd_shares.proofs.Storing.{stored_both}
 
 -- ---- there is room in number
 
@@ -266,7 +266,7 @@ pub each_by : {A : Type 0} (R : ℕ → A → A → Type 0) (xs ys : List A) →
 each_by {A = A} R xs ys long all = record {
   long = long;
   at = λ i x y a b.
-      let r = all i x (Rattle.fd_bulk.proofs.Shares.inside xs i x a) in
+      let r = all i x (Rattle.fd_shares.proofs.Shares.inside xs i x a) in
       subst (R i x) (at_place ys i y b x) (subst (λ (z : A). R i z (get_or ys i x)) (at_place xs i x a x) r);
 }
 

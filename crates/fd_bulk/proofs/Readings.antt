@@ -21,8 +21,8 @@ use Rattle.fd_outcome.proofs.InputLemmas.{gives_nothing}
 use Rattle.fd_bulk.specs.declared.bulk.BulkFault.{BulkFault}
 use Rattle.fd_bulk.specs.declared.bulk.BulkFault.TheVariants as faults
 use Rattle.fd_bulk.specs.declared.reading.Counts.{Counts}
-use Rattle.fd_bulk.specs.declared.round.Job.{Job}
-use Rattle.fd_bulk.specs.declared.round.Parcel.{Parcel}
+use Rattle.fd_shares.specs.declared.round.Job.{Job}
+use Rattle.fd_shares.specs.declared.round.Parcel.{Parcel}
 use Rattle.fd_outcome.specs.Positions.{IsIdle, Position, at_message, fed_at, weight}
 use Rattle.fd_sections.specs.Message.{Sections}
 use Rattle.fd_bulk.specs.Archived.{HasRead, IsWholeTaken}

@@ -25,8 +25,8 @@ use Rattle.fd_outcome.specs.Causes.{BadFile, BadTable}
 use Rattle.fd_outcome.specs.Store.{Stands}
 use Rattle.fd_bulk.specs.declared.bulk.BulkFault.{BulkFault}
 use Rattle.fd_bulk.specs.declared.bulk.BulkFault.TheVariants as faults
-use Rattle.fd_bulk.specs.declared.round.Job.{Job}
-use Rattle.fd_bulk.specs.declared.round.Parcel.{Parcel}
+use Rattle.fd_shares.specs.declared.round.Job.{Job}
+use Rattle.fd_shares.specs.declared.round.Parcel.{Parcel}
 use Rattle.fd_bulk.specs.Crewing.{Closes, Deals, HoldsRest, IsUnopened, SaysDamaged, SaysNotATable, TooManyAt, Undealt}
 use Rattle.fd_bulk.specs.Halting.{Each, IsSameJob}
 use Rattle.fd_bulk.proofs.Keeping.{keeps_looked}

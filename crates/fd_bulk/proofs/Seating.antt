@@ -18,13 +18,13 @@ use Rattle.fd_archiver.specs.Writing.{Writing}
 use Rattle.fd_library.specs.Calls.{IsNewWriter, KeepsOtherFiles}
 use Rattle.fd_library.specs.Open.{OpenDataset, Seated, seat_of}
 use Rattle.fd_library.specs.Stores.{held_by_pass, held_of}
-use Rattle.fd_bulk.specs.declared.round.Desk.{Desk}
-use Rattle.fd_bulk.specs.declared.round.Job.{Job}
+use Rattle.fd_shares.specs.declared.round.Desk.{Desk}
+use Rattle.fd_shares.specs.declared.round.Job.{Job}
 use Rattle.fd_bulk.specs.Crewing.{HasBegun, HasDesk, IsLent, desks_at, with_desk, writers_of}
-use Rattle.fd_bulk.specs.Working.{Filling, Works}
-use Rattle.fd_bulk.proofs.Dealing.{equal_is, equal_to}
+use Rattle.fd_shares.specs.Working.{Filling, Works}
+use Rattle.fd_shares.proofs.Dealing.{equal_is, equal_to}
 use Rattle.fd_bulk.proofs.Lanes.{first_stays}
-use Rattle.fd_bulk.proofs.Shares.{get_set}
+use Rattle.fd_shares.proofs.Shares.{get_set}
 use Rattle.fd_bulk.proofs.Turns.{get_other}
 
 -- ---- one number more

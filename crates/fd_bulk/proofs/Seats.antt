@@ -12,17 +12,17 @@ use Rattle.fd_archiver.specs.Writing.{Writing}
 use Rattle.fd_library.specs.Calls.{AsksWriter, Changes, IsNewWriter}
 use Rattle.fd_library.specs.Open.{OpenDataset, OpenDatasets, names_of}
 use Rattle.fd_outcome.specs.Archiving.{Stored}
-use Rattle.fd_bulk.specs.declared.round.Desk.{Desk}
-use Rattle.fd_bulk.specs.declared.round.Job.{Job}
-use Rattle.fd_bulk.specs.declared.round.Parcel.{Parcel}
+use Rattle.fd_shares.specs.declared.round.Desk.{Desk}
+use Rattle.fd_shares.specs.declared.round.Job.{Job}
+use Rattle.fd_shares.specs.declared.round.Parcel.{Parcel}
 use Rattle.fd_bulk.specs.Crewing.{CanSeat, Deals, HasBegun, HasDesk, desks_at, with_desk}
 use Rattle.fd_opener.specs.Opening.{AreOpen}
-use Rattle.fd_bulk.specs.Sharing.{its_pairs}
-use Rattle.fd_bulk.specs.Working.{Filling}
+use Rattle.fd_shares.specs.Sharing.{its_pairs}
+use Rattle.fd_shares.specs.Working.{Filling}
 use Rattle.fd_bulk.proofs.Joined.{work_long}
 use Rattle.fd_bulk.proofs.Matching.{MatchedAt, matched_at, matched_long}
 use Rattle.fd_bulk.proofs.Meeting.{names_set, seated_deals}
-use Rattle.fd_bulk.proofs.Shares.{get_there}
+use Rattle.fd_shares.proofs.Shares.{get_there}
 use Rattle.fd_bulk.proofs.Turns.{get_place, has_at}
 
 pub desks_few : {H X Y E : Type 0} (n : ℕ) (js : List (Job (Writing H) (Pass X Y) E)) → length (desks_at n js) ≤ length js

@@ -16,13 +16,13 @@ use Rattle.fd_outcome.specs.Archiving.{Stored, Taken, taken}
 use Rattle.fd_bulk.specs.declared.bulk.BulkFault.{BulkFault}
 use Rattle.fd_bulk.specs.declared.bulk.BulkFault.TheVariants as faults
 use Rattle.fd_bulk.specs.declared.reading.Counts.{Counts}
-use Rattle.fd_bulk.specs.declared.round.Job.{Job}
-use Rattle.fd_bulk.specs.declared.round.Parcel.{Parcel}
+use Rattle.fd_shares.specs.declared.round.Job.{Job}
+use Rattle.fd_shares.specs.declared.round.Parcel.{Parcel}
 use Rattle.fd_bulk.specs.Archived.{IsFront, IsWholeTaken}
 use Rattle.fd_bulk.specs.Crewing.{CanFinish, CanRun, Closes, Crewed, Deals, Finished, FinishedAs, OnFull, RanAs, Running, Stopping, Waits}
 use Rattle.fd_bulk.specs.Inputs.{ComesTo, EndsAfter, EndsTaken, Halts, InputDealt, InputEnds, StandsAt, is_calm, is_listed, is_unread}
-use Rattle.fd_bulk.specs.Sharing.{AreParcels, its_pairs}
-use Rattle.fd_bulk.specs.Working.{Filling}
+use Rattle.fd_shares.specs.Sharing.{AreParcels, its_pairs}
+use Rattle.fd_shares.specs.Working.{Filling}
 
 pub no_parcels : (ps : List Parcel) → (length ps == 0) ≡ true → ps ≡ []
 no_parcels [] e = refl
@@ -103,7 +103,7 @@ module _ {D H X Y F : Type 0} (has : D → Option Contents) (kept : H → Option
     opened = c.opened;
     each = c.each;
     works = λ w j at. record {
-      stages = λ n. Rattle.fd_bulk.specs.Working.Flushed;
+      stages = λ n. Rattle.fd_shares.specs.Working.Flushed;
       pairs = its_pairs (length js) (names_of l.each) w all;
       works = (c.works w j at).works;
       front = λ n m is. ([], append-nil (its_pairs (length js) (names_of l.each) w all n));

@@ -7,14 +7,14 @@ use Rattle.fd_turn.specs.Passes.{BoardId}
 use Rattle.fd_archiver.specs.Writing.{Writing}
 use Rattle.fd_library.specs.Open.{AreDistinct}
 use Rattle.fd_outcome.specs.Archiving.{Stored, pairs_for}
-use Rattle.fd_bulk.specs.Dealing.{dealt_to}
+use Rattle.fd_shares.specs.Dealing.{dealt_to}
 use Rattle.fd_sheets.specs.Dealt.{dealt}
-use Rattle.fd_bulk.specs.declared.round.Desk.{Desk}
-use Rattle.fd_bulk.specs.declared.round.Parcel.{Parcel}
-use Rattle.fd_bulk.specs.Working.{Stage}
-use Rattle.fd_bulk.specs.Sharing.{AllWork, AreParcels, MayWork, its_pairs, name_at, share}
-use Rattle.fd_bulk.proofs.Rounds.{dealt_both, pairs_both, share_is}
-use Rattle.fd_bulk.proofs.Shares.{at_place}
+use Rattle.fd_shares.specs.declared.round.Desk.{Desk}
+use Rattle.fd_shares.specs.declared.round.Parcel.{Parcel}
+use Rattle.fd_shares.specs.Working.{Stage}
+use Rattle.fd_shares.specs.Sharing.{AllWork, AreParcels, MayWork, its_pairs, name_at, share}
+use Rattle.fd_shares.proofs.Rounds.{dealt_both, pairs_both, share_is}
+use Rattle.fd_shares.proofs.Shares.{at_place}
 
 module _ {H X Y : Type 0} (kept : H → Option (FileName → Option (List ℕ))) where
   -- the pairs of the datasets that there are, told otherwise

@@ -13,12 +13,12 @@ use Rattle.fd_segment.proofs.Keys.{eq_is, same_as_eq}
 use Rattle.fd_dataset.specs.Listed.{entries_of}
 use Rattle.fd_recovery.specs.Recovered.{all_of, batches_listed, files_of}
 use Rattle.fd_outcome.specs.Store.{Adds, AddsAll, HasOnly}
-use Rattle.fd_bulk.specs.Dealing.{Marked, batches_by, batches_of, dealt_to, flat}
+use Rattle.fd_shares.specs.Dealing.{Marked, batches_by, batches_of, dealt_to, flat}
 use Rattle.fd_bulk.specs.Gathering.{Gathered, Lane, receipts_of}
-use Rattle.fd_bulk.specs.Merging.{lane_at, those}
+use Rattle.fd_shares.specs.Merging.{lane_at, those}
 use Rattle.fd_bulk.specs.Tables.{AreTables, Every, IsHeld, listing_of, writer_of}
-use Rattle.fd_bulk.specs.Working.{Sealing, pairs_in}
-use Rattle.fd_bulk.proofs.Dealing.{are_as_one, are_few, equal_to, newest_both}
+use Rattle.fd_shares.specs.Working.{Sealing, pairs_in}
+use Rattle.fd_shares.proofs.Dealing.{are_as_one, are_few, equal_to, newest_both}
 use Rattle.fd_bulk.proofs.Turns.{no_elements}
 use Rattle.fd_bulk.proofs.Gathering.{batches_in, below, by_worker, gathered, lane_beyond, marked_of}
 

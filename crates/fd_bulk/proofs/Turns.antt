@@ -3,8 +3,8 @@ use Rattle.std.proofs.Common.{◌≡◌, ◌==◌, ◌<◌, ◌≤◌, ◌+◌, 
 use Rattle.std.proofs.lemmas.List.{length-set}
 use Rattle.std.proofs.lemmas.Option.{slice_get_within}
 use Rattle.fd_bulk.specs.Halting.{Each}
-use Rattle.fd_bulk.proofs.Dealing.{equal_is, equal_to}
-use Rattle.fd_bulk.proofs.Shares.{get_set}
+use Rattle.fd_shares.proofs.Dealing.{equal_is, equal_to}
+use Rattle.fd_shares.proofs.Shares.{get_set}
 
 pub get_other : {A : Type 0} (xs : List A) (n i : ℕ) (y : A) → (i ≡ n → ⊥) → slice_get (slice_set xs n y) i ≡ slice_get xs i
 get_other [] n i y other = refl

@@ -9,15 +9,15 @@ use Rattle.fd_schema.specs.Rules.{file_key}
 use Rattle.fd_schema.specs.Reading.{seen_place}
 use Rattle.fd_library.specs.Open.{OpenDataset, OpenDatasets, names_of}
 use Rattle.fd_outcome.specs.Archiving.{Stored, datasets_in}
-use Rattle.fd_bulk.specs.declared.round.Job.{Job}
-use Rattle.fd_bulk.specs.declared.round.Parcel.{Parcel}
+use Rattle.fd_shares.specs.declared.round.Job.{Job}
+use Rattle.fd_shares.specs.declared.round.Parcel.{Parcel}
 use Rattle.fd_entries.specs.declared.batch.Pair.{Pair}
 use Rattle.fd_bulk.specs.Crewing.{AreMet, CanSeat, Deals, HasBegun, HasDesk, desks_at, message_at}
 use Rattle.fd_sheets.specs.Dealt.{dealt}
 use Rattle.fd_bulk.specs.Halting.{HaveMetNone}
-use Rattle.fd_bulk.specs.Sharing.{AllFit, AreParcels, IsFit, IsParcelOf}
+use Rattle.fd_shares.specs.Sharing.{AllFit, AreParcels, IsFit, IsParcelOf}
 use Rattle.fd_bulk.proofs.Matching.{matched_long}
-use Rattle.fd_bulk.proofs.Shares.{inside}
+use Rattle.fd_shares.proofs.Shares.{inside}
 use Rattle.fd_bulk.proofs.Texts.{datasets_push}
 
 parcels_push : (workers : ℕ) (names : List (List ℕ)) (ss : List Stored) (ps : List Parcel) (s : Stored) (p : Parcel) → IsParcelOf workers names s p → AreParcels workers names ss ps → AreParcels workers names (ss ++ s ∷ []) (ps ++ p ∷ [])

@@ -13,8 +13,8 @@ use Rattle.fd_outcome.specs.Positions.{IsIdle, Position}
 use Rattle.fd_sheets.specs.declared.reader.Reach.{Reach}
 use Rattle.fd_sheets.specs.Reading.{StopsAs, is_end}
 use Rattle.fd_bulk.specs.declared.bulk.BulkFault.{BulkFault}
-use Rattle.fd_bulk.specs.declared.round.Job.{Job}
-use Rattle.fd_bulk.specs.declared.round.Parcel.{Parcel}
+use Rattle.fd_shares.specs.declared.round.Job.{Job}
+use Rattle.fd_shares.specs.declared.round.Parcel.{Parcel}
 use Rattle.fd_bulk.specs.Inputs.{InputDealt, Midway}
 
 module _ {D H X Y F : Type 0} (has : D → Option Contents) (kept : H → Option (FileName → Option (List ℕ))) (rules : List Rule) (given : List keys.Pair) (left after : Option (List ℕ)) (start now : Option Holdings) (l : OpenDatasets D) (passes : List (Pass X Y)) (jobs : List (Job (Writing H) (Pass X Y) (FlushFault F))) (parcels : List Parcel) (p q : Position) where

@@ -7,10 +7,10 @@ use Rattle.fd_entries.specs.declared.batch.Pair.{Pair}
 use Rattle.fd_turn.specs.declared.board.Pass.{Pass}
 use Rattle.fd_turn.specs.Passes.{BoardId, view}
 use Rattle.fd_archiver.specs.Writing.{Writing}
-use Rattle.fd_bulk.specs.declared.round.Desk.{Desk}
-use Rattle.fd_bulk.specs.Sharing.{MayWork}
+use Rattle.fd_shares.specs.declared.round.Desk.{Desk}
+use Rattle.fd_shares.specs.Sharing.{MayWork}
 use Rattle.fd_bulk.specs.Tables.{Every, IsHeld}
-use Rattle.fd_bulk.specs.Working.{AreSealed, Sealing, Stage}
+use Rattle.fd_shares.specs.Working.{AreSealed, Sealing, Stage}
 
 module _ {H X Y : Type 0} where
   -- how many entries the workers' passes count together

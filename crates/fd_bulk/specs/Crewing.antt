@@ -25,12 +25,12 @@ use Rattle.fd_outcome.specs.Causes.{BadFile, BadTable}
 use Rattle.fd_outcome.specs.Store.{Stands}
 use Rattle.fd_bulk.specs.declared.bulk.BulkFault.{BulkFault}
 use Rattle.fd_bulk.specs.declared.bulk.BulkFault.TheVariants as faults
-use Rattle.fd_bulk.specs.declared.round.Desk.{Desk}
-use Rattle.fd_bulk.specs.declared.round.Job.{Job}
-use Rattle.fd_bulk.specs.declared.round.Parcel.{Parcel}
+use Rattle.fd_shares.specs.declared.round.Desk.{Desk}
+use Rattle.fd_shares.specs.declared.round.Job.{Job}
+use Rattle.fd_shares.specs.declared.round.Parcel.{Parcel}
 use Rattle.fd_opener.specs.Opening.{AreOpen}
-use Rattle.fd_bulk.specs.Sharing.{AllFit, AllWork, AreParcels, SeesFull, its_pairs}
-use Rattle.fd_bulk.specs.Working.{Filling, Flushed, Stage}
+use Rattle.fd_shares.specs.Sharing.{AllFit, AllWork, AreParcels, SeesFull, its_pairs}
+use Rattle.fd_shares.specs.Working.{Filling, Flushed, Stage}
 
 -- ---- one dataset
 

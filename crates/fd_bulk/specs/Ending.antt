@@ -11,8 +11,8 @@ use Rattle.fd_dataset.specs.Causes.{AreFewer}
 use Rattle.fd_archiver.specs.Writing.{Writing}
 use Rattle.fd_library.specs.Calls.{TakesWriter}
 use Rattle.fd_library.specs.Open.{OpenDataset, OpenDatasets, Seated, names_of}
-use Rattle.fd_bulk.specs.declared.round.Desk.{Desk}
-use Rattle.fd_bulk.specs.declared.round.Job.{Job}
+use Rattle.fd_shares.specs.declared.round.Desk.{Desk}
+use Rattle.fd_shares.specs.declared.round.Job.{Job}
 use Rattle.fd_bulk.specs.Halting.{Each}
 
 -- ---- what the workers have of one dataset, one place for each worker

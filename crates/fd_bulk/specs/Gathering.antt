@@ -1,6 +1,6 @@
 -- What several workers listed in one history.
 use Rattle.std.specs.Prelude.{◌≡◌, ◌-◌, ℕ, List, [], ◌∷◌, ◌++◌, length, map, take, slice_get, Option, Some, None}
-use Rattle.fd_bulk.specs.Merging.{AllRise, joined, lane_at, those}
+use Rattle.fd_shares.specs.Merging.{AllRise, joined, lane_at, those}
 
 -- what a worker listed, with the numbers at which it did, and the writer of all that, where it listed under one
 pub record Lane (A : Type 0) : Type 0 where
@@ -40,7 +40,7 @@ module _ {A L : Type 0} (shown : A → L) (owner : L → ℕ) where
   -- each worker's numbers rise behind the opening, and at each the history shows what it listed there under its writer
   abbrev pub AreLanes : ℕ → List L → List (Lane A) → Type 0
   AreLanes opening history [] = Unit {0}
-  AreLanes opening history (l ∷ ls) = (Rattle.fd_bulk.specs.Merging.Rise opening (length history) l.receipts × AreShown history l.receipts × IsOwned l.writer l.receipts) × AreLanes opening history ls
+  AreLanes opening history (l ∷ ls) = (Rattle.fd_shares.specs.Merging.Rise opening (length history) l.receipts × AreShown history l.receipts × IsOwned l.writer l.receipts) × AreLanes opening history ls
 
   -- All that the history has behind the opening, in its order, each with its worker.
   pub record Gathered (opening : ℕ) (history : List L) (lanes : List (Lane A)) : Type 0 where

@@ -4,8 +4,8 @@ use Rattle.fd_archiver.specs.declared.fault.FlushFault.{FlushFault}
 use Rattle.fd_archiver.specs.declared.fault.FlushFault.TheVariants as flushes
 use Rattle.fd_bulk.specs.declared.bulk.BulkFault.{BulkFault}
 use Rattle.fd_bulk.specs.declared.bulk.BulkFault.TheVariants as faults
-use Rattle.fd_bulk.specs.declared.round.Halt.{Halt}
-use Rattle.fd_bulk.specs.declared.round.Job.{Job}
+use Rattle.fd_shares.specs.declared.round.Halt.{Halt}
+use Rattle.fd_shares.specs.declared.round.Job.{Job}
 
 -- each element becomes another, by its place
 pub record Each {A : Type 0} (R : ℕ → A → A → Type 0) (old new : List A) : Type 0 where

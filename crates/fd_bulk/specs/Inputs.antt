@@ -24,8 +24,8 @@ use Rattle.fd_outcome.specs.Store.{Stands}
 use Rattle.fd_bulk.specs.declared.bulk.BulkFault.{BulkFault}
 use Rattle.fd_bulk.specs.declared.bulk.BulkFault.TheVariants as faults
 use Rattle.fd_bulk.specs.declared.reading.Counts.{Counts}
-use Rattle.fd_bulk.specs.declared.round.Job.{Job}
-use Rattle.fd_bulk.specs.declared.round.Parcel.{Parcel}
+use Rattle.fd_shares.specs.declared.round.Job.{Job}
+use Rattle.fd_shares.specs.declared.round.Parcel.{Parcel}
 use Rattle.fd_bulk.specs.Archived.{HasRead, IsCause, IsNumbered, IsSplit, IsWholeTaken}
 use Rattle.fd_bulk.specs.Crewing.{AreMet, Closes, Crewed, Deals, OnFull, SeeFull, Stopping, octets_of}
 use Rattle.fd_bulk.specs.Taking.{Seen, StoredOn, behind, taken_from}

@@ -1,11 +1,7 @@
-pub mod Dealing
-pub mod Merging
 pub mod Gathering
 pub mod Adding
-pub mod Working
 pub mod Tables
 pub mod Archived
-pub mod Sharing
 pub mod Halting
 pub mod Crewing
 pub mod Taking

@@ -5,7 +5,7 @@ use Rattle.fd_turn.specs.Passes.{IsOf}
 use Rattle.fd_archiver.specs.Writing.{Writing}
 use Rattle.fd_library.specs.Calls.{Changes}
 use Rattle.fd_library.specs.Open.{IsWhole, OpenDatasets, seat_of}
-use Rattle.fd_bulk.specs.declared.round.Job.{Job}
+use Rattle.fd_shares.specs.declared.round.Job.{Job}
 use Rattle.fd_bulk.specs.Halting.{Each, HasOneMore}
 
 -- The pass of the dataset with this number was handed out and put behind the others, and each worker has one dataset more.

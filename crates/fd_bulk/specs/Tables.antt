@@ -8,10 +8,10 @@ use Rattle.fd_dataset.specs.Listed.{entries_of, listing}
 use Rattle.fd_recovery.specs.Recovered.{batches_listed, files_of}
 use Rattle.fd_numbers.specs.Numbers.{Differ}
 use Rattle.fd_outcome.specs.Store.{Adds, AddsAll}
-use Rattle.fd_bulk.specs.Dealing.{dealt_to}
+use Rattle.fd_shares.specs.Dealing.{dealt_to}
 use Rattle.fd_bulk.specs.Gathering.{AreLanes, Lane, receipts_of, writers_in}
-use Rattle.fd_bulk.specs.Merging.{joined, lane_at}
-use Rattle.fd_bulk.specs.Working.{Sealing, pairs_in}
+use Rattle.fd_shares.specs.Merging.{joined, lane_at}
+use Rattle.fd_shares.specs.Working.{Sealing, pairs_in}
 
 -- a batch that was listed, as the history shows it, and whose it is
 abbrev pub listing_of : Sealing → Listing

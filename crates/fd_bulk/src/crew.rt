@@ -12,7 +12,6 @@ ghost use Rattle.fd_turn.specs.Passes.{view};
 
 use crate::bulk::BulkFault;
 use crate::handing::hand_back_all;
-use crate::round::{Desk, FolderJob, Halt, Job, Parcel, list_round, run_beside, run_rounds};
 use fd_archiver::FlushFault;
 use fd_bytes::NoMemory;
 use fd_disk::{Disk, Down, Folder, Shelf, Store};
@@ -23,6 +22,7 @@ use fd_opener::Opener;
 use fd_recovery::OpenFault;
 use fd_schema::{Place, Schema};
 use fd_segment::{Field, Room};
+use fd_shares::{Desk, FolderJob, Halt, Job, Parcel, list_round, run_beside, run_rounds};
 use fd_sheets::{Batch, Names, Reader, dealt};
 use std::alloc::Global;
 use std::sync::Wait;

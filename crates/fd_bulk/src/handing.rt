@@ -5,10 +5,10 @@ ghost use Rattle.fd_library.specs.Calls.{Changes};
 ghost use Rattle.fd_bulk.specs.{Ending.{CanGive, CanGiveAll, Hands, HandsAll, IsShorter, column, desk_of}, Halting.{Each}};
 ghost use Rattle.fd_opener.specs.Opening.{AreOpen};
 
-use crate::round::{Desk, FolderJob};
 use fd_disk::{Folder, Store};
 use fd_library::FolderPass;
 use fd_opener::Opener;
+use fd_shares::{Desk, FolderJob};
 
 // Takes in a worker's pass in the dataset with this number, which is its last, and gives its archiver back.
 fn hand_back<F: Send + Drop, S: Store<F>>(

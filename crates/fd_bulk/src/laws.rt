@@ -1,4 +1,5 @@
-ghost use Rattle.fd_bulk.specs.{Dealing.{AreAsOne, AreFew}, Tables.{AreTables}};
+ghost use Rattle.fd_bulk.specs.Tables.{AreTables};
+ghost use Rattle.fd_shares.specs.Dealing.{AreAsOne, AreFew};
 
 /// The law that workers, to which pairs are dealt by their keys and each of which lists its own in their order, list what
 /// one batch of all pairs would: each key has the same newest bytes.

@@ -8,8 +8,6 @@ mod crew;
 mod handing;
 mod laws;
 mod reading;
-mod round;
-mod working;
 
 pub use bulk::{Bulk, BulkFault, archive_all};
 pub use fd_opener::Opener;

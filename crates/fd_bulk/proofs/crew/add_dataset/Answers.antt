@@ -1,7 +1,7 @@
 use Rattle.std.proofs.Common.{rules, ◌∙◌, ◌<◌, ◌++◌, ◌∷◌, [], ap, sym, subst, length, None}
 use Rattle.fd_bulk.specs.Halting.{HasOneMore, HasRoom}
-use Rattle.fd_bulk.specs.declared.round.Job.{Job}
-use Rattle.fd_bulk.proofs.Shares.{get_there}
+use Rattle.fd_shares.specs.declared.round.Job.{Job}
+use Rattle.fd_shares.proofs.Shares.{get_there}
 use Rattle.fd_bulk.proofs.Turns.{turns_begin, turns_end, turns_next, turns_on}
 use Rattle.fd_bulk.proofs.crew.add_dataset.Goals as goal
 

@@ -1,9 +1,9 @@
 use Rattle.std.proofs.Common.{rules, arith, ◌≡◌, ◌∙◌, ◌<◌, ◌+◌, ap, sym, subst, length, ℕ, IfSome}
 use Rattle.fd_bytes.specs.Causes.{Rose}
 use Rattle.fd_bulk.specs.Halting.{HaltedSo, IsQuiet, OnStore}
-use Rattle.fd_bulk.specs.declared.round.Job.{Job}
+use Rattle.fd_shares.specs.declared.round.Job.{Job}
 use Rattle.fd_bulk.proofs.Lowest.{cause_lower, halted_none, halted_some, none_more, some_more}
-use Rattle.fd_bulk.proofs.Shares.{get_there}
+use Rattle.fd_shares.proofs.Shares.{get_there}
 use Rattle.fd_bulk.proofs.Turns.{turns_end, turns_next, turns_on}
 use Rattle.fd_bulk.proofs.crew.halted.Goals.{in-None, in-Some}
 use Rattle.fd_bulk.proofs.crew.halted.Goals as goal

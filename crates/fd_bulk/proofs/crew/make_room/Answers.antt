@@ -1,7 +1,7 @@
 use Rattle.std.proofs.Common.{rules, arith, ◌∙◌, ◌<◌, ◌+◌, refl, sym, ap, length}
 use Rattle.fd_bulk.specs.Halting.{HasRoom, IsSameJob}
-use Rattle.fd_bulk.specs.declared.round.Job.{Job}
-use Rattle.fd_bulk.proofs.Shares.{get_there, inside}
+use Rattle.fd_shares.specs.declared.round.Job.{Job}
+use Rattle.fd_shares.proofs.Shares.{get_there, inside}
 use Rattle.fd_bulk.proofs.Turns.{each_begins, each_map, each_turns, has_at, less_next}
 use Rattle.fd_bulk.proofs.crew.make_room.Goals as goal
 

@@ -2,7 +2,7 @@ use Rattle.std.proofs.Common.{arith, ◌∙◌, ◌++◌, ◌∷◌, [], List, �
 use Rattle.fd_schema.specs.Reading.{seen_place}
 use Rattle.fd_library.specs.Open.{names_of}
 use Rattle.fd_outcome.specs.Archiving.{datasets_in, is_too_many}
-use Rattle.fd_bulk.specs.declared.round.Parcel.{Parcel}
+use Rattle.fd_shares.specs.declared.round.Parcel.{Parcel}
 use Rattle.fd_bulk.specs.Crewing.{AreMet, Closes, Deals, Undealt, message_at}
 use Rattle.fd_bulk.proofs.Deals.{seated_calm, seated_few, seated_undealt}
 use Rattle.fd_bulk.proofs.Naming.{met_more}

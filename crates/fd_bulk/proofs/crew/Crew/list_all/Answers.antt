@@ -1,7 +1,7 @@
 use Rattle.std.proofs.Common.{rules, ◌≡◌, ◌∙◌, ◌<◌, ℕ, sym, ap, subst, All, length, get_or}
 use Rattle.fd_bulk.specs.Crewing.{FinishedAs}
 use Rattle.fd_bulk.specs.Halting.{Each, Halted, IsQuiet}
-use Rattle.fd_bulk.specs.Sharing.{CanListAll, Listed}
+use Rattle.fd_shares.specs.Sharing.{CanListAll, Listed}
 use Rattle.fd_bulk.proofs.Ran.{can_list, each_by, finished}
 use Rattle.fd_bulk.proofs.Turns.{written, written_twice}
 use Rattle.fd_bulk.proofs.crew.Crew.list_all.Goals as goal

@@ -1,7 +1,7 @@
 use Rattle.std.proofs.Common.{rules, ◌≡◌, ◌∙◌, ◌<◌, ◌++◌, ℕ, sym, ap, subst, length, get_or}
 use Rattle.fd_bulk.specs.Crewing.{RanAs}
 use Rattle.fd_bulk.specs.Halting.{Each, Halted, IsQuiet}
-use Rattle.fd_bulk.specs.Sharing.{CanShare, Shared}
+use Rattle.fd_shares.specs.Sharing.{CanShare, Shared}
 use Rattle.fd_bulk.proofs.Ran.{can_share, each_by, ran}
 use Rattle.fd_bulk.proofs.Turns.{written, written_twice}
 use Rattle.fd_bulk.proofs.crew.Crew.run.Goals as goal

@@ -1,0 +1,4 @@
+pub mod Dealing
+pub mod Merging
+pub mod Working
+pub mod Sharing
