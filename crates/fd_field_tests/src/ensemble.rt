@@ -1,9 +1,9 @@
 //! Ensembles and intervals of time: sections, keys, lines and schemas.
 use crate::field::{FIELD, SECTION_4, SECTION_5};
-use crate::rows::{agreed, lines};
 use fd_io::MemSink;
 use fd_key::{Given, canonical, key_of};
 use fd_listing::describe;
+use fd_rows::{agreed, lines};
 use fd_schema::{PlaceFault, Schema};
 use fd_sections::message;
 use fd_templates::{AnyProduct, Ensemble, Interval, Range, Ranges};

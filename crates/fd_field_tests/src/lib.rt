@@ -8,28 +8,16 @@ mod field;
 #[cfg(test)]
 mod generator;
 #[cfg(test)]
-mod io;
-#[cfg(test)]
 mod key;
 #[cfg(test)]
 mod listing;
 #[cfg(test)]
 mod packing;
 #[cfg(test)]
-mod request;
-#[cfg(test)]
-mod rows;
-#[cfg(test)]
 mod scaled;
-#[cfg(test)]
-mod schema;
-#[cfg(test)]
-mod script;
 #[cfg(test)]
 mod sections;
 #[cfg(test)]
 mod split;
 #[cfg(test)]
 mod templates;
-#[cfg(test)]
-mod words;

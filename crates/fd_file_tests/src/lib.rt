@@ -2,10 +2,6 @@
 #![tactic(auto)]
 
 #[cfg(test)]
-mod buffers;
-#[cfg(test)]
-mod disk_real;
-#[cfg(test)]
 mod index;
 #[cfg(test)]
 mod machine;

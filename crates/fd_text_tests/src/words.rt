@@ -1,5 +1,5 @@
 //! The words of the command line, read.
-use crate::rows::{agreed, is};
+use fd_rows::{agreed, is};
 use fd_words::{Command, Dataset, read_command};
 use std::alloc::Global;
 

@@ -1,4 +1,6 @@
 //! Tables of tests, as one text: each row has a text, a bar, and what is wanted of the text.
+#![tactic(auto)]
+
 use std::alloc::{AllocError, Global};
 
 /// The first row of a table: its text, what is wanted of it, and the rows behind it.

@@ -1,5 +1,5 @@
 //! Scripts that are read, and lines that are refused.
-use crate::rows::{agreed, is, lines};
+use fd_rows::{agreed, is, lines};
 use fd_script::*;
 use std::alloc::Global;
 

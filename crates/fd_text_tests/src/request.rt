@@ -1,7 +1,7 @@
 //! Requests, and partial ones.
-use crate::rows::{agreed, lines};
 use fd_key::Key;
 use fd_request::*;
+use fd_rows::{agreed, lines};
 use std::alloc::Global;
 
 /// Tells that a fault is printed so.

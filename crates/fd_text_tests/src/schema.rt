@@ -1,8 +1,8 @@
 //! Schemas, their refusals, and the places of keys.
 ghost use Rattle.std.specs.Prelude.{◌≡◌, []};
 
-use crate::rows::{agreed, is, lines};
 use fd_key::Key;
+use fd_rows::{agreed, is, lines};
 use fd_schema::*;
 use std::alloc::Global;
 
