@@ -1,21 +1,23 @@
--- Values that stand in one text, by the list of their places.
-use Rattle.std.proofs.Common.{◌≡◌, ◌<◌, ◌≤◌, ◌+◌, ◌-◌, ℕ, Bool, true, false, cond, List, [], ◌∷◌, ◌++◌, length, take, drop, Option, Some, refl, sym, ap, ap₂, subst, ◌∙◌, append_assoc, arith, leb, length-append, length-drop}
-use Rattle.std.specs.Prelude.{◌^◌, ◌&&◌, All, OnErr, Result, Ok, Err, set, slice_get, slice_range, unwrap_or}
+-- Values that stand in one text, by what the map of their places ensures.
+use Rattle.std.proofs.Common.{◌≡◌, ◌<◌, ◌≤◌, ◌+◌, ◌-◌, ℕ, Bool, true, false, cond, List, [], ◌∷◌, ◌++◌, length, take, drop, Option, Some, None, refl, sym, ap, ap₂, subst, ◌∙◌, arith, leb, length-append, length-drop}
+use Rattle.std.specs.Prelude.{◌^◌, ◌&&◌, All, OnErr, Result, Ok, Err, slice_get, slice_range}
 use Rattle.std.specs.Option.{option_map}
 use Rattle.std.specs.List.{list_all}
+use Rattle.std.specs.Map.{lookup}
 use Rattle.std.specs.Str.{IsCharBoundary, IsUtf8, bytes_eq}
-use Rattle.std.proofs.lemmas.Bool.{and_parts, cond-false, cond-true, leb-true}
+use Rattle.std.specs.Cmp.Lexicographic.{bytes_decides}
+use Rattle.std.proofs.lemmas.Bool.{and_parts, leb-true}
 use Rattle.std.proofs.lemmas.Str.{IsCharBoundary-from_take, IsUtf8-take, IsCharBoundary-end}
-use Rattle.std.proofs.lemmas.List.{take-append-drop, take-append-le, drop-append-le, take_all, drop_all, take_more, take-set, drop-set}
+use Rattle.std.proofs.lemmas.List.{take-append-le, drop-append-le}
 use Rattle.std.proofs.lemmas.List.Elements.{All-nil, All-cons, All-head, All-tail, All-weaker, All-get_or}
 use Rattle.std.proofs.lemmas.Option.{slice_get_within, get_or_from_slice_get, slice_get-map}
 use Rattle.std.proofs.Math.Seq.{take-append_seam, drop-append_seam, take-length}
 use Rattle.arrayvec.specs.ArrayString.{ArrayString}
+use Rattle.indexmap.specs.IndexMap.{insert_entry}
 use Rattle.fd_spelling.specs.Names.{is_name, is_letter, is_name_byte}
 use Rattle.fd_key.specs.declared.span.Span.{Span}
 use Rattle.fd_key.specs.Pairs.{Pair, with_pair, text_of}
-use Rattle.fd_key.proofs.PairLaws.{drop_from_slice_get}
-use Rattle.fd_key.specs.Spans.{Entry, AreKept, IsEntry, IsSpan, pair_at, pairs_at, span_of, with_span}
+use Rattle.fd_key.specs.Spans.{Entry, AreKept, IsEntry, IsSpan, pair_at, pairs_at}
 
 -- the value at a place
 abbrev pub cut_out : List ℕ → Span → List ℕ
@@ -37,24 +39,27 @@ looked : (b : Bool) (values : List ℕ) (s : Span) (o : Option Span) (rest : Opt
 looked true values s o rest h = refl
 looked false values s o rest h = h
 
--- what is found at a name is its text
-pub looked_up : (values : List ℕ) (es : List Entry) (name : List ℕ) → option_map (cut_out values) (span_of es name) ≡ text_of (pairs_at values es) name
+looked_up : (values : List ℕ) (es : List Entry) (name : List ℕ) → option_map (cut_out values) (lookup (λ (k : ArrayString). bytes_eq name k.bytes) es) ≡ text_of (pairs_at values es) name
 looked_up values [] name = refl
 looked_up values (e ∷ es) name =
-    looked (bytes_eq name e.0.bytes) values e.1 (span_of es name) (text_of (pairs_at values es) name) (looked_up values es name)
+    looked (bytes_eq name e.0.bytes) values e.1 (lookup (λ (k : ArrayString). bytes_eq name k.bytes) es) (text_of (pairs_at values es) name) (looked_up values es name)
 
-same_some : (s t : Span) → Some s ≡ Some t → s ≡ t
-same_some s t h = ap (λ (o : Option Span). unwrap_or o s) h
+-- what a map finds at a name is its text
+pub found : (values : List ℕ) (es : List Entry) (k : ArrayString) (name : List ℕ) (o : Option Span) → k.bytes ≡ name → o ≡ lookup (same_name k) es
+    → option_map (cut_out values) o ≡ text_of (pairs_at values es) name
+found values es k name o is at =
+    ap (λ (x : Option Span). option_map (cut_out values) x) at ∙ looked_up values es k.bytes ∙ ap (λ (n : List ℕ). text_of (pairs_at values es) n) is
 
--- a value may be cut out where one was found
-pub span_there : (values : List ℕ) (es : List Entry) (name : List ℕ) (s : Span) → All (IsEntry values) es → Some s ≡ span_of es name → IsSpan values s
-span_there values [] name s are at = absurd (cc at)
-span_there values (e ∷ es) name s are at =
-    go (bytes_eq name e.0.bytes) at (All-head (IsEntry values) e es are).cut (λ (h : Some s ≡ span_of es name). span_there values es name s (All-tail (IsEntry values) e es are) h)
+-- a name that doesn't fit its place is none of those that do
+pub too_long : (values : List ℕ) (es : List Entry) (name : List ℕ) → All (IsEntry values) es → 16 < length name → text_of (pairs_at values es) name ≡ None
+too_long values [] name are long = refl
+too_long values (e ∷ es) name are long =
+    go (bytes_eq name e.0.bytes) refl (All-head (IsEntry values) e es are).name (too_long values es name (All-tail (IsEntry values) e es are) long)
   where
-    go : (b : Bool) → Some s ≡ cond b (Some e.1) (span_of es name) → IsSpan values e.1 → (Some s ≡ span_of es name → IsSpan values s) → IsSpan values s
-    go true same here rest = subst (IsSpan values) (sym (same_some s e.1 same)) here
-    go false other here rest = rest other
+    go : (b : Bool) → bytes_eq name e.0.bytes ≡ b → length e.0.bytes ≤ 16 → text_of (pairs_at values es) name ≡ None
+        → cond b (Some (cut_out values e.1)) (text_of (pairs_at values es) name) ≡ None
+    go true same fits rest = let is : name ≡ e.0.bytes = (bytes_decides name e.0.bytes).0 same in absurd (omega (arith, ap length is, long, fits))
+    go false same fits rest = rest
 
 pub name_fits : (name : List ℕ) → is_name name ≡ true → length name ≤ 16
 name_fits [] h = omega arith
@@ -115,24 +120,24 @@ either true values e s es fs rest h = refl
 either false values e s es fs rest h = ap (λ (ps : List Pair). pair_at values e ∷ ps) h
 
 inserted : (values : List ℕ) (es : List Entry) (k : ArrayString) (s : Span)
-    → pairs_at values (with_span es k s) ≡ with_pair (pairs_at values es) k.bytes (cut_out values s)
+    → pairs_at values (insert_entry same_name es k s) ≡ with_pair (pairs_at values es) k.bytes (cut_out values s)
 inserted values [] k s = refl
 inserted values (e ∷ es) k s =
-    either (same_name k e.0) values e s es (with_span es k s) (with_pair (pairs_at values es) k.bytes (cut_out values s)) (inserted values es k s)
+    either (same_name k e.0) values e s es (insert_entry same_name es k s) (with_pair (pairs_at values es) k.bytes (cut_out values s)) (inserted values es k s)
 
-each_put : (P : Entry → Type 0) (es : List Entry) (k : ArrayString) (s : Span) → All P es → P (k, s) → ((e : Entry) → P e → P (e.0, s)) → All P (with_span es k s)
+each_put : (P : Entry → Type 0) (es : List Entry) (k : ArrayString) (s : Span) → All P es → P (k, s) → ((e : Entry) → P e → P (e.0, s)) → All P (insert_entry same_name es k s)
 each_put P [] k s are new same = All-cons P (k, s) [] new (All-nil P)
 each_put P (e ∷ es) k s are new same = go (same_name k e.0) (each_put P es k s (All-tail P e es are) new same)
   where
-    go : (b : Bool) → All P (with_span es k s) → All P (cond b ((e.0, s) ∷ es) (e ∷ with_span es k s))
+    go : (b : Bool) → All P (insert_entry same_name es k s) → All P (cond b ((e.0, s) ∷ es) (e ∷ insert_entry same_name es k s))
     go true rest = All-cons P (e.0, s) es (same e (All-head P e es are)) (All-tail P e es are)
-    go false rest = All-cons P e (with_span es k s) (All-head P e es are) rest
+    go false rest = All-cons P e (insert_entry same_name es k s) (All-head P e es are) rest
 
-longer : (es : List Entry) (k : ArrayString) (s : Span) → length (with_span es k s) ≤ length es + 1
+longer : (es : List Entry) (k : ArrayString) (s : Span) → length (insert_entry same_name es k s) ≤ length es + 1
 longer [] k s = omega arith
 longer (e ∷ es) k s = go (same_name k e.0) (longer es k s)
   where
-    go : (b : Bool) → length (with_span es k s) ≤ length es + 1 → length (cond b ((e.0, s) ∷ es) (e ∷ with_span es k s)) ≤ length (e ∷ es) + 1
+    go : (b : Bool) → length (insert_entry same_name es k s) ≤ length es + 1 → length (cond b ((e.0, s) ∷ es) (e ∷ insert_entry same_name es k s)) ≤ length (e ∷ es) + 1
     go true rest = omega arith
     go false rest = omega (arith, rest)
 
@@ -153,13 +158,13 @@ slice_behind front back =
 
 -- a value that was put behind the others, at this name
 pub put_pairs : (before value : List ℕ) (es : List Entry) (k : ArrayString) (s : Span) → All (IsEntry before) es → s.start ≡ length before → s.end ≡ length (before ++ value)
-    → pairs_at (before ++ value) (with_span es k s) ≡ with_pair (pairs_at before es) k.bytes value
+    → pairs_at (before ++ value) (insert_entry same_name es k s) ≡ with_pair (pairs_at before es) k.bytes value
 put_pairs before value es k s are start end =
     let new : cut_out (before ++ value) s ≡ value = ap₂ (λ (a b : ℕ). slice_range (before ++ value) a b) start end ∙ slice_behind before value in
     inserted (before ++ value) es k s ∙ ap₂ (λ (ps : List Pair) (v : List ℕ). with_pair ps k.bytes v) (pairs_stay before value es are) new
 
 pub put_kept : (before value : List ℕ) (es : List Entry) (k : ArrayString) (s : Span) → AreKept before es → length es < 2 ^ 32 - 1 → length k.bytes ≤ 16
-    → IsUtf8 before → IsUtf8 (before ++ value) → s.start ≡ length before → s.end ≡ length (before ++ value) → AreKept (before ++ value) (with_span es k s)
+    → IsUtf8 before → IsUtf8 (before ++ value) → s.start ≡ length before → s.end ≡ length (before ++ value) → AreKept (before ++ value) (insert_entry same_name es k s)
 put_kept before value es k s old room name u v start end =
     let cut : IsSpan (before ++ value) s = cut_behind before value s u v start end in
     let stays : All (IsEntry (before ++ value)) es = (stay_kept before value es old u v).each in
@@ -171,35 +176,3 @@ put_kept before value es k s old room name u v start end =
 -- no values stand in the empty text
 pub none_kept : AreKept [] []
 none_kept = record { each = All-nil (IsEntry []); few = omega arith }
-
--- ---- the place of a name
-
--- before this place none of the entries has the name
-abbrev pub IsNew : List Entry → ArrayString → ℕ → Type 0
-IsNew es k i = (s : Span) → with_span es k s ≡ take i es ++ with_span (drop i es) k s
-
-pub new_on : (es : List Entry) (k : ArrayString) (i : ℕ) (e : Entry) → slice_get es i ≡ Some e → bytes_eq k.bytes e.0.bytes ≡ false → IsNew es k i → IsNew es k (i + 1)
-new_on es k i e at other so_far = λ (s : Span).
-    let rest : drop i es ≡ e ∷ drop (i + 1) es = drop_from_slice_get es i e at in
-    let passed : with_span (e ∷ drop (i + 1) es) k s ≡ e ∷ with_span (drop (i + 1) es) k s = cond-false (bytes_eq k.bytes e.0.bytes) ((e.0, s) ∷ drop (i + 1) es) (e ∷ with_span (drop (i + 1) es) k s) other in
-    let front : take (i + 1) es ≡ take i es ++ e ∷ [] = take_more es i e (slice_get_within es i e at) ∙ ap (λ (x : Entry). take i es ++ x ∷ []) (get_or_from_slice_get es i e e at) in
-    so_far s ∙ ap (λ (l : List Entry). take i es ++ with_span l k s) rest ∙ ap (λ (l : List Entry). take i es ++ l) passed
-    ∙ sym (append_assoc (take i es) (e ∷ []) (with_span (drop (i + 1) es) k s)) ∙ ap (λ (l : List Entry). l ++ with_span (drop (i + 1) es) k s) (sym front)
-
--- the first entry that has the name takes the span
-pub seat_here : (es : List Entry) (k : ArrayString) (i : ℕ) (e : Entry) (s : Span) → slice_get es i ≡ Some e → bytes_eq k.bytes e.0.bytes ≡ true → IsNew es k i → set es i (e.0, s) ≡ with_span es k s
-seat_here es k i e s at same so_far =
-    let within : i < length es = slice_get_within es i e at in
-    let rest : drop i es ≡ e ∷ drop (i + 1) es = drop_from_slice_get es i e at in
-    let put : with_span (e ∷ drop (i + 1) es) k s ≡ (e.0, s) ∷ drop (i + 1) es = cond-true (bytes_eq k.bytes e.0.bytes) ((e.0, s) ∷ drop (i + 1) es) (e ∷ with_span (drop (i + 1) es) k s) same in
-    sym (take-append-drop i (set es i (e.0, s))) ∙ ap₂ (λ (a b : List Entry). a ++ b) (take-set es i (e.0, s)) (drop-set es i (e.0, s) within)
-    ∙ ap (λ (l : List Entry). take i es ++ l) (sym put) ∙ ap (λ (l : List Entry). take i es ++ with_span l k s) (sym rest) ∙ sym (so_far s)
-
--- the entry at a place has one value
-pub one_there : (es : List Entry) (i : ℕ) (e f : Entry) → slice_get es i ≡ Some e → slice_get es i ≡ Some f → e ≡ f
-one_there es i e f at also = sym (get_or_from_slice_get es i e e at) ∙ get_or_from_slice_get es i f e also
-
--- where none has the name, it goes behind all
-pub no_seat : (es : List Entry) (k : ArrayString) (i : ℕ) (s : Span) → length es ≤ i → IsNew es k i → es ++ (k, s) ∷ [] ≡ with_span es k s
-no_seat es k i s all so_far =
-    ap₂ (λ (a b : List Entry). a ++ with_span b k s) (sym (take_all i es all)) (sym (drop_all i es all)) ∙ sym (so_far s)

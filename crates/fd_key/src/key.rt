@@ -3,9 +3,11 @@ ghost use Rattle.fd_spelling.specs.Names.{is_name, is_value};
 ghost use Rattle.fd_key.specs.{Pairs.{with_pair, text_of, key_text, pair_text}, Given.{are_reserved}, Values.{value_text}};
 
 use crate::given::Given;
-use crate::span::{Entry, Span, in_place, pair_in, put_span, span_of, value_at};
+use crate::span::{Span, in_place, value_at};
 use crate::value::{Value, push_value};
+use arrayvec::ArrayString;
 use fd_bytes::NoMemory;
+use indexmap::IndexMap;
 use std::alloc::Global;
 use std::marker::Model;
 
@@ -19,7 +21,7 @@ const NAMES: usize = 18;
 #[derive(Drop)]
 pub struct Key {
     values: String,
-    spans: Vec<Entry>,
+    spans: IndexMap<ArrayString<16>, Span>,
 }
 
 impl Model for Key {
@@ -28,9 +30,9 @@ impl Model for Key {
 
     ghost Value = { List Pair };
 
-    ghost view = { λ k. pairs_at (string_bytes k.values) k.spans.items };
+    ghost view = { λ k. pairs_at (string_bytes k.values) k.spans.entries };
 
-    ghost invariant = { λ k. AreKept (string_bytes k.values) k.spans.items };
+    ghost invariant = { λ k. AreKept (string_bytes k.values) k.spans.entries };
 }
 
 impl Key {
@@ -39,7 +41,7 @@ impl Key {
         ensures { IfOk result (λ k. k ≡ []) }
     {
         let values = String::with_capacity(alloc, BYTES)?;
-        let spans = Vec::with_capacity(alloc, NAMES)?;
+        let spans = IndexMap::with_capacity(alloc, NAMES)?;
         Ok(Key { values, spans })
     }
 
@@ -55,8 +57,12 @@ impl Key {
         ensures { option_copied result ≡ text_of self.now name.now }
     {
         let values = self.values.as_str();
-        match span_of(&self.spans, name) {
-            Some(span) => Some(value_at(values, &span)),
+        if name.len() > 16 {
+            return None;
+        }
+        let short = in_place(name);
+        match self.spans.get_full(&short) {
+            Some((_place, _name, span)) => Some(value_at(values, span)),
             None => None,
         }
     }
@@ -75,7 +81,10 @@ impl Key {
         ensures pair { slice_get self.now i ≡ Some (result.0.now, result.1.now) }
         ensures name { length result.0.now ≤ 16 }
     {
-        pair_in(self.values.as_str(), &self.spans, i as usize)
+        match self.spans.get_index(i as usize) {
+            Some((name, span)) => (name.as_str(), value_at(self.values.as_str(), span)),
+            None => ("", ""),
+        }
     }
 
     /// Adds the pair at the end, or puts the text in place of the one that the name has. After `NoMemory` nothing has
@@ -102,7 +111,7 @@ impl Key {
         let start = self.values.len();
         self.values.push_str(text)?;
         let end = self.values.len();
-        put_span(&mut self.spans, in_place(name), Span { start, end })?;
+        self.spans.insert(in_place(name), Span { start, end })?;
         Ok(())
     }
 
@@ -123,7 +132,7 @@ impl Key {
             }
         }
         let end = self.values.len();
-        put_span(&mut self.spans, in_place(name), Span { start, end })?;
+        self.spans.insert(in_place(name), Span { start, end })?;
         Ok(())
     }
 

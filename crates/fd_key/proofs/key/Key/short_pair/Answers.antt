@@ -1,22 +1,21 @@
-use Rattle.std.proofs.Common.{◌≡◌, ◌∙◌, ℕ, List, ap, arith, length, string_bytes, sym}
+use Rattle.std.proofs.Common.{◌≡◌, ◌∙◌, ℕ, List, Some, ap, ap₂, sym, string_bytes}
 use Rattle.std.specs.Prelude.{slice_get}
-use Rattle.std.proofs.lemmas.List.{length-map}
 use Rattle.fd_key.specs.Pairs.{Pair}
-use Rattle.fd_key.specs.Spans.{Entry, pair_at, pairs_at}
+use Rattle.fd_key.specs.Spans.{Entry}
+use Rattle.fd_key.proofs.SpanLaws.{cut_out, entry_there, pair_there}
 use Rattle.fd_key.proofs.key.Key.short_pair.Goals as goal
 
-pub pair_in-requires-clause-kept : goal.pair_in-requires-clause-kept
-pair_in-requires-clause-kept c = rw (c.as_str.ensures.value, c.deref.ensures.value) c.self.invariant.each
+pub value_at-requires : goal.value_at-requires
+value_at-requires c =
+    let e : Entry = (c.in-Some.name.now, c.in-Some.span.now) in
+    let there = entry_there (string_bytes c.self.inside.values) c.self.inside.spans.entries c.args.i e c.self.invariant.each (sym c.in-Some.ensures.entry) in
+    rw c.as_str-in-Some.ensures.value there.cut
 
-pub pair_in-requires-clause-inside : goal.pair_in-requires-clause-inside
-pair_in-requires-clause-inside c =
-    let es : List Entry = c.self.inside.spans.items in
-    let long : length c.args.self.now ≡ length es = ap length (sym c.self.view_is) ∙ length-map es (pair_at (string_bytes c.self.inside.values)) in
-    omega (arith, c.requires, long)
-
-pub returns-clause-pair : goal.returns-clause-pair
-returns-clause-pair c =
+pub returns-in-Some-clause-pair : goal.returns-in-Some-clause-pair
+returns-in-Some-clause-pair c =
+    let e : Entry = (c.in-Some.name.now, c.in-Some.span.now) in
+    let values : List ℕ = string_bytes c.self.inside.values in
+    let cut : c.value_at.result.now ≡ cut_out values c.in-Some.span.now = c.value_at.ensures ∙ ap (λ (v : List ℕ). cut_out v c.in-Some.span.now) c.as_str-in-Some.ensures.value in
     ap (λ (ps : List Pair). slice_get ps c.args.i) (sym c.self.view_is)
-    ∙ ap (λ (v : List ℕ). slice_get (pairs_at v c.self.inside.spans.items) c.args.i) (sym c.as_str.ensures.value)
-    ∙ ap (λ (es : List Entry). slice_get (pairs_at c.as_str.result.now es) c.args.i) (sym c.deref.ensures.value)
-    ∙ c.pair_in.ensures.pair
+    ∙ pair_there values c.self.inside.spans.entries c.args.i e (sym c.in-Some.ensures.entry)
+    ∙ ap₂ (λ (n v : List ℕ). Some (n, v)) (sym c.as_str.ensures.value) (sym cut)
