@@ -63,16 +63,10 @@ pub(crate) fn write_index(alloc: Global, state: &mut State, w: u32) -> Result<To
     ensures ok { OnOk result (state.new ≡ after state.old (WriteIndex w)) }
     ensures err { OnErr result (state.new ≡ state.old) }
 {
-    if state.down {
-        return Ok(Took::No);
-    }
-    let Some(i) = state.writers.place(w) else {
+    let Some(i) = state.ready(w, Phase::Synced) else {
         return Ok(Took::No);
     };
     let writer = state.writers.at(i);
-    if !writer.is_in(Phase::Synced) {
-        return Ok(Took::No);
-    }
     let rows = rows_of(alloc, &writer.pairs)?;
     let name = index_name(writer);
     state.files.write(alloc, name, 0, &rows)?;
@@ -86,16 +80,10 @@ pub(crate) fn sync_index(alloc: Global, state: &mut State, w: u32) -> Result<Too
     ensures ok { OnOk result (state.new ≡ after state.old (SyncIndex w)) }
     ensures err { OnErr result (state.new ≡ state.old) }
 {
-    if state.down {
-        return Ok(Took::No);
-    }
-    let Some(i) = state.writers.place(w) else {
+    let Some(i) = state.ready(w, Phase::Written) else {
         return Ok(Took::No);
     };
     let writer = state.writers.at(i);
-    if !writer.is_in(Phase::Written) {
-        return Ok(Took::No);
-    }
     let name = index_name(writer);
     state.files.sync(alloc, name)?;
     state.writers.set_phase(i, Phase::Sealed);

@@ -14,19 +14,13 @@ pub(crate) fn body(alloc: Global, state: &mut State, w: u32) -> Result<Took, NoM
     ensures ok { OnOk result (state.new ≡ after state.old (Body w)) }
     ensures err { OnErr result (state.new ≡ state.old) }
 {
-    if state.down {
-        return Ok(Took::No);
-    }
     if state.doubt.is_some() {
         return Ok(Took::No);
     }
-    let Some(i) = state.writers.place(w) else {
+    let Some(i) = state.ready(w, Phase::Holding) else {
         return Ok(Took::No);
     };
     let writer = state.writers.at(i);
-    if !writer.is_in(Phase::Holding) {
-        return Ok(Took::No);
-    }
     let body = entry_of(writer).body();
     let gate = gate_at(state.history.len());
     write_file(alloc, &mut state.table, gate + 1, &body)?;
@@ -40,15 +34,9 @@ pub(crate) fn gate(alloc: Global, state: &mut State, w: u32) -> Result<Took, NoM
     ensures ok { OnOk result (state.new ≡ after state.old (Gate w)) }
     ensures err { OnErr result (state.new ≡ state.old) }
 {
-    if state.down {
-        return Ok(Took::No);
-    }
-    let Some(i) = state.writers.place(w) else {
+    let Some(i) = state.ready(w, Phase::BodyFirm) else {
         return Ok(Took::No);
     };
-    if !state.writers.at(i).is_in(Phase::BodyFirm) {
-        return Ok(Took::No);
-    }
     let gate = gate_at(state.history.len());
     write_file(alloc, &mut state.table, gate, &[OPEN])?;
     state.writers.set_phase(i, Phase::GateLoose);
@@ -61,18 +49,12 @@ pub(crate) fn close_gate(alloc: Global, state: &mut State, w: u32) -> Result<Too
     ensures ok { OnOk result (state.new ≡ after state.old (CloseGate w)) }
     ensures err { OnErr result (state.new ≡ state.old) }
 {
-    if state.down {
-        return Ok(Took::No);
-    }
     if !state.doubt.is_some() {
         return Ok(Took::No);
     }
-    let Some(i) = state.writers.place(w) else {
+    let Some(i) = state.ready(w, Phase::Holding) else {
         return Ok(Took::No);
     };
-    if !state.writers.at(i).is_in(Phase::Holding) {
-        return Ok(Took::No);
-    }
     let gate = gate_at(state.history.len());
     write_file(alloc, &mut state.table, gate, &[CLOSED])?;
     state.writers.set_phase(i, Phase::Closing);

@@ -12,15 +12,9 @@ pub(crate) fn sync_body(alloc: Global, state: &mut State, w: u32) -> Result<Took
     ensures ok { OnOk result (state.new ≡ after state.old (SyncBody w)) }
     ensures err { OnErr result (state.new ≡ state.old) }
 {
-    if state.down {
-        return Ok(Took::No);
-    }
-    let Some(i) = state.writers.place(w) else {
+    let Some(i) = state.ready(w, Phase::BodyLoose) else {
         return Ok(Took::No);
     };
-    if !state.writers.at(i).is_in(Phase::BodyLoose) {
-        return Ok(Took::No);
-    }
     sync_file(alloc, &mut state.table)?;
     state.writers.set_phase(i, Phase::BodyFirm);
     Ok(Took::Yes)
@@ -32,15 +26,9 @@ pub(crate) fn sync_gate(alloc: Global, state: &mut State, w: u32) -> Result<Took
     ensures ok { OnOk result (state.new ≡ after state.old (SyncGate w)) }
     ensures err { OnErr result (state.new ≡ state.old) }
 {
-    if state.down {
-        return Ok(Took::No);
-    }
-    let Some(i) = state.writers.place(w) else {
+    let Some(i) = state.ready(w, Phase::GateLoose) else {
         return Ok(Took::No);
     };
-    if !state.writers.at(i).is_in(Phase::GateLoose) {
-        return Ok(Took::No);
-    }
     sync_file(alloc, &mut state.table)?;
     state.writers.set_phase(i, Phase::Listed);
     Ok(Took::Yes)
@@ -52,15 +40,9 @@ pub(crate) fn sync_close(alloc: Global, state: &mut State, w: u32) -> Result<Too
     ensures ok { OnOk result (state.new ≡ after state.old (SyncClose w)) }
     ensures err { OnErr result (state.new ≡ state.old) }
 {
-    if state.down {
-        return Ok(Took::No);
-    }
-    let Some(i) = state.writers.place(w) else {
+    let Some(i) = state.ready(w, Phase::Closing) else {
         return Ok(Took::No);
     };
-    if !state.writers.at(i).is_in(Phase::Closing) {
-        return Ok(Took::No);
-    }
     sync_file(alloc, &mut state.table)?;
     state.doubt = None;
     state.writers.set_phase(i, Phase::Holding);

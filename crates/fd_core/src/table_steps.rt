@@ -10,21 +10,15 @@ pub(crate) fn take(state: &mut State, w: u32) -> Took
     ensures took { result ≡ took_of state.old (Take w) }
     ensures state { state.new ≡ after state.old (Take w) }
 {
-    if state.down {
-        return Took::No;
-    }
     if state.owner.is_some() {
         return Took::No;
     }
     if state.history.len() >= 65535 {
         return Took::No;
     }
-    let Some(i) = state.writers.place(w) else {
+    let Some(i) = state.ready(w, Phase::Sealed) else {
         return Took::No;
     };
-    if !state.writers.at(i).is_in(Phase::Sealed) {
-        return Took::No;
-    }
     state.owner = Some(w);
     state.writers.set_phase(i, Phase::Holding);
     Took::Yes
@@ -36,15 +30,9 @@ pub(crate) fn post(alloc: Global, state: &mut State, w: u32) -> Result<Took, NoM
     ensures ok { OnOk result (state.new ≡ after state.old (Post w)) }
     ensures err { OnErr result (state.new ≡ state.old) }
 {
-    if state.down {
-        return Ok(Took::No);
-    }
-    let Some(i) = state.writers.place(w) else {
+    let Some(i) = state.ready(w, Phase::Listed) else {
         return Ok(Took::No);
     };
-    if !state.writers.at(i).is_in(Phase::Listed) {
-        return Ok(Took::No);
-    }
     let batch = state.writers.at(i).pairs.copy(alloc)?;
     state.history.push(batch)?;
     state.writers.set_phase(i, Phase::Posted);
@@ -56,15 +44,9 @@ pub(crate) fn release(state: &mut State, w: u32) -> Took
     ensures took { result ≡ took_of state.old (Release w) }
     ensures state { state.new ≡ after state.old (Release w) }
 {
-    if state.down {
-        return Took::No;
-    }
-    let Some(i) = state.writers.place(w) else {
+    let Some(i) = state.ready(w, Phase::Posted) else {
         return Took::No;
     };
-    if !state.writers.at(i).is_in(Phase::Posted) {
-        return Took::No;
-    }
     state.owner = None;
     state.writers.begin_next(i);
     Took::Yes
