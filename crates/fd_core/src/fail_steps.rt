@@ -3,8 +3,8 @@ ghost use Rattle.fd_entries.specs.Batches.{total};
 ghost use Rattle.fd_core.specs.{Machine.{after, fields_name, writer_in, writer_of}, Took.{IsAt, took_of}, declared.machine.Phase.TheVariants.{Filling, Synced, Written, Holding, BodyLoose, BodyFirm, GateLoose, Closing}, declared.machine.Step.TheVariants.{Fail}, declared.machine.Writer.{Writer}};
 
 use crate::files::write_file;
-use crate::fill_steps::{fields_name, index_name};
 use crate::machine::entry_of;
+use crate::writer_steps::{fields_name, index_name};
 use crate::{Phase, State, Took};
 use fd_bytes::NoMemory;
 use fd_disk::{FileKind, FileName};

@@ -2,7 +2,7 @@ ghost use Rattle.std.specs.Prelude.{◌≡◌, ◌++◌, ◌∷◌, [], Some, fa
 ghost use Rattle.fd_core.specs.{Machine.{after, filled, put_file, writer_in}, Took.{IsPlace, took_of}, declared.machine.Step.TheVariants.{Put}, declared.machine.Writer.{Writer}};
 
 use crate::fail_steps::{first_seq, next_place};
-use crate::fill_steps::fields_name;
+use crate::writer_steps::fields_name;
 use crate::{Files, NamedFile, Phase, State, Took, Writer, Writers};
 use fd_bytes::{Bytes, NoMemory};
 use fd_entries::{Batch, Pair};

@@ -8,7 +8,7 @@ use Rattle.fd_core.proofs.FillSteps.{sync_data_done}
 use Rattle.fd_core.specs.Machine.{file_of, put_file}
 use Rattle.fd_disk.specs.Images.{synced}
 use Rattle.fd_disk.specs.declared.folders.FileName.{FileName}
-use Rattle.fd_core.proofs.fill_steps.sync_data.Goals as goal
+use Rattle.fd_core.proofs.writer_steps.sync_data.Goals as goal
 
 pub returns-clause-ok : goal.returns-clause-ok
 returns-clause-ok c =

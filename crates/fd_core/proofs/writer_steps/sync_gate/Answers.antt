@@ -6,7 +6,7 @@ use Rattle.fd_core.specs.declared.machine.Phase.{Phase}
 use Rattle.fd_core.specs.declared.machine.Phase.TheVariants.{GateLoose}
 use Rattle.fd_core.specs.declared.machine.Step.TheVariants.{SyncGate}
 use Rattle.fd_core.proofs.Reached.{sync_gate_done, reached_step}
-use Rattle.fd_core.proofs.sync_steps.sync_gate.Goals as goal
+use Rattle.fd_core.proofs.writer_steps.sync_gate.Goals as goal
 
 pub returns-clause-ok : goal.returns-clause-ok
 returns-clause-ok c =

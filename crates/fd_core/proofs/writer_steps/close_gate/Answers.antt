@@ -9,7 +9,7 @@ use Rattle.fd_core.proofs.Reached.{reached_step}
 use Rattle.fd_core.proofs.Reached.{close_gate_done}
 use Rattle.fd_core.proofs.FillSteps.{count_few}
 use Rattle.fd_disk.specs.Images.{written}
-use Rattle.fd_core.proofs.gate_steps.close_gate.Goals as goal
+use Rattle.fd_core.proofs.writer_steps.close_gate.Goals as goal
 
 pub gate_at-gate-requires : goal.gate_at-gate-requires
 gate_at-gate-requires c = count_few (record { table = c.state.inside.table; files = c.state.inside.files; history = c.state.inside.history; writers = c.state.inside.writers; owner = c.state.inside.owner; doubt = c.state.inside.doubt; readers = c.state.inside.readers; down = c.state.inside.down }) c.len.result c.state.invariant c.len.ensures

@@ -6,7 +6,7 @@ use Rattle.fd_core.specs.declared.machine.Phase.{Phase}
 use Rattle.fd_core.specs.declared.machine.Phase.TheVariants.{Posted}
 use Rattle.fd_core.specs.declared.machine.Step.TheVariants.{Release}
 use Rattle.fd_core.proofs.Reached.{release_done, release_fits, reached_step}
-use Rattle.fd_core.proofs.table_steps.release.Goals as goal
+use Rattle.fd_core.proofs.writer_steps.release.Goals as goal
 
 pub returns-clause-state : goal.returns-clause-state
 returns-clause-state c =

@@ -6,7 +6,7 @@ use Rattle.fd_core.specs.declared.machine.Phase.{Phase}
 use Rattle.fd_core.specs.declared.machine.Phase.TheVariants.{Sealed}
 use Rattle.fd_core.specs.declared.machine.Step.TheVariants.{Take}
 use Rattle.fd_core.proofs.Reached.{take_done, reached_step}
-use Rattle.fd_core.proofs.table_steps.take.Goals as goal
+use Rattle.fd_core.proofs.writer_steps.take.Goals as goal
 
 pub returns-clause-state : goal.returns-clause-state
 returns-clause-state c =

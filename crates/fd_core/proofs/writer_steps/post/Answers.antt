@@ -6,7 +6,7 @@ use Rattle.fd_core.specs.declared.machine.Phase.{Phase}
 use Rattle.fd_core.specs.declared.machine.Phase.TheVariants.{Listed}
 use Rattle.fd_core.specs.declared.machine.Step.TheVariants.{Post}
 use Rattle.fd_core.proofs.Reached.{phase_at, post_done, reached_step}
-use Rattle.fd_core.proofs.table_steps.post.Goals as goal
+use Rattle.fd_core.proofs.writer_steps.post.Goals as goal
 
 pub returns-clause-ok : goal.returns-clause-ok
 returns-clause-ok c =

@@ -9,7 +9,7 @@ use Rattle.fd_core.proofs.Reached.{phase_at, reached_step}
 use Rattle.fd_core.proofs.FillSteps.{sync_index_done}
 use Rattle.fd_disk.specs.Images.{synced}
 use Rattle.fd_disk.specs.declared.folders.FileName.{FileName}
-use Rattle.fd_core.proofs.fill_steps.sync_index.Goals as goal
+use Rattle.fd_core.proofs.writer_steps.sync_index.Goals as goal
 
 pub returns-clause-ok : goal.returns-clause-ok
 returns-clause-ok c =

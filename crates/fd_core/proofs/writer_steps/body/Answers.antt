@@ -8,7 +8,7 @@ use Rattle.fd_core.specs.declared.machine.Step.TheVariants.{Body}
 use Rattle.fd_core.proofs.Reached.{phase_at, reached_step}
 use Rattle.fd_core.proofs.FillSteps.{body_done, body_written, count_few, place_bounded}
 use Rattle.fd_entries.specs.Table.{gate_at}
-use Rattle.fd_core.proofs.gate_steps.body.Goals as goal
+use Rattle.fd_core.proofs.writer_steps.body.Goals as goal
 
 pub entry_of-requires : goal.entry_of-requires
 entry_of-requires c =

@@ -9,7 +9,7 @@ use Rattle.fd_core.proofs.Reached.{phase_at, reached_step}
 use Rattle.fd_core.proofs.FillSteps.{write_index_done, place_bounded}
 use Rattle.fd_disk.specs.Images.{written}
 use Rattle.fd_disk.specs.declared.folders.FileName.{FileName}
-use Rattle.fd_core.proofs.fill_steps.write_index.Goals as goal
+use Rattle.fd_core.proofs.writer_steps.write_index.Goals as goal
 
 pub rows_of-requires : goal.rows_of-requires
 rows_of-requires c =
