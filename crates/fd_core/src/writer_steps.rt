@@ -1,36 +1,14 @@
 // What a writer does step by step, from the sync of its batch to the next batch.
 ghost use Rattle.std.specs.Prelude.{◌≡◌, IfOk, OnOk, OnErr};
-ghost use Rattle.fd_core.specs.{Machine.{after, fields_name, index_name}, Took.{took_of}, declared.machine.Step.TheVariants.{Body, CloseGate, Gate, Post, Release, SyncBody, SyncClose, SyncData, SyncGate, SyncIndex, Take, WriteIndex}};
+ghost use Rattle.fd_core.specs.{Machine.{after}, Took.{took_of}, declared.machine.Step.TheVariants.{Body, CloseGate, Gate, Post, Release, SyncBody, SyncClose, SyncData, SyncGate, SyncIndex, Take, WriteIndex}};
 
 use crate::files::{sync_file, write_file};
 use crate::machine::entry_of;
-use crate::{Phase, State, Took, Writer};
+use crate::{Phase, State, Took};
 use fd_bytes::NoMemory;
-use fd_disk::{FileKind, FileName};
+use fd_disk::FileKind;
 use fd_entries::{CLOSED, OPEN, gate_at, rows_of};
 use std::alloc::Global;
-
-/// The name of the field file of a writer's batch.
-pub(crate) fn fields_name(writer: &Writer) -> FileName
-    ensures { result ≡ fields_name writer.now }
-{
-    FileName {
-        writer: writer.id,
-        seq: writer.seq,
-        kind: FileKind::Fields,
-    }
-}
-
-/// The name of the index file of a writer's batch.
-pub(crate) fn index_name(writer: &Writer) -> FileName
-    ensures { result ≡ index_name writer.now }
-{
-    FileName {
-        writer: writer.id,
-        seq: writer.seq,
-        kind: FileKind::Index,
-    }
-}
 
 /// The writer takes the table, where nobody owns it.
 pub(crate) fn take(state: &mut State, w: u32) -> Took
@@ -73,7 +51,7 @@ pub(crate) fn sync_data(alloc: Global, state: &mut State, w: u32) -> Result<Took
     if writer.seq == u32::MAX {
         return Ok(Took::No);
     }
-    let name = fields_name(writer);
+    let name = writer.file(FileKind::Fields);
     state.files.sync(alloc, name)?;
     state.writers.set_phase(i, Phase::Synced);
     Ok(Took::Yes)
@@ -90,7 +68,7 @@ pub(crate) fn write_index(alloc: Global, state: &mut State, w: u32) -> Result<To
     };
     let writer = state.writers.at(i);
     let rows = rows_of(alloc, &writer.pairs)?;
-    let name = index_name(writer);
+    let name = writer.file(FileKind::Index);
     state.files.write(alloc, name, 0, &rows)?;
     state.writers.set_phase(i, Phase::Written);
     Ok(Took::Yes)
@@ -106,7 +84,7 @@ pub(crate) fn sync_index(alloc: Global, state: &mut State, w: u32) -> Result<Too
         return Ok(Took::No);
     };
     let writer = state.writers.at(i);
-    let name = index_name(writer);
+    let name = writer.file(FileKind::Index);
     state.files.sync(alloc, name)?;
     state.writers.set_phase(i, Phase::Sealed);
     Ok(Took::Yes)
