@@ -16,7 +16,7 @@ use Rattle.fd_core.specs.declared.machine.Step.TheVariants.{Look, Take, Post, Re
 use Rattle.fd_entries.specs.Table.{with_gate, with_closed}
 use Rattle.fd_core.proofs.Images.{and_true}
 use Rattle.fd_entries.specs.declared.batch.Pair.{Pair}
-use Rattle.fd_core.specs.Took.{IsReached, IsPlace}
+use Rattle.fd_core.specs.Took.{IsAt, IsReached, IsPlace}
 use Rattle.fd_core.proofs.Holds.{HoldsUp, HoldsIf, Holds}
 use Rattle.fd_core.proofs.Fetching.{same_count}
 use Rattle.fd_core.proofs.EveryRun.{holds}
@@ -63,6 +63,10 @@ place_is s w i x place at = let here = place.writer (fresh s.table w) in cc (her
 pub place_put : (s : World) (w i : ℕ) (ws : List Writer) (f : Writer → Writer) → IsPlace s.writers w i → (f (writer_of s w)).id ≡ w
     → ((x : Writer) → slice_get s.writers i ≡ Some x → ws ≡ slice_set s.writers i (f x)) → ws ≡ put_writer s.writers (f (writer_of s w))
 place_put s w i ws f place id made = made (writer_of s w) (place.writer (fresh s.table w)) ∙ sym (place.put (f (writer_of s w)) id)
+
+-- the writer that stands there has come that far
+pub phase_at : (s : World) (w i : ℕ) (p : Phase) (x : Writer) → IsAt s w i p → slice_get s.writers i ≡ Some x → x.phase ≡ p
+phase_at s w i p x a at = ap (λ (y : Writer). y.phase) (place_is s w i x a.place at) ∙ a.phase
 
 pub take_done : (s : World) (w i : ℕ) (x : Writer) (ws : List Writer) → s.down ≡ false → is_some s.owner ≡ false → length s.history < 65535 → IsPlace s.writers w i → slice_get s.writers i ≡ Some x
     → is_in_phase x Sealed ≡ true → ((x : Writer) → slice_get s.writers i ≡ Some x → ws ≡ slice_set s.writers i (in_other x Holding)) → record s { owner = Some w; writers = ws } ≡ after s (Take w)

@@ -4,13 +4,13 @@ ghost use Rattle.fd_core.specs.{Machine.{after}, Took.{took_of}};
 use crate::crash_steps::crash;
 use crate::fail_steps::fail;
 use crate::fetch_step::fetch;
-use crate::fill_steps::{sync_data, sync_index, write_index};
-use crate::gate_steps::{body, close_gate, gate};
 use crate::open_steps::reopen;
 use crate::put_step::put;
 use crate::state::look;
-use crate::sync_steps::{sync_body, sync_close, sync_gate};
-use crate::table_steps::{post, release, take};
+use crate::writer_steps::{
+    body, close_gate, gate, post, release, sync_body, sync_close, sync_data, sync_gate, sync_index,
+    take, write_index,
+};
 use crate::{State, Step, Took};
 use fd_bytes::NoMemory;
 use std::alloc::Global;

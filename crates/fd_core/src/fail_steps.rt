@@ -3,7 +3,6 @@ ghost use Rattle.fd_entries.specs.Batches.{total};
 ghost use Rattle.fd_core.specs.{Machine.{after, fields_name, writer_in, writer_of}, Took.{IsAt, took_of}, declared.machine.Phase.TheVariants.{Filling, Synced, Written, Holding, BodyLoose, BodyFirm, GateLoose, Closing}, declared.machine.Step.TheVariants.{Fail}, declared.machine.Writer.{Writer}};
 
 use crate::files::write_file;
-use crate::fill_steps::{fields_name, index_name};
 use crate::machine::entry_of;
 use crate::{Phase, State, Took};
 use fd_bytes::NoMemory;
@@ -56,7 +55,7 @@ pub(crate) fn next_place(state: &State, w: u32) -> (FileName, u64)
     match state.writers.place(w) {
         Some(i) => {
             let writer = state.writers.at(i);
-            (fields_name(writer), total_of(&writer.pairs))
+            (writer.file(FileKind::Fields), total_of(&writer.pairs))
         }
         None => {
             let name = FileName {
@@ -89,7 +88,7 @@ fn fail_index(alloc: Global, state: &mut State, w: u32, i: usize) -> Result<(), 
 {
     let writer = state.writers.at(i);
     let rows = rows_of(alloc, &writer.pairs)?;
-    let name = index_name(writer);
+    let name = writer.file(FileKind::Index);
     state.files.write(alloc, name, 0, &rows)?;
     state.writers.set_phase(i, Phase::Filling);
     Ok(())

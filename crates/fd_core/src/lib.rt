@@ -8,15 +8,12 @@ mod dispatch;
 mod fail_steps;
 mod fetch_step;
 mod files;
-mod fill_steps;
-mod gate_steps;
 mod law;
 mod machine;
 mod open_steps;
 mod put_step;
 mod state;
-mod sync_steps;
-mod table_steps;
+mod writer_steps;
 mod writers;
 
 pub use dispatch::step;

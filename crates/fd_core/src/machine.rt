@@ -3,7 +3,7 @@ ghost use Rattle.fd_core.specs.Machine.{can_put, code, entry_of, is_in_phase};
 ghost use Rattle.std.specs.Prelude.{◌≡◌};
 
 use fd_bytes::{Bytes, Items};
-use fd_disk::{File, FileName};
+use fd_disk::{File, FileKind, FileName};
 use fd_entries::{Batch, Entry, distinct_of, distinct_with, rows_len, total_of};
 
 /// How far a writer has come with its batch.
@@ -72,6 +72,17 @@ impl Writer {
         ensures { result ≡ is_in_phase self.now phase }
     {
         self.phase.code() == phase.code()
+    }
+
+    /// The name of a file of its batch.
+    pub(crate) fn file(&self, kind: FileKind) -> FileName
+        ensures { result ≡ record { writer = self.now.id; seq = self.now.seq; kind = kind } }
+    {
+        FileName {
+            writer: self.id,
+            seq: self.seq,
+            kind,
+        }
     }
 
     /// Tells that a pair may be put: the writer is filling its batch and has a number that may put, and the batch with

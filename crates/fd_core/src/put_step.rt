@@ -2,9 +2,9 @@ ghost use Rattle.std.specs.Prelude.{◌≡◌, ◌++◌, ◌∷◌, [], Some, fa
 ghost use Rattle.fd_core.specs.{Machine.{after, filled, put_file, writer_in}, Took.{IsPlace, took_of}, declared.machine.Step.TheVariants.{Put}, declared.machine.Writer.{Writer}};
 
 use crate::fail_steps::{first_seq, next_place};
-use crate::fill_steps::fields_name;
 use crate::{Files, NamedFile, Phase, State, Took, Writer, Writers};
 use fd_bytes::{Bytes, NoMemory};
+use fd_disk::FileKind;
 use fd_entries::{Batch, Pair};
 use std::alloc::Global;
 
@@ -73,7 +73,7 @@ fn put_first(alloc: Global, state: &mut State, w: u32, pair: Pair) -> Result<Too
     if !writer.can_put(pair.key.as_slice(), pair.bytes.as_slice()) {
         return Ok(Took::No);
     }
-    let name = fields_name(&writer);
+    let name = writer.file(FileKind::Fields);
     let file = state.files.written(alloc, name, 0, pair.bytes.as_slice())?;
     let file = NamedFile { name, file };
     writer.pairs.push(pair)?;

@@ -1,8 +1,8 @@
-ghost use Rattle.std.specs.Prelude.{◌≡◌, ◌+◌, ◌++◌, [], ◌∷◌, OnOk, OnErr, IfOk};
+ghost use Rattle.std.specs.Prelude.{◌≡◌, ◌≤◌, ◌+◌, ◌++◌, ◌&&◌, not, false, [], ◌∷◌, OnOk, OnErr, IfOk, IfSome, IfNone};
 ghost use Rattle.fd_entries.specs.Table.{header};
-ghost use Rattle.fd_core.specs.{World.{World}, Machine.{start, put_seen, after}, Took.{took_of}, declared.machine.Step.TheVariants.{Look}};
+ghost use Rattle.fd_core.specs.{World.{World}, Machine.{start, put_seen, after, code, is_in_phase, writer_of}, Took.{IsAt, took_of}, declared.machine.Step.TheVariants.{Look}};
 
-use crate::{Files, Seen, Took, Writers};
+use crate::{Files, Phase, Seen, Took, Writers};
 use fd_bytes::{Bytes, Items, NoMemory};
 use fd_disk::{File, Ranges};
 use fd_entries::{Batch, Entry};
@@ -53,6 +53,23 @@ impl State {
             readers: Items::new(alloc),
             down: false,
         })
+    }
+
+    /// The place of a writer that has come to this phase, which isn't the first, while the machine is up.
+    pub(crate) fn ready(&self, w: u32, phase: Phase) -> Option<usize>
+        requires { 1 ≤ code phase }
+        ensures some { IfSome result (λ i. IsAt self.now w i phase) }
+        ensures none { IfNone result ((not self.now.down && is_in_phase (writer_of self.now w) phase) ≡ false) }
+    {
+        if self.down {
+            return None;
+        }
+        let i = self.writers.place(w)?;
+        if self.writers.at(i).is_in(phase) {
+            Some(i)
+        } else {
+            None
+        }
     }
 }
 

@@ -10,6 +10,16 @@ macro_rules! case {
     ($($field:ident: $value:expr),+) => { Case { $($field: $value,)+ ..CASE } };
 }
 
+/// A case that differs from another in these fields.
+macro_rules! case_of {
+    ($base:expr, $($field:ident: $value:expr),+) => { Case { $($field: $value,)+ ..$base } };
+}
+
+/// A step of a lane that waits until the other has come so far.
+macro_rules! hold {
+    ($lane:expr, $step:expr, $until:expr) => { Hold { lane: $lane, step: $step, until: $until } };
+}
+
 mod cases;
 mod crashes;
 mod cubes;

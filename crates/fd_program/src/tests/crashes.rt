@@ -34,53 +34,19 @@ disk failed
 ",
     status: 6,
     // The second lane begins when the first asks for its third step, and that one waits until the second is at its end.
-    holds: &[
-        Hold {
-            lane: 2,
-            step: 1,
-            until: 3,
-        },
-        Hold {
-            lane: 1,
-            step: 3,
-            until: 3,
-        },
-    ],
+    holds: &[hold!(2, 1, 3), hold!(1, 3, 3)],
     ..SESSION
 };
 
 /// A store over which the two lanes have run, and which lists both batches after a crash.
-const BOTH: Case = Case {
-    fails: Some((TABLE, Op::Sync, 3)),
-    rows: &[CREATED, TWO],
-    after: &[Row {
-        output: &[Part::Text(
-            "class=od,expver=0001,date=20240101,time=0000 centre=98,type=1,levtype=100 param=0.0.0,step=0,levelist=100000 183 2
-class=od,expver=0001,date=20240101,time=0000 centre=98,type=1,levtype=100 param=0.0.0,step=0,levelist=92500 183 1
-",
-        )],
-        ..LISTED
-    }],
-    ..CASE
-};
+const BOTH: Case =
+    case!(fails: Some((TABLE, Op::Sync, 3)), rows: &[CREATED, TWO], after: &[row!(LISTED, output: &[Part::Text("class=od,expver=0001,date=20240101,time=0000 centre=98,type=1,levtype=100 param=0.0.0,step=0,levelist=100000 183 2\nclass=od,expver=0001,date=20240101,time=0000 centre=98,type=1,levtype=100 param=0.0.0,step=0,levelist=92500 183 1\n")])]);
 
 const LISTED_LATE: &[Case] = &[
-    Case {
-        event: Event::Crash(0),
-        ..BOTH
-    },
-    Case {
-        event: Event::Crash(1),
-        ..BOTH
-    },
-    Case {
-        event: Event::Crash(2),
-        ..BOTH
-    },
-    Case {
-        event: Event::Crash(3),
-        ..BOTH
-    },
+    case_of!(BOTH, event: Event::Crash(0)),
+    case_of!(BOTH, event: Event::Crash(1)),
+    case_of!(BOTH, event: Event::Crash(2)),
+    case_of!(BOTH, event: Event::Crash(3)),
 ];
 
 /// Both batches stand after each crash, in the order in which they were listed.
@@ -90,55 +56,21 @@ fn a_batch_listed_after_a_fault_stands(rt: HostRuntime) {
 }
 
 /// A lane whose flush fails at the gate, and who makes no other.
-const ONCE: Row = Row {
-    input: &[
-        Part::Text(
-            "dataset class=od,expver=0001,date=20240101,time=0000
-lane a class=od,expver=0001
-put 1
-flush
-messages
-",
-        ),
-        Part::Field(&[]),
-    ],
-    report: "before 0
-history
-a 1 put ok
-a 2 flush fault
-disk failed
-",
-    status: 6,
-    ..SESSION
-};
+const ONCE: Row =
+    row!(SESSION, input: &[Part::Text("dataset class=od,expver=0001,date=20240101,time=0000\nlane a class=od,expver=0001\nput 1\nflush\nmessages\n"), Part::Field(&[])], report: "before 0\nhistory\na 1 put ok\na 2 flush fault\ndisk failed\n", status: 6);
 
 /// A store over which the lane has run, and which lists no batch after a crash.
 const ABSENT: Case =
     case!(fails: Some((TABLE, Op::Sync, 3)), rows: &[CREATED, ONCE], after: &[row!(LISTED, output: &[])]);
 
 /// The same, where it lists the batch.
-const WHOLE: Case = Case {
-    after: &[LISTED],
-    ..ABSENT
-};
+const WHOLE: Case = case_of!(ABSENT, after: &[LISTED]);
 
 const IN_DOUBT: &[Case] = &[
-    Case {
-        event: Event::Crash(0),
-        ..ABSENT
-    },
-    Case {
-        event: Event::Crash(1),
-        ..WHOLE
-    },
-    Case {
-        event: Event::Crash(2),
-        ..WHOLE
-    },
-    Case {
-        event: Event::Crash(3),
-        ..ABSENT
-    },
+    case_of!(ABSENT, event: Event::Crash(0)),
+    case_of!(WHOLE, event: Event::Crash(1)),
+    case_of!(WHOLE, event: Event::Crash(2)),
+    case_of!(ABSENT, event: Event::Crash(3)),
 ];
 
 /// A crash leaves a batch in doubt whole or not at all, as it leaves the gate.

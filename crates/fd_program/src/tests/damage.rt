@@ -47,20 +47,8 @@ const OLD: (&str, &[Part], &[Part]) = (TABLE, TABLE_FILE, &[]);
 const DAMAGED: Row = row!(RETRIEVED, output: &[], status: 8);
 
 const FIELD_FILES: &[Case] = &[
-    Case {
-        event: Event::Removed(FIELDS),
-        after: &[
-            row!(DAMAGED, report: "damaged class=od,expver=0001,date=20240101,time=0000 Absent 1-1.fields\n"),
-        ],
-        ..SOUND
-    },
-    Case {
-        event: Event::BothReplaced(&[OLD, (FIELDS, &[Part::Field(&[])], &[Part::Length(182)])]),
-        after: &[
-            row!(DAMAGED, report: "damaged class=od,expver=0001,date=20240101,time=0000 Length 1-1.fields 183 182\n"),
-        ],
-        ..SOUND
-    },
+    case_of!(SOUND, event: Event::Removed(FIELDS), after: &[row!(DAMAGED, report: "damaged class=od,expver=0001,date=20240101,time=0000 Absent 1-1.fields\n")]),
+    case_of!(SOUND, event: Event::BothReplaced(&[OLD, (FIELDS, &[Part::Field(&[])], &[Part::Length(182)])]), after: &[row!(DAMAGED, report: "damaged class=od,expver=0001,date=20240101,time=0000 Length 1-1.fields 183 182\n")]),
 ];
 
 #[test]
@@ -69,31 +57,10 @@ fn a_damaged_field_file_is_named(rt: HostRuntime) {
 }
 
 const INDEX_FILES: &[Case] = &[
-    Case {
-        event: Event::Replaced(INDEX, INDEX_FILE, &[]),
-        ..SOUND
-    },
-    Case {
-        event: Event::BothReplaced(&[OLD, (INDEX, INDEX_FILE, &[Part::Length(4000)])]),
-        after: &[
-            row!(DAMAGED, report: "damaged class=od,expver=0001,date=20240101,time=0000 Length 1-1.index 4120 4000\n"),
-        ],
-        ..SOUND
-    },
-    Case {
-        event: Event::BothReplaced(&[OLD, (INDEX, INDEX_FILE, &[Part::At(0, 0)])]),
-        after: &[
-            row!(DAMAGED, report: "damaged class=od,expver=0001,date=20240101,time=0000 Index 1-1.index 0\n"),
-        ],
-        ..SOUND
-    },
-    Case {
-        event: Event::BothReplaced(&[OLD, (INDEX, INDEX_FILE, &[Part::At(90, 0xB8)])]),
-        after: &[
-            row!(DAMAGED, report: "damaged class=od,expver=0001,date=20240101,time=0000 Beyond 1-1.fields 184 183\n"),
-        ],
-        ..SOUND
-    },
+    case_of!(SOUND, event: Event::Replaced(INDEX, INDEX_FILE, &[])),
+    case_of!(SOUND, event: Event::BothReplaced(&[OLD, (INDEX, INDEX_FILE, &[Part::Length(4000)])]), after: &[row!(DAMAGED, report: "damaged class=od,expver=0001,date=20240101,time=0000 Length 1-1.index 4120 4000\n")]),
+    case_of!(SOUND, event: Event::BothReplaced(&[OLD, (INDEX, INDEX_FILE, &[Part::At(0, 0)])]), after: &[row!(DAMAGED, report: "damaged class=od,expver=0001,date=20240101,time=0000 Index 1-1.index 0\n")]),
+    case_of!(SOUND, event: Event::BothReplaced(&[OLD, (INDEX, INDEX_FILE, &[Part::At(90, 0xB8)])]), after: &[row!(DAMAGED, report: "damaged class=od,expver=0001,date=20240101,time=0000 Beyond 1-1.fields 184 183\n")]),
 ];
 
 #[test]
@@ -103,37 +70,10 @@ fn a_damaged_index_is_named(rt: HostRuntime) {
 
 /// A store of the one field with digests, in which a file is another.
 const DIGESTS: &[Case] = &[
-    Case {
-        event: Event::Replaced(FIELDS, &[Part::Field(&[])], &[Part::Octets(DIGEST)]),
-        ..SOUND
-    },
-    Case {
-        event: Event::Replaced(
-            FIELDS,
-            &[Part::Field(&[])],
-            &[Part::Octets(DIGEST), Part::At(100, 7)],
-        ),
-        after: &[Row {
-            report: "damaged class=od,expver=0001,date=20240101,time=0000 FieldDigest 1-1.fields 0 9d90b64bfa67d696f5452ec28ace65ee3e95c32e4b2d83e8af3d8ced7a21963a 63e13a1dc1a034985157704dae3c802965ca2a7654ec7477cac51214342b2a03\n",
-            ..DAMAGED
-        }],
-        ..SOUND
-    },
-    Case {
-        event: Event::Replaced(INDEX, INDEX_FILE, &[Part::At(90, 0xB8)]),
-        after: &[Row {
-            report: "damaged class=od,expver=0001,date=20240101,time=0000 IndexDigest 1-1.index f24e9ee22323bbf646e70189deb59ab0a2457ca0f6151cdd812c667ca60e02e2 e36888d635fb166f3f763cffb4b3982db9c04c5c50b1cdb4899c27ed36f90361\n",
-            ..DAMAGED
-        }],
-        ..SOUND
-    },
-    Case {
-        event: Event::Replaced(FIELDS, &[Part::Field(&[])], &[Part::Length(214)]),
-        after: &[
-            row!(DAMAGED, report: "damaged class=od,expver=0001,date=20240101,time=0000 Length 1-1.fields 215 214\n"),
-        ],
-        ..SOUND
-    },
+    case_of!(SOUND, event: Event::Replaced(FIELDS, &[Part::Field(&[])], &[Part::Octets(DIGEST)])),
+    case_of!(SOUND, event: Event::Replaced(FIELDS, &[Part::Field(&[])], &[Part::Octets(DIGEST), Part::At(100, 7)]), after: &[row!(DAMAGED, report: "damaged class=od,expver=0001,date=20240101,time=0000 FieldDigest 1-1.fields 0 9d90b64bfa67d696f5452ec28ace65ee3e95c32e4b2d83e8af3d8ced7a21963a 63e13a1dc1a034985157704dae3c802965ca2a7654ec7477cac51214342b2a03\n")]),
+    case_of!(SOUND, event: Event::Replaced(INDEX, INDEX_FILE, &[Part::At(90, 0xB8)]), after: &[row!(DAMAGED, report: "damaged class=od,expver=0001,date=20240101,time=0000 IndexDigest 1-1.index f24e9ee22323bbf646e70189deb59ab0a2457ca0f6151cdd812c667ca60e02e2 e36888d635fb166f3f763cffb4b3982db9c04c5c50b1cdb4899c27ed36f90361\n")]),
+    case_of!(SOUND, event: Event::Replaced(FIELDS, &[Part::Field(&[])], &[Part::Length(214)]), after: &[row!(DAMAGED, report: "damaged class=od,expver=0001,date=20240101,time=0000 Length 1-1.fields 215 214\n")]),
 ];
 
 /// Another octet of a field or of an index is told, with both digests, and nothing of the field is written.
@@ -143,21 +83,9 @@ fn a_digest_that_differs_is_named(rt: HostRuntime) {
 }
 
 /// A store whose one entry is of kind 1, and to which another field is added.
-const MIXED: &[Case] = &[Case {
-    event: Event::BothReplaced(&[OLD]),
-    after: &[
-        row!(ARCHIVED, input: &[UPPER]),
-        Row {
-            input: &[Part::Text(
-                "retrieve,class=od,expver=0001,date=20240101,time=00,centre=98,type=1,levtype=100,param=0.0.0,step=0,levelist=100000/92500",
-            )],
-            output: &[Part::Field(&[]), UPPER],
-            report: "found 2 missed 0\n",
-            ..RETRIEVED
-        },
-    ],
-    ..SOUND
-}];
+const MIXED: &[Case] = &[
+    case_of!(SOUND, event: Event::BothReplaced(&[OLD]), after: &[row!(ARCHIVED, input: &[UPPER]), row!(RETRIEVED, input: &[Part::Text("retrieve,class=od,expver=0001,date=20240101,time=00,centre=98,type=1,levtype=100,param=0.0.0,step=0,levelist=100000/92500")], output: &[Part::Field(&[]), UPPER], report: "found 2 missed 0\n")]),
+];
 
 /// Entries of both kinds stand in one table.
 #[test]
@@ -166,33 +94,10 @@ fn a_table_may_have_both_kinds(rt: HostRuntime) {
 }
 
 const TABLES: &[Case] = &[
-    Case {
-        event: Event::Replaced(TABLE, TABLE_FILE, &[]),
-        ..SOUND
-    },
-    Case {
-        event: Event::Replaced(TABLE, TABLE_FILE, &[Part::At(0, 0)]),
-        after: &[
-            row!(DAMAGED, report: "damaged class=od,expver=0001,date=20240101,time=0000 NotATable 0 70 0\n"),
-            row!(ARCHIVED, report: "damaged class=od,expver=0001,date=20240101,time=0000 NotATable 0 70 0\n", status: 8),
-        ],
-        ..SOUND
-    },
-    Case {
-        event: Event::Replaced(TABLE, TABLE_FILE, &[Part::Length(5)]),
-        after: &[
-            row!(DAMAGED, report: "damaged class=od,expver=0001,date=20240101,time=0000 NotATable 5 48 -\n"),
-        ],
-        ..SOUND
-    },
-    Case {
-        event: Event::Replaced("schema", &[Part::Text("[a")], &[]),
-        after: &[
-            row!(DAMAGED, report: "damaged schema 1 End\n"),
-            row!(ARCHIVED, report: "damaged schema 1 End\n", status: 8),
-        ],
-        ..SOUND
-    },
+    case_of!(SOUND, event: Event::Replaced(TABLE, TABLE_FILE, &[])),
+    case_of!(SOUND, event: Event::Replaced(TABLE, TABLE_FILE, &[Part::At(0, 0)]), after: &[row!(DAMAGED, report: "damaged class=od,expver=0001,date=20240101,time=0000 NotATable 0 70 0\n"), row!(ARCHIVED, report: "damaged class=od,expver=0001,date=20240101,time=0000 NotATable 0 70 0\n", status: 8)]),
+    case_of!(SOUND, event: Event::Replaced(TABLE, TABLE_FILE, &[Part::Length(5)]), after: &[row!(DAMAGED, report: "damaged class=od,expver=0001,date=20240101,time=0000 NotATable 5 48 -\n")]),
+    case_of!(SOUND, event: Event::Replaced("schema", &[Part::Text("[a")], &[]), after: &[row!(DAMAGED, report: "damaged schema 1 End\n"), row!(ARCHIVED, report: "damaged schema 1 End\n", status: 8)]),
 ];
 
 #[test]
@@ -201,16 +106,9 @@ fn a_damaged_table_or_schema_is_named(rt: HostRuntime) {
 }
 
 /// The store, the first read of whose field file fails, and after a crash that changes nothing none.
-const FAILING_READ: &[Case] = &[Case {
-    fails: Some((FIELDS, Op::Read, 1)),
-    rows: &[
-        CREATED,
-        ARCHIVED,
-        row!(RETRIEVED, output: &[], report: "disk failed\n", status: 6),
-    ],
-    event: Event::Crash(0),
-    ..SOUND
-}];
+const FAILING_READ: &[Case] = &[
+    case_of!(SOUND, fails: Some((FIELDS, Op::Read, 1)), rows: &[CREATED, ARCHIVED, row!(RETRIEVED, output: &[], report: "disk failed\n", status: 6)], event: Event::Crash(0)),
+];
 
 /// A read that fails writes nothing, and changes nothing: the same retrieve finds the field where none fails.
 #[test]
@@ -219,20 +117,9 @@ fn a_read_that_fails_changes_nothing(rt: HostRuntime) {
 }
 
 const FAILING_STREAMS: &[Case] = &[
-    Case {
-        piece: 183,
-        after: &[row!(RETRIEVED, output: &[], report: "output failed\n", status: 5, writes: &[1])],
-        ..SOUND
-    },
+    case_of!(SOUND, piece: 183, after: &[row!(RETRIEVED, output: &[], report: "output failed\n", status: 5, writes: &[1])]),
     // The input gives the first of two fields, and fails.
-    Case {
-        piece: 183,
-        rows: &[
-            CREATED,
-            row!(ARCHIVED, input: &[Part::Field(&[]), Part::Field(&[(130, 6)])], report: "input failed\n", status: 4, reads: &[2]),
-        ],
-        ..SOUND
-    },
+    case_of!(SOUND, piece: 183, rows: &[CREATED, row!(ARCHIVED, input: &[Part::Field(&[]), Part::Field(&[(130, 6)])], report: "input failed\n", status: 4, reads: &[2])]),
 ];
 
 /// An output that fails takes nothing, and what was read before an input failed is archived.

@@ -24,14 +24,8 @@ const RENEWED: Row = row!(ARCHIVED, input: NEWER);
 const FOUND: Row = row!(RETRIEVED, output: NEWER);
 
 /// The retrieve that finds nothing.
-const MISSED: Row = Row {
-    output: &[],
-    report: "miss class=od,expver=0001,date=20240101,time=0000,centre=98,type=1,levtype=100,param=0.0.0,step=0,levelist=100000
-found 0 missed 1
-",
-    status: 1,
-    ..RETRIEVED
-};
+const MISSED: Row =
+    row!(RETRIEVED, output: &[], report: "miss class=od,expver=0001,date=20240101,time=0000,centre=98,type=1,levtype=100,param=0.0.0,step=0,levelist=100000\nfound 0 missed 1\n", status: 1);
 
 /// The refusal where there is no such dataset.
 const ABSENT: &str = "refused NoDataset\n";
@@ -62,15 +56,7 @@ const DAMAGED: &str = "damaged class=od,expver=0001,date=20240101,time=0000 Abse
 
 const REFUSING: &[Case] = &[
     case!(rows: UNREADY),
-    Case {
-        rows: &[CREATED, ARCHIVED],
-        event: Event::Removed(FIELDS),
-        after: &[
-            row!(PURGED, report: DAMAGED, status: 8),
-            row!(WIPED, report: DAMAGED, status: 8),
-        ],
-        ..CASE
-    },
+    case!(rows: &[CREATED, ARCHIVED], event: Event::Removed(FIELDS), after: &[row!(PURGED, report: DAMAGED, status: 8), row!(WIPED, report: DAMAGED, status: 8)]),
 ];
 
 #[test]
@@ -92,11 +78,7 @@ const CALLS: u64 = 15;
 fn a_halted_purge_keeps_the_newest(rt: HostRuntime) {
     for calls in 0..CALLS {
         for choice in 0..4 {
-            let case = Case {
-                halted: Some((calls, HALTED)),
-                event: Event::Crash(choice),
-                ..MASKED
-            };
+            let case = case_of!(MASKED, halted: Some((calls, HALTED)), event: Event::Crash(choice));
             assert_eq!(rt;
                 first_wrong(&rt, rt.alloc(), &[case]),
                 None,
@@ -104,10 +86,6 @@ fn a_halted_purge_keeps_the_newest(rt: HostRuntime) {
             );
         }
     }
-    let whole = Case {
-        halted: Some((CALLS, PURGED)),
-        event: Event::Crash(0),
-        ..MASKED
-    };
+    let whole = case_of!(MASKED, halted: Some((CALLS, PURGED)), event: Event::Crash(0));
     assert_eq!(rt; first_wrong(&rt, rt.alloc(), &[whole]), None);
 }

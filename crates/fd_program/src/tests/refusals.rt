@@ -11,27 +11,9 @@ const FIRST: Row = row!(ARCHIVED, report: "input failed\n", status: 3);
 const STREAMS: &[Case] = &[
     case!(rows: &[CREATED, row!(FIRST, input: &[Part::Field(&[]), Part::Field(&[(117, 2)])], report: "refused key 2 Product 2\n"), ONE_FIELD]),
     case!(rows: &[CREATED, row!(FIRST, input: &[Part::Field(&[]), Part::Field(&[(41, 4)])], report: "refused message 2 Section 3 4\n"), ONE_FIELD]),
-    Case {
-        rows: &[
-            CREATED,
-            row!(FIRST, input: &[Part::Field(&[]), Part::Field(&[]), Part::Length(300)], report: "refused message 2 Truncated 117 183\n"),
-            ONE_FIELD,
-        ],
-        ..CASE
-    },
+    case!(rows: &[CREATED, row!(FIRST, input: &[Part::Field(&[]), Part::Field(&[]), Part::Length(300)], report: "refused message 2 Truncated 117 183\n"), ONE_FIELD]),
     case!(rows: &[CREATED, row!(FIRST, input: &[Part::Field(&[]), Part::Field(&[(7, 1)])], report: "refused message 2 Edition 1\n"), ONE_FIELD]),
-    Case {
-        rows: &[
-            CREATED,
-            Row {
-                words: &["archive", "s", "--with=class=od"],
-                report: "refused NoRule centre=98,date=20240101,time=0000,type=1,param=0.0.0,levtype=100,levelist=100000,step=0,class=od\n",
-                ..FIRST
-            },
-            EMPTY,
-        ],
-        ..CASE
-    },
+    case!(rows: &[CREATED, row!(FIRST, words: &["archive", "s", "--with=class=od"], report: "refused NoRule centre=98,date=20240101,time=0000,type=1,param=0.0.0,levtype=100,levelist=100000,step=0,class=od\n"), EMPTY]),
 ];
 
 /// An archive stores what comes before what it refuses.
@@ -43,18 +25,9 @@ fn refused_archives_keep_what_came_before(rt: HostRuntime) {
 /// What is told of a store whose one field file is away.
 const AWAY: &str = "damaged class=od,expver=0001,date=20240101,time=0000 Absent 1-1.fields\n";
 
-const DAMAGED: &[Case] = &[Case {
-    rows: &[CREATED, ARCHIVED],
-    event: Event::Removed(FIELDS),
-    after: &[
-        row!(LISTED, output: &[], report: AWAY, status: 8),
-        row!(LISTED, words: &["axes", "s"], output: &[], report: AWAY, status: 8),
-        row!(EMPTY, report: AWAY, status: 8),
-        row!(ARCHIVED, report: AWAY, status: 8),
-        row!(ROW, words: &["trial", "s", "1"], report: AWAY, status: 8),
-    ],
-    ..CASE
-}];
+const DAMAGED: &[Case] = &[
+    case!(rows: &[CREATED, ARCHIVED], event: Event::Removed(FIELDS), after: &[row!(LISTED, output: &[], report: AWAY, status: 8), row!(LISTED, words: &["axes", "s"], output: &[], report: AWAY, status: 8), row!(EMPTY, report: AWAY, status: 8), row!(ARCHIVED, report: AWAY, status: 8), row!(ROW, words: &["trial", "s", "1"], report: AWAY, status: 8)]),
+];
 
 /// Listings, archives and trials tell of a damaged dataset, and leave it so.
 #[test]

@@ -10,51 +10,43 @@ pub(super) const TABLE: &str = "class=od,expver=0001,date=20240101,time=0000/toc
 /// A session, whose script and messages come in its input.
 pub(super) const SESSION: Row = row!(ROW, words: &["session", "s"]);
 
+const FIRST: Part = Part::Field(&[]);
+
 /// The field of the level 92500 in place of 100000.
 pub(super) const UPPER: Part = Part::Field(&[(135, 0x69), (136, 0x54)]);
 
-/// One lane, which gets a field before it lists it, and after.
-const SCRIPT: Part = Part::Text(
-    "dataset class=od,expver=0001,date=20240101,time=0000
-lane a class=od,expver=0001
-put 1
-get retrieve,class=od,expver=0001,date=20240101,time=00,centre=98,type=1,levtype=100,param=0.0.0,step=0,levelist=100000
-flush
-get retrieve,class=od,expver=0001,date=20240101,time=00,centre=98,type=1,levtype=100,param=0.0.0,step=0,levelist=100000
-messages
-",
+/// The first lines of a script of one lane, or of a first one, and the last line of a script.
+const LANE: Part = Part::Text(
+    "dataset class=od,expver=0001,date=20240101,time=0000\nlane a class=od,expver=0001\n",
 );
 
+const MESSAGES: Part = Part::Text("messages\n");
+
+/// Its steps.
+const PUT: Part = Part::Text("put 1\n");
+
+const FLUSH: Part = Part::Text("flush\n");
+
+/// Requests for the first message, and for both.
+const GET: Part = Part::Text(
+    "get retrieve,class=od,expver=0001,date=20240101,time=00,centre=98,type=1,levtype=100,param=0.0.0,step=0,levelist=100000\n",
+);
+
+const GET_BOTH: Part = Part::Text(
+    "get retrieve,class=od,expver=0001,date=20240101,time=00,centre=98,type=1,levtype=100,param=0.0.0,step=0,levelist=100000/92500\n",
+);
+
+/// One lane, which gets a field before it lists it, and after.
+const SCRIPT: &[Part] = &[LANE, PUT, GET, FLUSH, GET, MESSAGES, FIRST];
+
 /// What it does.
-const LISTED: Row = Row {
-    input: &[SCRIPT, Part::Field(&[])],
-    output: FIELD,
-    report: "before 0
-history a.1
-a 1 put ok
-a 2 get 0
-miss
-a 3 flush 1
-a 4 get 1
-found 183
-",
-    ..SESSION
-};
+const LISTED: Row =
+    row!(SESSION, input: SCRIPT, output: FIELD, report: "before 0\nhistory a.1\na 1 put ok\na 2 get 0\nmiss\na 3 flush 1\na 4 get 1\nfound 183\n");
 
 /// A lane that puts a second message.
-const SECOND: &[Part] = &[
-    Part::Text(
-        "dataset class=od,expver=0001,date=20240101,time=0000
-lane a class=od,expver=0001
-put 2
-messages
-",
-    ),
-    Part::Field(&[]),
-];
+const SECOND: &[Part] = &[LANE, Part::Text("put 2\n"), MESSAGES, FIRST];
 
-const SEEING: &[Case] = &[Case {
-    rows: &[
+const SEEING: &[Case] = &[case!(rows: &[
         row!(LISTED, output: &[], report: "refused SchemaMissing\n", status: 3),
         CREATED,
         row!(SESSION, input: &[Part::Text("flush\n")], report: "refused script 1 Dataset\n", status: 3),
@@ -62,9 +54,7 @@ const SEEING: &[Case] = &[Case {
         EMPTY,
         LISTED,
         ONE_FIELD,
-    ],
-    ..CASE
-}];
+    ])];
 
 /// A lane sees what it has listed, and not before; what is refused founds no table.
 #[test]
@@ -74,133 +64,46 @@ fn a_lane_sees_what_it_has_listed(rt: HostRuntime) {
 
 /// Two lanes that wait for one another.
 const TWO: &[Part] = &[
+    LANE,
     Part::Text(
-        "dataset class=od,expver=0001,date=20240101,time=0000
-lane a class=od,expver=0001
-put 1
-get retrieve,class=od,expver=0001,date=20240101,time=00,centre=98,type=1,levtype=100,param=0.0.0,step=0,levelist=92500
-flush
-lane b class=od,expver=0001
-put 2
-flush
-get retrieve,class=od,expver=0001,date=20240101,time=00,centre=98,type=1,levtype=100,param=0.0.0,step=0,levelist=100000/92500
-messages
-",
+        "put 1\nget retrieve,class=od,expver=0001,date=20240101,time=00,centre=98,type=1,levtype=100,param=0.0.0,step=0,levelist=92500\nflush\nlane b class=od,expver=0001\nput 2\nflush\n",
     ),
-    Part::Field(&[]),
+    GET_BOTH,
+    MESSAGES,
+    FIRST,
     UPPER,
 ];
 
 /// The second lane begins after the first has put, and the first gets after the second has ended.
-const BY_TURNS: Row = Row {
-    input: TWO,
-    output: &[UPPER, UPPER],
-    report: "before 0
-history b.1 a.1
-a 1 put ok
-a 2 get 1
-found 183
-a 3 flush 2
-b 1 put ok
-b 2 flush 1
-b 3 get 1
-miss
-found 183
-",
-    holds: &[
-        Hold {
-            lane: 2,
-            step: 1,
-            until: 2,
-        },
-        Hold {
-            lane: 1,
-            step: 2,
-            until: 4,
-        },
-    ],
-    ..SESSION
-};
+const BY_TURNS: Row =
+    row!(SESSION, input: TWO, output: &[UPPER, UPPER], report: "before 0\nhistory b.1 a.1\na 1 put ok\na 2 get 1\nfound 183\na 3 flush 2\nb 1 put ok\nb 2 flush 1\nb 3 get 1\nmiss\nfound 183\n", holds: &[hold!(2, 1, 2), hold!(1, 2, 4)]);
 
 /// A lane that lists two batches, and one that only reads.
 const READ: &[Part] = &[
-    Part::Text(
-        "dataset class=od,expver=0001,date=20240101,time=0000
-lane a class=od,expver=0001
-put 1
-flush
-put 2
-flush
-lane r class=od,expver=0001
-get retrieve,class=od,expver=0001,date=20240101,time=00,centre=98,type=1,levtype=100,param=0.0.0,step=0,levelist=100000/92500
-get retrieve,class=od,expver=0001,date=20240101,time=00,centre=98,type=1,levtype=100,param=0.0.0,step=0,levelist=100000/92500
-get retrieve,class=od,expver=0001,date=20240101,time=00,centre=98,type=1,levtype=100,param=0.0.0,step=0,levelist=100000/92500
-messages
-",
-    ),
-    Part::Field(&[]),
+    LANE,
+    Part::Text("put 1\nflush\nput 2\nflush\nlane r class=od,expver=0001\n"),
+    GET_BOTH,
+    GET_BOTH,
+    GET_BOTH,
+    MESSAGES,
+    FIRST,
     UPPER,
 ];
 
 /// The second lane gets before the first flush, between the two, and behind the second.
-const READING: Row = Row {
-    input: READ,
-    output: &[Part::Field(&[]), Part::Field(&[]), UPPER],
-    report: "before 0
-history a.1 a.2
-a 1 put ok
-a 2 flush 1
-a 3 put ok
-a 4 flush 2
-r 1 get 0
-miss
-miss
-r 2 get 1
-found 183
-miss
-r 3 get 2
-found 183
-found 183
-",
-    holds: &[
-        Hold {
-            lane: 1,
-            step: 1,
-            until: 2,
-        },
-        Hold {
-            lane: 2,
-            step: 2,
-            until: 3,
-        },
-        Hold {
-            lane: 1,
-            step: 3,
-            until: 3,
-        },
-        Hold {
-            lane: 2,
-            step: 3,
-            until: 5,
-        },
-    ],
-    ..SESSION
-};
+const READING: Row =
+    row!(SESSION, input: READ, output: &[Part::Field(&[]), Part::Field(&[]), UPPER], report: "before 0\nhistory a.1 a.2\na 1 put ok\na 2 flush 1\na 3 put ok\na 4 flush 2\nr 1 get 0\nmiss\nmiss\nr 2 get 1\nfound 183\nmiss\nr 3 get 2\nfound 183\nfound 183\n", holds: &[hold!(1, 1, 2), hold!(2, 2, 3), hold!(1, 3, 3), hold!(2, 3, 5)]);
 
 /// The lane of the script above, beside one without a step.
 const IDLE: &[Part] = &[
-    Part::Text(
-        "dataset class=od,expver=0001,date=20240101,time=0000
-lane a class=od,expver=0001
-put 1
-get retrieve,class=od,expver=0001,date=20240101,time=00,centre=98,type=1,levtype=100,param=0.0.0,step=0,levelist=100000
-flush
-get retrieve,class=od,expver=0001,date=20240101,time=00,centre=98,type=1,levtype=100,param=0.0.0,step=0,levelist=100000
-lane b class=od,expver=0001
-messages
-",
-    ),
-    Part::Field(&[]),
+    LANE,
+    PUT,
+    GET,
+    FLUSH,
+    GET,
+    Part::Text("lane b class=od,expver=0001\n"),
+    MESSAGES,
+    FIRST,
     UPPER,
 ];
 
@@ -216,14 +119,10 @@ fn lanes_see_what_is_listed(rt: HostRuntime) {
     assert_eq!(rt; first_wrong(&rt, rt.alloc(), LANES), None);
 }
 
-/// The first line of a script, and the last.
+/// The first line of a script.
 const DATASET: Part = Part::Text("dataset class=od,expver=0001,date=20240101,time=0000\n");
 
-const MESSAGES: Part = Part::Text("messages\n");
-
-/// Two messages that have keys, and one that has none.
-const FIRST: Part = Part::Field(&[]);
-
+/// A message that has another key, and one that has none.
 const OTHER: Part = Part::Field(&[(136, 0xA1)]);
 
 const KEYLESS: Part = Part::Field(&[(117, 2)]);
@@ -234,126 +133,18 @@ const CASTING: &[Case] = &[Case {
     rows: &[
         row!(CREATED, input: &[Part::Text("[class=od/ei, expver, date, time [centre, type, levtype [param, step, levelist?]]]")]),
         row!(MISCAST, input: &[DATASET, Part::Text("lane a \nflush\nput 4\n"), MESSAGES, FIRST, OTHER, KEYLESS], report: "refused script 4 Message\n"),
-        Row {
-            input: &[
-                DATASET,
-                Part::Text("lane a class=od,expver=0001\nput 1\n\nput 3\nput 4\n"),
-                MESSAGES,
-                FIRST,
-                OTHER,
-                KEYLESS,
-            ],
-            report: "refused script 5 Key Product 2\n",
-            ..MISCAST
-        },
+        row!(MISCAST, input: &[DATASET, Part::Text("lane a class=od,expver=0001\nput 1\n\nput 3\nput 4\n"), MESSAGES, FIRST, OTHER, KEYLESS], report: "refused script 5 Key Product 2\n"),
         row!(MISCAST, input: &[DATASET, Part::Text("lane a expver=0001\nput 1\n"), MESSAGES, FIRST, OTHER, KEYLESS], report: "refused script 3 NoRule\n"),
-        Row {
-            input: &[
-                DATASET,
-                Part::Text("lane a class=od,expver=0002\nput 1\n"),
-                MESSAGES,
-                FIRST,
-                OTHER,
-                KEYLESS,
-            ],
-            report: "refused script 3 OtherDataset\n",
-            ..MISCAST
-        },
-        Row {
-            input: &[
-                DATASET,
-                Part::Text(
-                    "lane a class=od,expver=0001\nget retrieve,class=od/rd,expver=0002,date=20240101,time=00,centre=98,type=1,levtype=100,param=0.0.0,step=0\n",
-                ),
-                MESSAGES,
-                FIRST,
-                OTHER,
-                KEYLESS,
-            ],
-            report: "refused script 3 NoRule\n",
-            ..MISCAST
-        },
-        Row {
-            input: &[
-                DATASET,
-                Part::Text(
-                    "lane a class=od,expver=0001\nput 1\nget retrieve,class=od,expver=0001/0002,date=20240101,time=00,centre=98,type=1,levtype=100,param=0.0.0,step=0\nput 9\n",
-                ),
-                MESSAGES,
-                FIRST,
-                OTHER,
-                KEYLESS,
-            ],
-            report: "refused script 4 OtherDataset\n",
-            ..MISCAST
-        },
-        Row {
-            input: &[
-                DATASET,
-                Part::Text(
-                    "lane a class=od,expver=0001\nlane b class=od,expver=0002\nput 2\nlane c \nput 9\n",
-                ),
-                MESSAGES,
-                FIRST,
-                OTHER,
-                KEYLESS,
-            ],
-            report: "refused script 4 OtherDataset\n",
-            ..MISCAST
-        },
+        row!(MISCAST, input: &[DATASET, Part::Text("lane a class=od,expver=0002\nput 1\n"), MESSAGES, FIRST, OTHER, KEYLESS], report: "refused script 3 OtherDataset\n"),
+        row!(MISCAST, input: &[DATASET, Part::Text("lane a class=od,expver=0001\nget retrieve,class=od/rd,expver=0002,date=20240101,time=00,centre=98,type=1,levtype=100,param=0.0.0,step=0\n"), MESSAGES, FIRST, OTHER, KEYLESS], report: "refused script 3 NoRule\n"),
+        row!(MISCAST, input: &[DATASET, Part::Text("lane a class=od,expver=0001\nput 1\nget retrieve,class=od,expver=0001/0002,date=20240101,time=00,centre=98,type=1,levtype=100,param=0.0.0,step=0\nput 9\n"), MESSAGES, FIRST, OTHER, KEYLESS], report: "refused script 4 OtherDataset\n"),
+        row!(MISCAST, input: &[DATASET, Part::Text("lane a class=od,expver=0001\nlane b class=od,expver=0002\nput 2\nlane c \nput 9\n"), MESSAGES, FIRST, OTHER, KEYLESS], report: "refused script 4 OtherDataset\n"),
         EMPTY,
         row!(SESSION, input: &[DATASET, Part::Text("lane a \n"), MESSAGES, FIRST, OTHER, KEYLESS], report: "before 0\nhistory\n"),
         row!(SESSION, input: &[DATASET, MESSAGES], report: "before 0\nhistory\n"),
-        Row {
-            input: &[
-                DATASET,
-                Part::Text(
-                    "lane a class=od,expver=0001\nput 1\nflush\nget retrieve,class=od,expver=0001,date=20240101,time=00,centre=98,type=1,levtype=100,param=0.0.0,step=0,levelist=1/2\nlane b class=od,expver=0001\nput 2\nput 1\n",
-                ),
-                MESSAGES,
-                FIRST,
-                OTHER,
-                KEYLESS,
-            ],
-            report: "before 0
-history a.1
-a 1 put ok
-a 2 flush 1
-a 3 get 1
-miss
-miss
-b 1 put ok
-b 2 put ok
-",
-            ..SESSION
-        },
-        Row {
-            input: &[
-                DATASET,
-                Part::Text("lane b class=od,expver=0001\nput 2\nput 1\nflush\n"),
-                MESSAGES,
-                FIRST,
-                OTHER,
-                KEYLESS,
-            ],
-            report: "before 1
-history b.1
-b 1 put ok
-b 2 put ok
-b 3 flush 2
-",
-            ..SESSION
-        },
-        Row {
-            words: &["list", "s"],
-            input: &[Part::Text("list,param=0.0.0")],
-            output: &[Part::Text(
-                "class=od,expver=0001,date=20240101,time=0000 centre=98,type=1,levtype=100 param=0.0.0,step=0,levelist=100000 183 2
-class=od,expver=0001,date=20240101,time=0000 centre=98,type=1,levtype=100 param=0.0.0,step=0,levelist=100001 183 2
-",
-            )],
-            ..ROW
-        },
+        row!(SESSION, input: &[DATASET, Part::Text("lane a class=od,expver=0001\nput 1\nflush\nget retrieve,class=od,expver=0001,date=20240101,time=00,centre=98,type=1,levtype=100,param=0.0.0,step=0,levelist=1/2\nlane b class=od,expver=0001\nput 2\nput 1\n"), MESSAGES, FIRST, OTHER, KEYLESS], report: "before 0\nhistory a.1\na 1 put ok\na 2 flush 1\na 3 get 1\nmiss\nmiss\nb 1 put ok\nb 2 put ok\n"),
+        row!(SESSION, input: &[DATASET, Part::Text("lane b class=od,expver=0001\nput 2\nput 1\nflush\n"), MESSAGES, FIRST, OTHER, KEYLESS], report: "before 1\nhistory b.1\nb 1 put ok\nb 2 put ok\nb 3 flush 2\n"),
+        row!(ROW, words: &["list", "s"], input: &[Part::Text("list,param=0.0.0")], output: &[Part::Text("class=od,expver=0001,date=20240101,time=0000 centre=98,type=1,levtype=100 param=0.0.0,step=0,levelist=100000 183 2\nclass=od,expver=0001,date=20240101,time=0000 centre=98,type=1,levtype=100 param=0.0.0,step=0,levelist=100001 183 2\n")]),
     ],
     ..CASE
 }];
@@ -365,56 +156,23 @@ fn scripts_are_refused_at_their_first_line_that_fails(rt: HostRuntime) {
 }
 
 /// The same lane over a table whose listing fails.
-const UNLISTED: Row = Row {
-    output: &[],
-    report: "before 0
-history
-a 1 put ok
-a 2 get 0
-miss
-a 3 flush fault
-a 4 get 0
-miss
-disk failed
-",
-    status: 6,
-    ..LISTED
-};
+const UNLISTED: Row =
+    row!(LISTED, output: &[], report: "before 0\nhistory\na 1 put ok\na 2 get 0\nmiss\na 3 flush fault\na 4 get 0\nmiss\ndisk failed\n", status: 6);
 
 /// One lane that flushes again where its first flush has failed.
 const AGAIN: &[Part] = &[
-    Part::Text(
-        "dataset class=od,expver=0001,date=20240101,time=0000
-lane a class=od,expver=0001
-put 1
-get retrieve,class=od,expver=0001,date=20240101,time=00,centre=98,type=1,levtype=100,param=0.0.0,step=0,levelist=100000
-flush
-flush
-get retrieve,class=od,expver=0001,date=20240101,time=00,centre=98,type=1,levtype=100,param=0.0.0,step=0,levelist=100000
-messages
-",
-    ),
-    Part::Field(&[]),
+    LANE,
+    PUT,
+    GET,
+    Part::Text("flush\nflush\n"),
+    GET,
+    MESSAGES,
+    FIRST,
 ];
 
 /// What it does where the sync of the entry's body fails.
-const RELISTED: Row = Row {
-    input: AGAIN,
-    output: FIELD,
-    report: "before 0
-history a.1
-a 1 put ok
-a 2 get 0
-miss
-a 3 flush fault
-a 4 flush 1
-a 5 get 1
-found 183
-disk failed
-",
-    status: 6,
-    ..SESSION
-};
+const RELISTED: Row =
+    row!(SESSION, input: AGAIN, output: FIELD, report: "before 0\nhistory a.1\na 1 put ok\na 2 get 0\nmiss\na 3 flush fault\na 4 flush 1\na 5 get 1\nfound 183\ndisk failed\n", status: 6);
 
 const FAILING: &[Case] = &[
     case!(fails: Some((TABLE, Op::Sync, 3)), rows: &[CREATED, UNLISTED]),

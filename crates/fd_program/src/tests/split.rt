@@ -22,22 +22,16 @@ const MAP_AND_OTHER_VALUES: Part = Part::Octets(&[
     0, 0, 0, 7, 6, 0, 0xF0, 0, 0, 0, 9, 7, 10, 23, 36, 49,
 ]);
 
+/// The front of a message of two fields, and the end of one.
+const OF_TWO: Part = Part::Field(&[(15, 253)]);
+
+const END: Part = Part::Text("7777");
+
 /// The first two generated messages as two fields of one message.
-const BOTH: &[Part] = &[
-    Part::Field(&[(15, 253)]),
-    Part::Length(179),
-    ROUND,
-    Part::Text("7777"),
-];
+const BOTH: &[Part] = &[OF_TWO, Part::Length(179), ROUND, END];
 
 /// The same, where the second field has the bit map of the first, which has none.
-const UNMAPPED: &[Part] = &[
-    Part::Field(&[(15, 253)]),
-    Part::Length(179),
-    ROUND,
-    Part::At(239, 254),
-    Part::Text("7777"),
-];
+const UNMAPPED: &[Part] = &[OF_TWO, Part::Length(179), ROUND, Part::At(239, 254), END];
 
 /// The same, where the first has a bit map.
 const MAPPED: &[Part] = &[
@@ -46,7 +40,7 @@ const MAPPED: &[Part] = &[
     MAP_AND_VALUES,
     ROUND,
     Part::At(240, 254),
-    Part::Text("7777"),
+    END,
 ];
 
 /// Its fields, each as a message with the map.
@@ -54,12 +48,12 @@ const TWO_MAPPED: &[Part] = &[
     Part::Field(&[(15, 184)]),
     Part::Length(164),
     MAP_AND_VALUES,
-    Part::Text("7777"),
+    END,
     Part::Generated(1, 2),
     Part::At(199, 184),
     Part::Length(348),
     MAP_AND_OTHER_VALUES,
-    Part::Text("7777"),
+    END,
 ];
 
 const TWO: &[Part] = &[Part::Generated(0, 2)];
@@ -69,22 +63,7 @@ const PARTING: Case = Case {
         row!(ROW, words: SPLIT, input: BOTH, output: TWO, report: "split 2 junk 0\n"),
         row!(ROW, words: SPLIT, input: TWO, output: TWO, report: "split 2 junk 0\n"),
         row!(ROW, words: SPLIT, input: MAPPED, output: TWO_MAPPED, report: "split 2 junk 0\n"),
-        Row {
-            words: &["values"],
-            input: TWO_MAPPED,
-            output: &[Part::Text(
-                "1 0 1003*2^-1*10^-1
-1 1 1016*2^-1*10^-1
-1 2 1029*2^-1*10^-1
-1 3 1042*2^-1*10^-1
-2 0 1010*2^-1*10^-1
-2 1 1023*2^-1*10^-1
-2 2 1036*2^-1*10^-1
-2 3 1049*2^-1*10^-1
-",
-            )],
-            ..ROW
-        },
+        row!(ROW, words: &["values"], input: TWO_MAPPED, output: &[Part::Text("1 0 1003*2^-1*10^-1\n1 1 1016*2^-1*10^-1\n1 2 1029*2^-1*10^-1\n1 3 1042*2^-1*10^-1\n2 0 1010*2^-1*10^-1\n2 1 1023*2^-1*10^-1\n2 2 1036*2^-1*10^-1\n2 3 1049*2^-1*10^-1\n")]),
         row!(ROW, words: SPLIT, input: &[Part::Text("0123456789ab"), Part::Field(&[]), Part::Text("GRI")], output: FIELD, report: "split 1 junk 15\n"),
         row!(ROW, words: SPLIT, report: "split 0 junk 0\n"),
     ],
@@ -92,14 +71,8 @@ const PARTING: Case = Case {
 };
 
 const IN_PIECES: &[Case] = &[
-    Case {
-        piece: 1,
-        ..PARTING
-    },
-    Case {
-        piece: 200,
-        ..PARTING
-    },
+    case_of!(PARTING, piece: 1),
+    case_of!(PARTING, piece: 200),
     case!(piece: 65_536, rows: &[row!(ROW, words: SPLIT, input: &[Part::Generated(0, 400)], output: &[Part::Generated(0, 400)], report: "split 400 junk 0\n")]),
 ];
 
@@ -112,45 +85,9 @@ const REFUSING: &[Case] = &[Case {
     piece: 7,
     rows: &[
         row!(ROW, words: SPLIT, input: UNMAPPED, report: "refused message 1 NoMap 2\n", status: 3),
-        Row {
-            words: SPLIT,
-            input: &[
-                Part::Generated(0, 2),
-                Part::Field(&[(15, 253)]),
-                Part::Length(366 + 179),
-                ROUND,
-                Part::At(366 + 239, 254),
-                Part::Text("7777"),
-            ],
-            output: TWO,
-            report: "refused message 3 NoMap 2\n",
-            status: 3,
-            ..ROW
-        },
-        Row {
-            words: SPLIT,
-            input: &[
-                Part::Field(&[(15, 253)]),
-                Part::Length(179),
-                ROUND,
-                Part::Text("777"),
-            ],
-            report: "refused message 1 Truncated 252 253\n",
-            status: 3,
-            ..ROW
-        },
-        Row {
-            words: SPLIT,
-            input: &[
-                Part::Field(&[(15, 253)]),
-                Part::Length(179),
-                ROUND,
-                Part::Text("7778"),
-            ],
-            report: "refused message 1 NoEnd 249\n",
-            status: 3,
-            ..ROW
-        },
+        row!(ROW, words: SPLIT, input: &[Part::Generated(0, 2), OF_TWO, Part::Length(366 + 179), ROUND, Part::At(366 + 239, 254), END], output: TWO, report: "refused message 3 NoMap 2\n", status: 3),
+        row!(ROW, words: SPLIT, input: &[OF_TWO, Part::Length(179), ROUND, Part::Text("777")], report: "refused message 1 Truncated 252 253\n", status: 3),
+        row!(ROW, words: SPLIT, input: &[OF_TWO, Part::Length(179), ROUND, Part::Text("7778")], report: "refused message 1 NoEnd 249\n", status: 3),
         row!(ROW, words: SPLIT, input: &[Part::Field(&[]), Part::Field(&[(15, 5)])], output: FIELD, report: "refused message 2 Short 0 5\n", status: 3),
         row!(ROW, words: SPLIT, input: &[Part::Field(&[(12, 8)])], report: "limit TooLong 134217911\n", status: 9),
         row!(ROW, words: &["describe"], input: BOTH, report: "refused message 1 MultiField 4\n", status: 3),
@@ -168,46 +105,20 @@ fn refuses_messages(rt: HostRuntime) {
 }
 
 /// Both fields, from a store that has them.
-const BOTH_FOUND: Row = Row {
-    input: &[Part::Text(
-        "retrieve,class=od,expver=0001,date=20240101,time=00,centre=98,type=1,levtype=100,param=0.0.0,step=0,levelist=100000/92500",
-    )],
-    output: TWO,
-    report: "found 2 missed 0\n",
-    ..RETRIEVED
-};
+const BOTH_FOUND: Row =
+    row!(RETRIEVED, input: &[Part::Text("retrieve,class=od,expver=0001,date=20240101,time=00,centre=98,type=1,levtype=100,param=0.0.0,step=0,levelist=100000/92500")], output: TWO, report: "found 2 missed 0\n");
 
-const STORING: Case = Case {
-    rows: &[
+const STORING: Case = case!(rows: &[
         CREATED,
         row!(ARCHIVED, input: BOTH, report: "archived 2 datasets 1 junk 0\n"),
         BOTH_FOUND,
-        Row {
-            words: &["archive", "s", "--with=class=od,expver=0001", "--workers=4"],
-            input: &[
-                Part::Text("0123456789ab"),
-                Part::Field(&[(15, 253)]),
-                Part::Length(191),
-                ROUND,
-                Part::Text("7777GRI"),
-            ],
-            report: "archived 2 datasets 1 junk 15\n",
-            ..ARCHIVED
-        },
+        row!(ARCHIVED, words: &["archive", "s", "--with=class=od,expver=0001", "--workers=4"], input: &[Part::Text("0123456789ab"), OF_TWO, Part::Length(191), ROUND, Part::Text("7777GRI")], report: "archived 2 datasets 1 junk 15\n"),
         BOTH_FOUND,
-    ],
-    ..CASE
-};
+    ]);
 
 const STORED: &[Case] = &[
-    Case {
-        piece: 1,
-        ..STORING
-    },
-    Case {
-        piece: 200,
-        ..STORING
-    },
+    case_of!(STORING, piece: 1),
+    case_of!(STORING, piece: 200),
     case!(piece: 65_536, rows: &[CREATED, row!(ARCHIVED, input: MAPPED, report: "archived 2 datasets 1 junk 0\n"), row!(BOTH_FOUND, output: TWO_MAPPED)]),
 ];
 
@@ -221,7 +132,7 @@ const MANY: &[Part] = &[
     Part::Field(&[(13, 1), (14, 0x9A), (15, 0xDF)]),
     Part::Length(179),
     Part::Repeated(ROUND_OCTETS, 1500),
-    Part::Text("7777"),
+    END,
 ];
 
 const STORED_IN_PARTS: &[Case] = &[Case {
@@ -230,18 +141,7 @@ const STORED_IN_PARTS: &[Case] = &[Case {
     calls: 16_384,
     rows: &[
         CREATED,
-        Row {
-            words: &["archive", "s", "--with=class=od,expver=0001", "--workers=4"],
-            input: &[
-                Part::Field(&[(13, 1), (14, 0x9A), (15, 0xDF)]),
-                Part::Length(179),
-                Part::Repeated(ROUND_OCTETS, 1500),
-                Part::Text("7777"),
-                Part::Generated(2, 3),
-            ],
-            report: "archived 1502 datasets 1 junk 0\n",
-            ..ARCHIVED
-        },
+        row!(ARCHIVED, words: &["archive", "s", "--with=class=od,expver=0001", "--workers=4"], input: &[Part::Field(&[(13, 1), (14, 0x9A), (15, 0xDF)]), Part::Length(179), Part::Repeated(ROUND_OCTETS, 1500), END, Part::Generated(2, 3)], report: "archived 1502 datasets 1 junk 0\n"),
         BOTH_FOUND,
         row!(ARCHIVED, input: MANY, report: "archived 1501 datasets 1 junk 0\n"),
         BOTH_FOUND,
@@ -261,27 +161,8 @@ const REFUSED_FIELDS: &[Case] = &[
         piece: 7,
         rows: &[
             CREATED,
-            Row {
-                input: &[
-                    Part::Generated(1, 2),
-                    Part::Field(&[(15, 253)]),
-                    Part::Length(183 + 179),
-                    ROUND,
-                    Part::At(183 + 239, 254),
-                    Part::Text("7777"),
-                ],
-                report: "refused message 2 NoMap 2\n",
-                status: 3,
-                ..ARCHIVED
-            },
-            Row {
-                output: &[Part::Generated(1, 2)],
-                report: "miss class=od,expver=0001,date=20240101,time=0000,centre=98,type=1,levtype=100,param=0.0.0,step=0,levelist=100000
-found 1 missed 1
-",
-                status: 1,
-                ..BOTH_FOUND
-            },
+            row!(ARCHIVED, input: &[Part::Generated(1, 2), OF_TWO, Part::Length(183 + 179), ROUND, Part::At(183 + 239, 254), END], report: "refused message 2 NoMap 2\n", status: 3),
+            row!(BOTH_FOUND, output: &[Part::Generated(1, 2)], report: "miss class=od,expver=0001,date=20240101,time=0000,centre=98,type=1,levtype=100,param=0.0.0,step=0,levelist=100000\nfound 1 missed 1\n", status: 1),
         ],
         ..CASE
     },
@@ -290,62 +171,19 @@ found 1 missed 1
         piece: 7,
         rows: &[
             CREATED,
-            Row {
-                input: &[
-                    Part::Generated(2, 3),
-                    Part::Field(&[(15, 253)]),
-                    Part::Length(183 + 179),
-                    ROUND,
-                    Part::At(183 + 187, 2),
-                    Part::Text("7777"),
-                ],
-                report: "refused key 2 Product 2\n",
-                status: 3,
-                ..ARCHIVED
-            },
+            row!(ARCHIVED, input: &[Part::Generated(2, 3), OF_TWO, Part::Length(183 + 179), ROUND, Part::At(183 + 187, 2), END], report: "refused key 2 Product 2\n", status: 3),
             RETRIEVED,
-            Row {
-                output: FIELD,
-                report: "miss class=od,expver=0001,date=20240101,time=0000,centre=98,type=1,levtype=100,param=0.0.0,step=0,levelist=92500
-found 1 missed 1
-",
-                status: 1,
-                ..BOTH_FOUND
-            },
+            row!(BOTH_FOUND, output: FIELD, report: "miss class=od,expver=0001,date=20240101,time=0000,centre=98,type=1,levtype=100,param=0.0.0,step=0,levelist=92500\nfound 1 missed 1\n", status: 1),
         ],
         ..CASE
     },
     // A message that has no end, or ends inside the input, gives none.
-    Case {
-        piece: 7,
-        rows: &[
-            CREATED,
-            Row {
-                input: &[
-                    Part::Field(&[(15, 253)]),
-                    Part::Length(179),
-                    ROUND,
-                    Part::Text("7778"),
-                ],
-                report: "refused message 1 NoEnd 249\n",
-                status: 3,
-                ..ARCHIVED
-            },
-            Row {
-                input: &[
-                    Part::Field(&[(15, 253)]),
-                    Part::Length(179),
-                    ROUND,
-                    Part::Text("777"),
-                ],
-                report: "refused message 1 Truncated 252 253\n",
-                status: 3,
-                ..ARCHIVED
-            },
-            EMPTY,
-        ],
-        ..CASE
-    },
+    case!(piece: 7, rows: &[
+        CREATED,
+        row!(ARCHIVED, input: &[OF_TWO, Part::Length(179), ROUND, Part::Text("7778")], report: "refused message 1 NoEnd 249\n", status: 3),
+        row!(ARCHIVED, input: &[OF_TWO, Part::Length(179), ROUND, Part::Text("777")], report: "refused message 1 Truncated 252 253\n", status: 3),
+        EMPTY,
+    ]),
 ];
 
 #[test]

@@ -14,16 +14,9 @@ pub(super) const CREATED: Row =
 
 const PRESENT: Row = row!(CREATED, report: "refused SchemaPresent\n", status: 3);
 
-const CREATING: &[Case] = &[Case {
-    fails: Some(("schema", Op::Read, 2)),
-    rows: &[
-        row!(CREATED, input: &[Part::Text("[class [param]]")], report: "refused schema 1 Depth\n", status: 3),
-        row!(CREATED, report: "disk failed\n", status: 6),
-        CREATED,
-        PRESENT,
-    ],
-    ..CASE
-}];
+const CREATING: &[Case] = &[
+    case!(fails: Some(("schema", Op::Read, 2)), rows: &[row!(CREATED, input: &[Part::Text("[class [param]]")], report: "refused schema 1 Depth\n", status: 3), row!(CREATED, report: "disk failed\n", status: 6), CREATED, PRESENT]),
+];
 
 /// A store is founded once, and its schema is read each time.
 #[test]
@@ -36,35 +29,17 @@ pub(super) const ARCHIVED: Row =
     row!(ROW, words: &["archive", "s", "--with=class=od,expver=0001"], input: FIELD, report: "archived 1 datasets 1 junk 0\n");
 
 /// A request of the field, which finds it.
-pub(super) const RETRIEVED: Row = Row {
-    words: &["retrieve", "s"],
-    input: &[Part::Text(
-        "retrieve,class=od,expver=0001,date=20240101,time=00,centre=98,type=1,levtype=100,param=0.0.0,step=0,levelist=100000",
-    )],
-    output: FIELD,
-    report: "found 1 missed 0\n",
-    ..ROW
-};
+pub(super) const RETRIEVED: Row =
+    row!(ROW, words: &["retrieve", "s"], input: &[Part::Text("retrieve,class=od,expver=0001,date=20240101,time=00,centre=98,type=1,levtype=100,param=0.0.0,step=0,levelist=100000")], output: FIELD, report: "found 1 missed 0\n");
 
 /// A request of a level that no field has.
-const MISSED: Row = Row {
-    words: &["retrieve", "s"],
-    input: &[Part::Text(
-        "retrieve,class=od,expver=0001,date=20240101,time=00,centre=98,type=1,levtype=100,param=0.0.0,step=0,levelist=5",
-    )],
-    report: "miss class=od,expver=0001,date=20240101,time=0000,centre=98,type=1,levtype=100,param=0.0.0,step=0,levelist=5
-found 0 missed 1
-",
-    status: 1,
-    ..ROW
-};
+const MISSED: Row =
+    row!(ROW, words: &["retrieve", "s"], input: &[Part::Text("retrieve,class=od,expver=0001,date=20240101,time=00,centre=98,type=1,levtype=100,param=0.0.0,step=0,levelist=5")], report: "miss class=od,expver=0001,date=20240101,time=0000,centre=98,type=1,levtype=100,param=0.0.0,step=0,levelist=5\nfound 0 missed 1\n", status: 1);
 
 /// What a store tells of itself that has no field.
 pub(super) const EMPTY: Row = row!(ROW, words: &["stats", "s"]);
 
-const BEGINNING: &[Case] = &[Case {
-    fails: Some(("schema", Op::Read, 7)),
-    rows: &[
+const BEGINNING: &[Case] = &[case!(fails: Some(("schema", Op::Read, 7)), rows: &[
         row!(ARCHIVED, report: "refused SchemaMissing\n", status: 3),
         row!(MISSED, report: "refused SchemaMissing\n", status: 3),
         CREATED,
@@ -72,9 +47,7 @@ const BEGINNING: &[Case] = &[Case {
         row!(ARCHIVED, input: &[], report: "archived 0 datasets 0 junk 0\n"),
         EMPTY,
         row!(EMPTY, report: "disk failed\n", status: 6),
-    ],
-    ..CASE
-}];
+    ])];
 
 /// What a store has before an archive and after an empty one: no field and no dataset.
 #[test]
@@ -84,18 +57,9 @@ fn begins_empty(rt: HostRuntime) {
 
 const BY_TWO: &[&str] = &["retrieve", "--workers", "2", "s"];
 
-const ARCHIVING: &[Case] = &[Case {
-    rows: &[
-        CREATED,
-        ARCHIVED,
-        RETRIEVED,
-        row!(RETRIEVED, words: BY_TWO),
-        row!(MISSED, words: BY_TWO),
-        row!(ARCHIVED, input: NEWER),
-        row!(RETRIEVED, output: NEWER),
-    ],
-    ..CASE
-}];
+const ARCHIVING: &[Case] = &[
+    case!(rows: &[CREATED, ARCHIVED, RETRIEVED, row!(RETRIEVED, words: BY_TWO), row!(MISSED, words: BY_TWO), row!(ARCHIVED, input: NEWER), row!(RETRIEVED, output: NEWER)]),
+];
 
 /// A field that is archived is found, and no other.
 #[test]
@@ -104,14 +68,8 @@ fn archives(rt: HostRuntime) {
 }
 
 /// What a store of the one field lists.
-pub(super) const LISTED: Row = Row {
-    words: &["list", "s"],
-    input: &[Part::Text("list,param=0.0.0")],
-    output: &[Part::Text(
-        "class=od,expver=0001,date=20240101,time=0000 centre=98,type=1,levtype=100 param=0.0.0,step=0,levelist=100000 183 1\n",
-    )],
-    ..ROW
-};
+pub(super) const LISTED: Row =
+    row!(ROW, words: &["list", "s"], input: &[Part::Text("list,param=0.0.0")], output: &[Part::Text("class=od,expver=0001,date=20240101,time=0000 centre=98,type=1,levtype=100 param=0.0.0,step=0,levelist=100000 183 1\n")]);
 
 /// What it tells of itself.
 pub(super) const ONE_FIELD: Row =
@@ -122,24 +80,10 @@ const TELLING: &[Case] = &[Case {
         CREATED,
         ARCHIVED,
         LISTED,
-        Row {
-            words: &["axes", "s"],
-            output: &[Part::Text(
-                "class=od,expver=0001,date=20240101,time=0000 centre=98,type=1,levtype=100 levelist=100000
-class=od,expver=0001,date=20240101,time=0000 centre=98,type=1,levtype=100 param=0.0.0
-class=od,expver=0001,date=20240101,time=0000 centre=98,type=1,levtype=100 step=0
-",
-            )],
-            ..LISTED
-        },
+        row!(LISTED, words: &["axes", "s"], output: &[Part::Text("class=od,expver=0001,date=20240101,time=0000 centre=98,type=1,levtype=100 levelist=100000\nclass=od,expver=0001,date=20240101,time=0000 centre=98,type=1,levtype=100 param=0.0.0\nclass=od,expver=0001,date=20240101,time=0000 centre=98,type=1,levtype=100 step=0\n")]),
         ONE_FIELD,
         row!(ARCHIVED, input: NEWER),
-        Row {
-            output: &[Part::Text(
-                "class=od,expver=0001,date=20240101,time=0000 centre=98,type=1,levtype=100 param=0.0.0,step=0,levelist=100000 183 2\n",
-            )],
-            ..LISTED
-        },
+        row!(LISTED, output: &[Part::Text("class=od,expver=0001,date=20240101,time=0000 centre=98,type=1,levtype=100 param=0.0.0,step=0,levelist=100000 183 2\n")]),
         row!(EMPTY, output: &[Part::Text("class=od,expver=0001,date=20240101,time=0000 entries 2 fields 2 keys 1 bytes 430\n")]),
         row!(LISTED, input: &[Part::Text("list,param")], output: &[], report: "refused request 10 Pair\n", status: 3),
     ],
@@ -152,16 +96,13 @@ fn tells_contents(rt: HostRuntime) {
     assert_eq!(rt; first_wrong(&rt, rt.alloc(), TELLING), None);
 }
 
-const MASKING: &[Case] = &[Case {
-    rows: &[
+const MASKING: &[Case] = &[case!(rows: &[
         CREATED,
         row!(ARCHIVED, input: &[Part::Field(&[]), Part::Field(&[(178, 43)])], report: "archived 2 datasets 1 junk 0\n"),
         row!(RETRIEVED, output: NEWER),
         LISTED,
         row!(EMPTY, output: &[Part::Text("class=od,expver=0001,date=20240101,time=0000 entries 1 fields 1 keys 1 bytes 430\n")]),
-    ],
-    ..CASE
-}];
+    ])];
 
 /// Two fields of one key in one archive are one field of one entry, the later one.
 #[test]
@@ -195,35 +136,14 @@ const MEMBER: &[Part] = &[
 ];
 
 const VERSIONS: &[Case] = &[
-    Case {
-        rows: &[
-            CREATED,
-            Row {
-                input: MEMBER,
-                report: "refused NoRule centre=98,date=20240101,time=0000,type=1,param=0.0.0,levtype=100,levelist=100000,step=0,number=7,class=od,expver=0001\n",
-                status: 3,
-                ..ARCHIVED
-            },
-            ARCHIVED,
-            RETRIEVED,
-        ],
-        ..CASE
-    },
+    case!(rows: &[CREATED, row!(ARCHIVED, input: MEMBER, report: "refused NoRule centre=98,date=20240101,time=0000,type=1,param=0.0.0,levtype=100,levelist=100000,step=0,number=7,class=od,expver=0001\n", status: 3), ARCHIVED, RETRIEVED]),
     Case {
         rows: &[
             row!(CREATED, input: &[Part::Text("version 3 [a [b [c]]]")], report: "refused schema 1 Version\n", status: 3),
             row!(CREATED, input: &[Part::Text("version 2 [class, expver, date, time [centre, type, levtype [param, step, levelist?, number?, stat?]]]")]),
             row!(ARCHIVED, input: MEMBER),
             ARCHIVED,
-            Row {
-                input: &[Part::Text("list,levelist=100000")],
-                output: &[Part::Text(
-                    "class=od,expver=0001,date=20240101,time=0000 centre=98,type=1,levtype=100 param=0.0.0,step=0,levelist=100000 183 2
-class=od,expver=0001,date=20240101,time=0000 centre=98,type=1,levtype=100 param=0.0.0,step=0,levelist=100000,number=7 186 1
-",
-                )],
-                ..LISTED
-            },
+            row!(LISTED, input: &[Part::Text("list,levelist=100000")], output: &[Part::Text("class=od,expver=0001,date=20240101,time=0000 centre=98,type=1,levtype=100 param=0.0.0,step=0,levelist=100000 183 2\nclass=od,expver=0001,date=20240101,time=0000 centre=98,type=1,levtype=100 param=0.0.0,step=0,levelist=100000,number=7 186 1\n")]),
             RETRIEVED,
         ],
         ..CASE

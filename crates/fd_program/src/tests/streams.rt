@@ -6,14 +6,9 @@ const GENERATE: &[&str] = &["generate", "1"];
 
 const UNREAD: &[Part] = &[Part::Text("unread")];
 
-const GENERATING: &[Case] = &[Case {
-    piece: 7,
-    rows: &[
-        row!(ROW, words: GENERATE, input: UNREAD, output: FIELD),
-        row!(ROW, words: GENERATE, input: UNREAD, report: "output failed\n", status: 5, writes: &[1]),
-    ],
-    ..CASE
-}];
+const GENERATING: &[Case] = &[
+    case!(piece: 7, rows: &[row!(ROW, words: GENERATE, input: UNREAD, output: FIELD), row!(ROW, words: GENERATE, input: UNREAD, report: "output failed\n", status: 5, writes: &[1])]),
+];
 
 #[test]
 fn generates(rt: HostRuntime) {
@@ -29,22 +24,16 @@ const THREE: &[Part] = &[
     Part::Text("GRI"),
 ];
 
-const PICK: Case = Case {
-    rows: &[
+const PICK: Case = case!(rows: &[
         row!(ROW, words: &["pick", "step=0"], input: THREE, output: NEWER, report: "found 1 missed 0\n"),
         row!(ROW, words: &["pick", "STEP=0m", "centre=098"], input: THREE, output: NEWER, report: "found 1 missed 0\n"),
         row!(ROW, words: &["pick", "step=12"], input: THREE, report: "found 0 missed 1\n", status: 1),
-    ],
-    ..CASE
-};
+    ]);
 
 const PICKING: &[Case] = &[
-    Case { piece: 1, ..PICK },
-    Case { piece: 200, ..PICK },
-    Case {
-        piece: 65_536,
-        ..PICK
-    },
+    case_of!(PICK, piece: 1),
+    case_of!(PICK, piece: 200),
+    case_of!(PICK, piece: 65_536),
 ];
 
 #[test]
@@ -53,25 +42,17 @@ fn picks(rt: HostRuntime) {
 }
 
 /// Words that are no command.
-const NO_COMMAND: Row = Row {
-    input: FIELD,
-    report: "usage: fdb pick describe values generate create archive retrieve list axes stats session trial purge wipe cubes split\n",
-    status: 2,
-    ..ROW
-};
+const NO_COMMAND: Row =
+    row!(ROW, input: FIELD, report: "usage: fdb pick describe values generate create archive retrieve list axes stats session trial purge wipe cubes split\n", status: 2);
 
-const REFUSING_WORDS: &[Case] = &[Case {
-    piece: 7,
-    rows: &[
+const REFUSING_WORDS: &[Case] = &[case!(piece: 7, rows: &[
         row!(NO_COMMAND, words: &["pick"]),
         NO_COMMAND,
         row!(NO_COMMAND, words: &["pick", "step=0", "STEP=0"]),
         row!(NO_COMMAND, words: &["values", "--decimals=1", "--decimals=1"]),
         row!(NO_COMMAND, words: &["create", "s", "t"]),
         row!(NO_COMMAND, words: &["stats"]),
-    ],
-    ..CASE
-}];
+    ])];
 
 #[test]
 fn refuses_words(rt: HostRuntime) {
@@ -97,14 +78,11 @@ fn refuses_input(rt: HostRuntime) {
     assert_eq!(rt; first_wrong(&rt, rt.alloc(), REFUSING_INPUT), None);
 }
 
-const MEETING_FAULTS: &[Case] = &[Case {
-    rows: &[
+const MEETING_FAULTS: &[Case] = &[case!(rows: &[
         row!(ROW, words: STEP, input: FIELD, report: "input failed\n", status: 4, reads: &[2]),
         row!(ROW, words: STEP, input: FIELD, report: "output failed\n", status: 5, writes: &[1]),
         row!(ROW, words: STEP, input: FIELD, output: FIELD, status: 5, tellings: &[1]),
-    ],
-    ..CASE
-}];
+    ])];
 
 #[test]
 fn meets_faults(rt: HostRuntime) {
@@ -167,7 +145,7 @@ const LIST: Case = Case {
     ..CASE
 };
 
-const LISTING: &[Case] = &[Case { piece: 1, ..LIST }, Case { piece: 200, ..LIST }];
+const LISTING: &[Case] = &[case_of!(LIST, piece: 1), case_of!(LIST, piece: 200)];
 
 #[test]
 fn lists(rt: HostRuntime) {

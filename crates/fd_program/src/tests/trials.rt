@@ -14,24 +14,9 @@ const TRYING: &[Case] = &[
     // Each message is found, also where all are stored again, and the store was founded.
     case!(rows: &[ALL_FOUND, ALL_FOUND, row!(CREATED, report: "refused SchemaPresent\n", status: 3)]),
     // A schema of the same rules in other words is gone by, and the messages are stored again.
-    Case {
-        rows: &[
-            row!(CREATED, input: &[Part::Text("[class,expver,date,time[centre,type,levtype[param,step,levelist?]]] # the same\n")]),
-            FEW_FOUND,
-            ARCHIVED,
-            FEW_FOUND,
-        ],
-        ..CASE
-    },
+    case!(rows: &[row!(CREATED, input: &[Part::Text("[class,expver,date,time[centre,type,levtype[param,step,levelist?]]] # the same\n")]), FEW_FOUND, ARCHIVED, FEW_FOUND]),
     // A schema of other rules is refused, and nothing is stored.
-    Case {
-        rows: &[
-            row!(CREATED, input: &[Part::Text("[class, expver, date [centre, type, levtype [param, step, levelist?]]]")]),
-            row!(FEW_FOUND, report: "refused SchemaDifferent\n", status: 3),
-            EMPTY,
-        ],
-        ..CASE
-    },
+    case!(rows: &[row!(CREATED, input: &[Part::Text("[class, expver, date [centre, type, levtype [param, step, levelist?]]]")]), row!(FEW_FOUND, report: "refused SchemaDifferent\n", status: 3), EMPTY]),
 ];
 
 /// A trial finds what it stores, by the schema that is there or by its own, and goes by no other rules.

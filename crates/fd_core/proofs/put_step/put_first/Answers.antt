@@ -21,8 +21,8 @@ returns-clause-ok c =
     let x : Writer = record { id = c.args.w; pairs = c.new.result; phase = Filling; seq = c.first_seq.result } in
     let may : can_put x p.key p.bytes ≡ true = (ap (λ (l : List ℕ). can_put x l p.bytes) (sym c.as_slice.ensures) ∙ ap (λ (l : List ℕ). can_put x c.as_slice.result.now l) (sym c.as_slice-2.ensures) ∙ sym c.can_put.ensures ∙ c.if-not-can_put.false) in
     let first : x ≡ record { id = c.args.w; pairs = []; phase = Filling; seq = (writer_of s c.args.w).seq } = ap (λ (l : List Pair). record { id = c.args.w; pairs = l; phase = Filling; seq = c.first_seq.result }) c.new.ensures ∙ ap (λ (q : ℕ). record { id = c.args.w; pairs = []; phase = Filling; seq = q }) (c.first_seq.ensures ∙ ap (λ (t : World). (writer_of t c.args.w).seq) (sym c.state.view_is)) in
-    put_first_done s c.args.w x (filled x c.push.new.self) c.fields_name-name.result p c.add_writer.new.files c.add_writer.new.writers up unknown first may c.fields_name-name.ensures
-    (c.in_ok-add_writer.ensures.files ∙ ap (put_file s.files c.fields_name-name.result) (c.in_ok-file.ensures ∙ ap (written (file_of s.files c.fields_name-name.result) 0) c.as_slice-3.ensures))
+    put_first_done s c.args.w x (filled x c.push.new.self) c.file-name.result p c.add_writer.new.files c.add_writer.new.writers up unknown first may c.file-name.ensures
+    (c.in_ok-add_writer.ensures.files ∙ ap (put_file s.files c.file-name.result) (c.in_ok-file.ensures ∙ ap (written (file_of s.files c.file-name.result) 0) c.as_slice-3.ensures))
     (ap (filled x) (c.in_ok-push.ensures.ok ∙ ap (λ (l : List Pair). l ++ p ∷ []) c.new.ensures)) c.in_ok-add_writer.ensures.writers
     ∙ ap (λ (t : World). after t (Put c.args.w c.args.pair.key c.args.pair.bytes)) c.state.view_is
 

@@ -1,13 +1,15 @@
-use Rattle.std.proofs.Common.{ℕ, sym, ◌∙◌, ap, subst, [], ◌∷◌}
+use Rattle.std.proofs.Common.{◌==◌, ℕ, sym, ◌∙◌, ap, subst, [], ◌∷◌}
 use Rattle.fd_core.specs.World.{World}
-use Rattle.fd_core.specs.Took.{IsReached}
-use Rattle.fd_core.specs.Machine.{after}
+use Rattle.fd_core.specs.Took.{IsAt, IsReached}
+use Rattle.fd_core.specs.Machine.{after, code, fresh, writer_of}
+use Rattle.fd_core.specs.declared.machine.Phase.{Phase}
+use Rattle.fd_core.specs.declared.machine.Phase.TheVariants.{Holding}
 use Rattle.fd_core.specs.declared.machine.Step.TheVariants.{CloseGate}
 use Rattle.fd_core.proofs.Reached.{reached_step}
 use Rattle.fd_core.proofs.Reached.{close_gate_done}
 use Rattle.fd_core.proofs.FillSteps.{count_few}
 use Rattle.fd_disk.specs.Images.{written}
-use Rattle.fd_core.proofs.gate_steps.close_gate.Goals as goal
+use Rattle.fd_core.proofs.writer_steps.close_gate.Goals as goal
 
 pub gate_at-gate-requires : goal.gate_at-gate-requires
 gate_at-gate-requires c = count_few (record { table = c.state.inside.table; files = c.state.inside.files; history = c.state.inside.history; writers = c.state.inside.writers; owner = c.state.inside.owner; doubt = c.state.inside.doubt; readers = c.state.inside.readers; down = c.state.inside.down }) c.len.result c.state.invariant c.len.ensures
@@ -15,7 +17,8 @@ gate_at-gate-requires c = count_few (record { table = c.state.inside.table; file
 pub returns-clause-ok : goal.returns-clause-ok
 returns-clause-ok c =
     let s : World = record { table = c.state.inside.table; files = c.state.inside.files; history = c.state.inside.history; writers = c.state.inside.writers; owner = c.state.inside.owner; doubt = c.state.inside.doubt; readers = c.state.inside.readers; down = c.state.inside.down } in
-    close_gate_done s c.args.w c.in-Some.i c.len.result c.at.result.now c.write_file.new.file c.set_phase.new.self c.if-state.false (sym c.is_some.ensures ∙ c.if-not-is_some.false) c.in-Some.ensures.some c.at.ensures (sym c.is_in.ensures ∙ c.if-not-is_in.false) c.len.ensures
+    let at : IsAt s c.args.w c.in-Some.i Holding = subst (λ (t : World). IsAt t c.args.w c.in-Some.i Holding) (sym c.state.view_is) c.in-Some.ensures.some in
+    close_gate_done s c.args.w c.in-Some.i c.len.result (writer_of s c.args.w) c.write_file.new.file c.set_phase.new.self at.up (sym c.is_some.ensures ∙ c.if-not-is_some.false) at.place (at.place.writer (fresh s.table c.args.w)) (ap (λ (q : Phase). code q == code Holding) at.phase) c.len.ensures
     (c.in_ok-write_file.ensures.ok ∙ ap (λ (n : ℕ). written s.table n (0 ∷ [])) c.gate_at-gate.ensures.place) c.set_phase.ensures
     ∙ ap (λ (t : World). after t (CloseGate c.args.w)) c.state.view_is
 

@@ -1,15 +1,18 @@
-use Rattle.std.proofs.Common.{sym, ◌∙◌, ap, subst}
+use Rattle.std.proofs.Common.{◌==◌, sym, ◌∙◌, ap, subst}
 use Rattle.fd_core.specs.World.{World}
-use Rattle.fd_core.specs.Took.{IsReached}
-use Rattle.fd_core.specs.Machine.{after}
+use Rattle.fd_core.specs.Took.{IsAt, IsReached}
+use Rattle.fd_core.specs.Machine.{after, code, fresh, writer_of}
+use Rattle.fd_core.specs.declared.machine.Phase.{Phase}
+use Rattle.fd_core.specs.declared.machine.Phase.TheVariants.{BodyLoose}
 use Rattle.fd_core.specs.declared.machine.Step.TheVariants.{SyncBody}
 use Rattle.fd_core.proofs.Reached.{sync_body_done, reached_step}
-use Rattle.fd_core.proofs.sync_steps.sync_body.Goals as goal
+use Rattle.fd_core.proofs.writer_steps.sync_body.Goals as goal
 
 pub returns-clause-ok : goal.returns-clause-ok
 returns-clause-ok c =
     let s : World = record { table = c.state.inside.table; files = c.state.inside.files; history = c.state.inside.history; writers = c.state.inside.writers; owner = c.state.inside.owner; doubt = c.state.inside.doubt; readers = c.state.inside.readers; down = c.state.inside.down } in
-    sync_body_done s c.args.w c.in-Some.i c.at.result.now c.sync_file.new.file c.set_phase.new.self c.if-state.false c.in-Some.ensures.some c.at.ensures (sym c.is_in.ensures ∙ c.if-not-is_in.false) c.in_ok-sync_file.ensures.ok c.set_phase.ensures
+    let at : IsAt s c.args.w c.in-Some.i BodyLoose = subst (λ (t : World). IsAt t c.args.w c.in-Some.i BodyLoose) (sym c.state.view_is) c.in-Some.ensures.some in
+    sync_body_done s c.args.w c.in-Some.i (writer_of s c.args.w) c.sync_file.new.file c.set_phase.new.self at.up at.place (at.place.writer (fresh s.table c.args.w)) (ap (λ (q : Phase). code q == code BodyLoose) at.phase) c.in_ok-sync_file.ensures.ok c.set_phase.ensures
     ∙ ap (λ (t : World). after t (SyncBody c.args.w)) c.state.view_is
 
 pub invariant_of-state-2 : goal.invariant_of-state-2

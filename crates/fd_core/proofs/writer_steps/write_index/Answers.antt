@@ -1,0 +1,29 @@
+use Rattle.std.proofs.Common.{◌==◌, sym, ◌∙◌, ap, subst}
+use Rattle.fd_core.specs.World.{World}
+use Rattle.fd_core.specs.Took.{IsAt, IsReached}
+use Rattle.fd_core.specs.Machine.{after, code, file_of, put_file}
+use Rattle.fd_core.specs.declared.machine.Phase.{Phase}
+use Rattle.fd_core.specs.declared.machine.Phase.TheVariants.{Synced}
+use Rattle.fd_core.specs.declared.machine.Step.TheVariants.{WriteIndex}
+use Rattle.fd_core.proofs.Reached.{phase_at, reached_step}
+use Rattle.fd_core.proofs.FillSteps.{write_index_done, place_bounded}
+use Rattle.fd_disk.specs.Images.{written}
+use Rattle.fd_disk.specs.declared.folders.FileName.{FileName}
+use Rattle.fd_core.proofs.writer_steps.write_index.Goals as goal
+
+pub rows_of-requires : goal.rows_of-requires
+rows_of-requires c =
+    let s : World = record { table = c.state.inside.table; files = c.state.inside.files; history = c.state.inside.history; writers = c.state.inside.writers; owner = c.state.inside.owner; doubt = c.state.inside.doubt; readers = c.state.inside.readers; down = c.state.inside.down } in
+    let at : IsAt s c.args.w c.in-Some.i Synced = subst (λ (t : World). IsAt t c.args.w c.in-Some.i Synced) (sym c.state.view_is) c.in-Some.ensures.some in
+    place_bounded s c.args.w c.in-Some.i c.at-writer.result.now c.state.invariant at.up at.place c.at-writer.ensures
+
+pub returns-clause-ok : goal.returns-clause-ok
+returns-clause-ok c =
+    let s : World = record { table = c.state.inside.table; files = c.state.inside.files; history = c.state.inside.history; writers = c.state.inside.writers; owner = c.state.inside.owner; doubt = c.state.inside.doubt; readers = c.state.inside.readers; down = c.state.inside.down } in
+    let at : IsAt s c.args.w c.in-Some.i Synced = subst (λ (t : World). IsAt t c.args.w c.in-Some.i Synced) (sym c.state.view_is) c.in-Some.ensures.some in
+    write_index_done s c.args.w c.in-Some.i c.at-writer.result.now c.deref.result.now c.write.new.self c.set_phase.new.self at.up at.place c.at-writer.ensures (ap (λ (q : Phase). code q == code Synced) (phase_at s c.args.w c.in-Some.i Synced c.at-writer.result.now at c.at-writer.ensures))
+    (c.deref.ensures.value ∙ c.in_ok-rows.ensures) (c.in_ok-write.ensures.ok ∙ ap (λ (n : FileName). put_file s.files n (written (file_of s.files n) 0 c.deref.result.now)) c.file-name.ensures) c.set_phase.ensures
+    ∙ ap (λ (t : World). after t (WriteIndex c.args.w)) c.state.view_is
+
+pub invariant_of-state-2 : goal.invariant_of-state-2
+invariant_of-state-2 c = subst IsReached (sym (returns-clause-ok c)) (subst (λ (t : World). IsReached (after t (WriteIndex c.args.w))) c.state.view_is (reached_step _ (WriteIndex c.args.w) c.state.invariant))
