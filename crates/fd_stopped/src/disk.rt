@@ -37,13 +37,7 @@ impl<F: Send, T: Disk<F>> Disk<StopFault<F>> for Stopped<T> {
     ghost synced_firm = { λ d f is synced. T.synced_firm d.inner f is synced };
 
     fn read_at(&mut self, at: u64, into: &mut [u8]) -> Result<usize, StopFault<F>> {
-        if self.stops.stop() {
-            return Err(StopFault::Stopped);
-        }
-        match self.inner.read_at(at, into) {
-            Ok(n) => Ok(n),
-            Err(fault) => Err(StopFault::Below(fault)),
-        }
+        passed_by_file!(self.stops, self.inner.read_at(at, into))
     }
 
     fn write_at(&mut self, at: u64, bytes: &[u8]) -> Result<(), StopFault<F>>
@@ -60,13 +54,7 @@ impl<F: Send, T: Disk<F>> Disk<StopFault<F>> for Stopped<T> {
         ensures cause { HasCause (T.faults self.old.inner + self.old.stops.met) (T.faults self.new.inner + self.new.stops.met) result }
         ensures stopped { OnStopped result (self.new.inner ≡ self.old.inner) }
     {
-        if self.stops.stop() {
-            return Err(StopFault::Stopped);
-        }
-        match self.inner.write_at(at, bytes) {
-            Ok(()) => Ok(()),
-            Err(fault) => Err(StopFault::Below(fault)),
-        }
+        passed_by_file!(self.stops, self.inner.write_at(at, bytes))
     }
 
     fn sync(&mut self) -> Result<(), StopFault<F>>
@@ -81,13 +69,7 @@ impl<F: Send, T: Disk<F>> Disk<StopFault<F>> for Stopped<T> {
         ensures cause { HasCause (T.faults self.old.inner + self.old.stops.met) (T.faults self.new.inner + self.new.stops.met) result }
         ensures stopped { OnStopped result (self.new.inner ≡ self.old.inner) }
     {
-        if self.stops.stop() {
-            return Err(StopFault::Stopped);
-        }
-        match self.inner.sync() {
-            Ok(()) => Ok(()),
-            Err(fault) => Err(StopFault::Below(fault)),
-        }
+        passed_by_file!(self.stops, self.inner.sync())
     }
 
     fn seal(self) -> Stopped<T::Sealed> {

@@ -55,14 +55,8 @@ impl<F: Send, D: Folder<F>> Folder<StopFault<F>> for Stopped<D> {
         ensures cause { HasDownCause (D.faults self.old.inner + self.old.stops.met) (D.faults self.new.inner + self.new.stops.met) result }
         ensures stopped { OnCallStopped result (self.new.inner ≡ self.old.inner) }
     {
-        if self.stops.stop() {
-            return Err(Down::Fault(StopFault::Stopped));
-        }
-        match self.inner.found(alloc, first) {
-            Ok(()) => Ok(()),
-            Err(Down::Fault(fault)) => Err(Down::Fault(StopFault::Below(fault))),
-            Err(Down::NoMemory) => Err(Down::NoMemory),
-        }
+        stop!(self.stops);
+        passed!(self.inner.found(alloc, first), Ok(()) => Ok(()))
     }
 
     fn table(&mut self, alloc: Global) -> Result<Option<Stopped<D::Table>>, Down<StopFault<F>>>
@@ -82,18 +76,8 @@ impl<F: Send, D: Folder<F>> Folder<StopFault<F>> for Stopped<D> {
         ensures stopped { OnCallStopped result (self.new.inner ≡ self.old.inner) }
         ensures counted { IfOk result (λ o. IfSome o (λ t. count_of t.stops ≡ count_of self.old.stops)) }
     {
-        if self.stops.stop() {
-            return Err(Down::Fault(StopFault::Stopped));
-        }
-        let Ok(stops) = self.stops.shared() else {
-            return Err(Down::NoMemory);
-        };
-        match self.inner.table(alloc) {
-            Ok(Some(table)) => Ok(Some(Stopped::new(table, stops))),
-            Ok(None) => Ok(None),
-            Err(Down::Fault(fault)) => Err(Down::Fault(StopFault::Below(fault))),
-            Err(Down::NoMemory) => Err(Down::NoMemory),
-        }
+        let stops = shared!(self.stops);
+        passed!(self.inner.table(alloc), Ok(Some(table)) => Ok(Some(Stopped::new(table, stops))), Ok(None) => Ok(None))
     }
 
     fn give_table(&mut self, table: Stopped<D::Table>) {
@@ -113,17 +97,8 @@ impl<F: Send, D: Folder<F>> Folder<StopFault<F>> for Stopped<D> {
         ensures stopped { OnCallStopped result (self.new.inner ≡ self.old.inner) }
         ensures counted { IfOk result (λ s. count_of s.stops ≡ count_of self.old.stops) }
     {
-        if self.stops.stop() {
-            return Err(Down::Fault(StopFault::Stopped));
-        }
-        let Ok(stops) = self.stops.shared() else {
-            return Err(Down::NoMemory);
-        };
-        match self.inner.shelf(alloc, writer) {
-            Ok(shelf) => Ok(Stopped::new(shelf, stops)),
-            Err(Down::Fault(fault)) => Err(Down::Fault(StopFault::Below(fault))),
-            Err(Down::NoMemory) => Err(Down::NoMemory),
-        }
+        let stops = shared!(self.stops);
+        passed!(self.inner.shelf(alloc, writer), Ok(shelf) => Ok(Stopped::new(shelf, stops)))
     }
 
     fn give_shelf(&mut self, shelf: Stopped<D::Shelf>) {
@@ -146,17 +121,7 @@ impl<F: Send, D: Folder<F>> Folder<StopFault<F>> for Stopped<D> {
         ensures stopped { OnCallStopped result (self.new.inner ≡ self.old.inner) }
         ensures counted { IfOk result (λ o. IfSome o (λ z. count_of z.stops ≡ count_of self.old.stops)) }
     {
-        if self.stops.stop() {
-            return Err(Down::Fault(StopFault::Stopped));
-        }
-        let Ok(stops) = self.stops.shared() else {
-            return Err(Down::NoMemory);
-        };
-        match self.inner.sealed(alloc, file) {
-            Ok(Some(sealed)) => Ok(Some(Stopped::new(sealed, stops))),
-            Ok(None) => Ok(None),
-            Err(Down::Fault(fault)) => Err(Down::Fault(StopFault::Below(fault))),
-            Err(Down::NoMemory) => Err(Down::NoMemory),
-        }
+        let stops = shared!(self.stops);
+        passed!(self.inner.sealed(alloc, file), Ok(Some(sealed)) => Ok(Some(Stopped::new(sealed, stops))), Ok(None) => Ok(None))
     }
 }

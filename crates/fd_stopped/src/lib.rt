@@ -1,6 +1,38 @@
 //! A store that stops: over any other store, it passes so many calls on and fails all later ones, which do nothing.
 #![tactic(auto)]
 
+/// Ends a call where no more go on.
+macro_rules! stop {
+    ($stops:expr) => { if $stops.stop() { return Err(Down::Fault(StopFault::Stopped)); } };
+}
+
+/// The same, and the count for one object more.
+macro_rules! shared {
+    ($stops:expr) => {{
+        stop!($stops);
+        match $stops.shared() { Ok(stops) => stops, Err(_) => return Err(Down::NoMemory) }
+    }};
+}
+
+/// What a call of the object below gave, as the object that stops gives it.
+macro_rules! passed {
+    ($call:expr, $($good:pat => $given:expr),+) => {
+        match $call {
+            $($good => $given,)+
+            Err(Down::Fault(fault)) => Err(Down::Fault(StopFault::Below(fault))),
+            Err(Down::NoMemory) => Err(Down::NoMemory),
+        }
+    };
+}
+
+/// What a call of the file below gives, where it goes on.
+macro_rules! passed_by_file {
+    ($stops:expr, $call:expr) => {{
+        if $stops.stop() { return Err(StopFault::Stopped); }
+        match $call { Ok(good) => Ok(good), Err(fault) => Err(StopFault::Below(fault)) }
+    }};
+}
+
 mod count;
 mod disk;
 mod fault;

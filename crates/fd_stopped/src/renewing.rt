@@ -32,11 +32,7 @@ impl<F: Send, D: Renew<F>> Renew<StopFault<F>> for Stopped<D> {
             self.inner.give_table(table);
             return Err(Down::Fault(StopFault::Stopped));
         }
-        match self.inner.renew(alloc, table, bytes) {
-            Ok(()) => Ok(()),
-            Err(Down::Fault(fault)) => Err(Down::Fault(StopFault::Below(fault))),
-            Err(Down::NoMemory) => Err(Down::NoMemory),
-        }
+        passed!(self.inner.renew(alloc, table, bytes), Ok(()) => Ok(()))
     }
 
     /// Where it is stopped the table is put back as it is.
@@ -58,11 +54,7 @@ impl<F: Send, D: Renew<F>> Renew<StopFault<F>> for Stopped<D> {
             self.inner.give_table(table);
             return Err(Down::Fault(StopFault::Stopped));
         }
-        match self.inner.unfound(alloc, table) {
-            Ok(()) => Ok(()),
-            Err(Down::Fault(fault)) => Err(Down::Fault(StopFault::Below(fault))),
-            Err(Down::NoMemory) => Err(Down::NoMemory),
-        }
+        passed!(self.inner.unfound(alloc, table), Ok(()) => Ok(()))
     }
 
     fn remove(&mut self, alloc: Global, file: FileName) -> Result<(), Down<StopFault<F>>>
@@ -77,13 +69,7 @@ impl<F: Send, D: Renew<F>> Renew<StopFault<F>> for Stopped<D> {
         ensures cause { HasDownCause (D.faults self.old.inner + self.old.stops.met) (D.faults self.new.inner + self.new.stops.met) result }
         ensures stopped { OnCallStopped result (self.new.inner ≡ self.old.inner) }
     {
-        if self.stops.stop() {
-            return Err(Down::Fault(StopFault::Stopped));
-        }
-        match self.inner.remove(alloc, file) {
-            Ok(()) => Ok(()),
-            Err(Down::Fault(fault)) => Err(Down::Fault(StopFault::Below(fault))),
-            Err(Down::NoMemory) => Err(Down::NoMemory),
-        }
+        stop!(self.stops);
+        passed!(self.inner.remove(alloc, file), Ok(()) => Ok(()))
     }
 }

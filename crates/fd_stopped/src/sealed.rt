@@ -35,13 +35,7 @@ impl<F: Send, R: Reader<F>> Reader<StopFault<F>> for StoppedReader<R> {
     fn read_at(&mut self, at: u64, into: &mut [u8]) -> Result<usize, StopFault<F>> {
         self.reads = self.reads.saturating_add(1);
         self.asked = self.asked.saturating_add(into.len() as u64);
-        if self.stops.stop() {
-            return Err(StopFault::Stopped);
-        }
-        match self.inner.read_at(at, into) {
-            Ok(n) => Ok(n),
-            Err(fault) => Err(StopFault::Below(fault)),
-        }
+        passed_by_file!(self.stops, self.inner.read_at(at, into))
     }
 }
 

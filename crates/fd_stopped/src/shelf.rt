@@ -44,17 +44,8 @@ impl<F: Send, H: Shelf<F>> Shelf<StopFault<F>> for Stopped<H> {
         ensures stopped { OnCallStopped result (self.new.inner ≡ self.old.inner) }
         ensures counted { IfOk result (λ d. count_of d.stops ≡ count_of self.old.stops) }
     {
-        if self.stops.stop() {
-            return Err(Down::Fault(StopFault::Stopped));
-        }
-        let Ok(stops) = self.stops.shared() else {
-            return Err(Down::NoMemory);
-        };
-        match self.inner.create(alloc, seq, kind) {
-            Ok(file) => Ok(Stopped::new(file, stops)),
-            Err(Down::Fault(fault)) => Err(Down::Fault(StopFault::Below(fault))),
-            Err(Down::NoMemory) => Err(Down::NoMemory),
-        }
+        let stops = shared!(self.stops);
+        passed!(self.inner.create(alloc, seq, kind), Ok(file) => Ok(Stopped::new(file, stops)))
     }
 
     /// It makes no call of the disk, and goes on also behind the last one.

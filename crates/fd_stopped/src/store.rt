@@ -19,25 +19,13 @@ impl<F: Send, S: Store<F>> Store<StopFault<F>> for Stopped<S> {
     ghost faults = { λ s. S.faults s.inner + s.stops.met };
 
     fn enter(&mut self, alloc: Global, root: &str) -> Result<(), Down<StopFault<F>>> {
-        if self.stops.stop() {
-            return Err(Down::Fault(StopFault::Stopped));
-        }
-        match self.inner.enter(alloc, root) {
-            Ok(()) => Ok(()),
-            Err(Down::Fault(fault)) => Err(Down::Fault(StopFault::Below(fault))),
-            Err(Down::NoMemory) => Err(Down::NoMemory),
-        }
+        stop!(self.stops);
+        passed!(self.inner.enter(alloc, root), Ok(()) => Ok(()))
     }
 
     fn schema(&mut self, alloc: Global) -> Result<Option<Vec<u8>>, Down<StopFault<F>>> {
-        if self.stops.stop() {
-            return Err(Down::Fault(StopFault::Stopped));
-        }
-        match self.inner.schema(alloc) {
-            Ok(text) => Ok(text),
-            Err(Down::Fault(fault)) => Err(Down::Fault(StopFault::Below(fault))),
-            Err(Down::NoMemory) => Err(Down::NoMemory),
-        }
+        stop!(self.stops);
+        passed!(self.inner.schema(alloc), Ok(text) => Ok(text))
     }
 
     fn plant(&mut self, alloc: Global, text: &[u8]) -> Result<(), Down<StopFault<F>>>
@@ -49,25 +37,13 @@ impl<F: Send, S: Store<F>> Store<StopFault<F>> for Stopped<S> {
         ensures cause { HasDownCause (S.faults self.old.inner + self.old.stops.met) (S.faults self.new.inner + self.new.stops.met) result }
         ensures stopped { OnCallStopped result (self.new.inner ≡ self.old.inner) }
     {
-        if self.stops.stop() {
-            return Err(Down::Fault(StopFault::Stopped));
-        }
-        match self.inner.plant(alloc, text) {
-            Ok(()) => Ok(()),
-            Err(Down::Fault(fault)) => Err(Down::Fault(StopFault::Below(fault))),
-            Err(Down::NoMemory) => Err(Down::NoMemory),
-        }
+        stop!(self.stops);
+        passed!(self.inner.plant(alloc, text), Ok(()) => Ok(()))
     }
 
     fn names(&mut self, alloc: Global) -> Result<Vec<String>, Down<StopFault<F>>> {
-        if self.stops.stop() {
-            return Err(Down::Fault(StopFault::Stopped));
-        }
-        match self.inner.names(alloc) {
-            Ok(names) => Ok(names),
-            Err(Down::Fault(fault)) => Err(Down::Fault(StopFault::Below(fault))),
-            Err(Down::NoMemory) => Err(Down::NoMemory),
-        }
+        stop!(self.stops);
+        passed!(self.inner.names(alloc), Ok(names) => Ok(names))
     }
 
     fn folder(
@@ -86,17 +62,8 @@ impl<F: Send, S: Store<F>> Store<StopFault<F>> for Stopped<S> {
         ensures stopped { OnCallStopped result (self.new.inner ≡ self.old.inner) }
         ensures counted { IfOk result (λ d. count_of d.stops ≡ count_of self.old.stops) }
     {
-        if self.stops.stop() {
-            return Err(Down::Fault(StopFault::Stopped));
-        }
-        let Ok(stops) = self.stops.shared() else {
-            return Err(Down::NoMemory);
-        };
-        match self.inner.folder(alloc, name) {
-            Ok(folder) => Ok(Stopped::new(folder, stops)),
-            Err(Down::Fault(fault)) => Err(Down::Fault(StopFault::Below(fault))),
-            Err(Down::NoMemory) => Err(Down::NoMemory),
-        }
+        let stops = shared!(self.stops);
+        passed!(self.inner.folder(alloc, name), Ok(folder) => Ok(Stopped::new(folder, stops)))
     }
 
     fn give_folder(&mut self, folder: Stopped<S::Folder>) {
