@@ -1,5 +1,5 @@
 -- Parts are taken one behind the other, and the places of each are looked for while the next is taken.
-use Rattle.std.proofs.Common.{◌≡◌, ◌≤◌, ◌<◌, ◌+◌, ◌*◌, ℕ, Bool, true, List, [], ◌++◌, length, drop, take, Result, Ok, Err, sym, ap, subst, ◌∙◌, arith, length-append}
+use Rattle.std.proofs.Common.{◌≡◌, ◌≤◌, ◌+◌, ◌*◌, ℕ, Bool, true, List, [], ◌∷◌, ◌++◌, length, drop, take, Result, Ok, Err, refl, sym, ap, subst, ◌∙◌, arith, length-append}
 use Rattle.fd_sections.specs.Message.{Sections}
 use Rattle.fd_sections.specs.Progress.{Progress}
 use Rattle.fd_key.specs.Pairs.{Pair}
@@ -42,6 +42,11 @@ pub record HasPart (rules : List Rule) (given : List Pair) (p : Progress) (fs : 
 some_more : (xs ys : List Sheet) (taken : Result Bool Unsplit) → length ys ≤ length xs → AreSome ys taken → AreSome xs taken
 some_more xs ys (Ok enough) le some = λ is. omega (arith, le, some is)
 some_more xs ys (Err end) le some = tt
+
+-- behind none
+pub none_before : (xs ys : List Sheet) → length xs ≡ 0 → ys ≡ xs ++ ys
+none_before [] ys is = refl
+none_before (x ∷ xs) ys is = absurd (omega (arith, is))
 
 module _ (rules : List Rule) (given : List Pair) (p : Progress) (fs : List Sections) (q : Progress) (left : List Sections) (done part : List Sheet) where
   pub part_first : (taken : Result Bool Unsplit) → done ≡ [] → TookPart p fs q left part taken → HasPart rules given p fs q left done part taken

@@ -117,6 +117,10 @@ pub(crate) fn take_placed<R: Threads + Sync>(
         taken = end;
     }
     look_up_all(rt, alloc, schema, given, workers, &mut part);
+    if done.is_empty() {
+        *done = part;
+        return taken;
+    }
     match done.append(&mut part) {
         Ok(()) => taken,
         Err(_) => Err(Unsplit::NoMemory),

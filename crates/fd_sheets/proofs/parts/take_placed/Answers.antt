@@ -3,7 +3,7 @@ use Rattle.fd_sheets.specs.declared.sheets.Sheet.{Sheet}
 use Rattle.fd_sheets.specs.declared.sheets.Unsplit.TheVariants as ends
 use Rattle.fd_sheets.specs.Parts.{TookPlaced}
 use Rattle.fd_sheets.specs.Sheets.{IsReadable, standing}
-use Rattle.fd_sheets.proofs.ByParts.{HasPart, looked_all, part_first, part_last, part_lost, part_next}
+use Rattle.fd_sheets.proofs.ByParts.{HasPart, looked_all, none_before, part_first, part_last, part_lost, part_next, part_room}
 use Rattle.fd_sheets.proofs.Placing.{staged_readable}
 use Rattle.fd_sheets.proofs.parts.take_placed.Goals as goal
 
@@ -34,6 +34,26 @@ pub look_up_all-requires-clause-readable : goal.look_up_all-requires-clause-read
 look_up_all-requires-clause-readable g c κs within =
     let x = c.parts.invariant.behind 0 in
     subst (All IsReadable) (sym c.deref_mut-2.ensures.value) (staged_readable x.turn x.middle c.parts.part.items x.staged)
+
+pub returns-then-is_empty-clause-took : goal.returns-then-is_empty-clause-took
+returns-then-is_empty-clause-took g c = λ n.
+    let ss = c.parts.part in
+    let ts = c.look_up_all.new.sheets in
+    let is : ss.len ≡ length ss.items = search rules in
+    let none : length c.parts.done.items ≡ 0 = search rules in
+    let written = take ss.len (ts ++ drop (length ts) ss.items) in
+    let placed = looked_all c.args.schema.now c.args.given.now ss.items c.deref_mut-2.result.now ts ss.len is c.deref_mut-2.ensures.value c.look_up_all.ensures in
+    part_last c.args.schema.now c.args.given.now c.args.splitter.now c.args.opened.now c.parts.splitter c.parts.opened c.parts.done.items ss.items written written placed (none_before c.parts.done.items written none) c.parts.taken c.parts.invariant n
+
+pub returns-then-is_empty-clause-room : goal.returns-then-is_empty-clause-room
+returns-then-is_empty-clause-room g c =
+    let ss = c.parts.part in
+    let ts = c.look_up_all.new.sheets in
+    let is : ss.len ≡ length ss.items = search rules in
+    let none : length c.parts.done.items ≡ 0 = search rules in
+    let written = take ss.len (ts ++ drop (length ts) ss.items) in
+    let placed = looked_all c.args.schema.now c.args.given.now ss.items c.deref_mut-2.result.now ts ss.len is c.deref_mut-2.ensures.value c.look_up_all.ensures in
+    part_room c.args.schema.now c.args.given.now c.args.splitter.now c.args.opened.now c.parts.splitter c.parts.opened c.parts.done.items ss.items written written placed (none_before c.parts.done.items written none) c.parts.taken c.args.done.now.items c.parts.invariant
 
 pub returns-in-Ok-append-clause-took : goal.returns-in-Ok-append-clause-took
 returns-in-Ok-append-clause-took g c = λ n.

@@ -1,4 +1,4 @@
-use Rattle.std.proofs.Common.{rules, arith, ◌≡◌, ◌++◌, ◌+◌, ℕ, All, [], length, sym, subst, ap, ◌∙◌, append-nil}
+use Rattle.std.proofs.Common.{rules, arith, ◌≡◌, ◌+◌, ℕ, All, [], length, sym, subst, ap, ◌∙◌, append-nil}
 use Rattle.fd_outcome.specs.Positions.{IsIdle, Position}
 use Rattle.fd_sheets.specs.Names.{IsKnown}
 use Rattle.fd_sheets.specs.Sheets.{Placed, standing}
