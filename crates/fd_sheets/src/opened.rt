@@ -31,7 +31,7 @@ pub(crate) fn put_sheet(
     Ok(())
 }
 
-// Takes the fields of this message from the next one on, until so many are taken that they are handed on.
+// Takes the fields of this message from the next one on, until the part has so many that it ends.
 fn take_from(
     alloc: Global,
     number: u64,
@@ -50,7 +50,7 @@ fn take_from(
         let field = fields.field(alloc, i)?;
         put_sheet(number, Bytes::from_vec(field), rounds, sheets)?;
         *next = i + 1;
-        if rounds.is_full() {
+        if rounds.is_part() {
             return Ok(());
         }
     }
@@ -117,7 +117,7 @@ impl Opened {
         self.next < self.count
     }
 
-    /// Takes the fields that are to come, until so many are taken that they are handed on. Their message has this number.
+    /// Takes the fields that are to come, until the part has so many that it ends. Their message has this number.
     pub(crate) fn take(
         &mut self,
         alloc: Global,

@@ -9,9 +9,10 @@ ghost use Rattle.fd_sheets.specs.{Names.{IsKnown}, Reading.{HasRead, HasTaken, I
 use crate::buffers::Buffers;
 use crate::names::Names;
 use crate::opened::Opened;
+use crate::parts::take_placed;
 use crate::pieces::{new_piece, read_piece};
 use crate::rounds::Rounds;
-use crate::sheets::{Sheet, Unsplit, find_digests, look_up_all, take_sheets};
+use crate::sheets::{Sheet, Unsplit, find_digests};
 use fd_bytes::{Bytes, NoMemory};
 use fd_io::Source;
 use fd_key::Given;
@@ -195,8 +196,12 @@ impl Reader {
         ensures takes { HasTaken schema.now given.now names.now.texts.items self.old self.new sheets.old.items sheets.new.items result }
     {
         let mut fresh = Vec::new(alloc);
-        let taken = take_sheets(
+        let taken = take_placed(
+            rt,
             alloc,
+            schema,
+            given,
+            workers,
             &mut self.splitter,
             &mut self.opened,
             &mut self.buffers,
@@ -204,7 +209,6 @@ impl Reader {
             &mut fresh,
         );
         self.fields += fresh.len() as u64;
-        look_up_all(rt, alloc, schema, given, workers, &mut fresh);
         let are_known = names.know_all(&fresh);
         match sheets.append(&mut fresh) {
             Ok(()) => {}

@@ -10,8 +10,12 @@ const AHEAD: u32 = 2048;
 
 const AHEAD_OCTETS: u64 = 4_194_304;
 
-/// The round of the next message: its number, from 1, and how many messages and octets it has; and how many were counted since the
-/// last ones were handed on.
+/// How many messages a part of them has, where several threads look for the places of one part while the next is split off. Their start
+/// takes as long as a thread needs for some thirty small messages.
+const PART: u32 = 512;
+
+/// The round of the next message: its number, from 1, and how many messages and octets it has; how many were counted since the
+/// last ones were handed on; and how many messages its part has, and may have.
 #[derive(Clone, Copy)]
 pub struct Rounds {
     number: u32,
@@ -19,6 +23,8 @@ pub struct Rounds {
     octets: u64,
     ahead: u32,
     ahead_octets: u64,
+    part: u32,
+    part_size: u32,
 }
 
 impl Rounds {
@@ -30,6 +36,8 @@ impl Rounds {
             octets: 0,
             ahead: 0,
             ahead_octets: 0,
+            part: 0,
+            part_size: AHEAD,
         }
     }
 
@@ -44,6 +52,7 @@ impl Rounds {
         self.octets = self.octets.saturating_add(octets);
         self.ahead = self.ahead.saturating_add(1);
         self.ahead_octets = self.ahead_octets.saturating_add(octets);
+        self.part = self.part.saturating_add(1);
         if self.messages >= MESSAGES || self.octets >= OCTETS {
             self.number = self.number.saturating_add(1);
             self.messages = 0;
@@ -54,6 +63,17 @@ impl Rounds {
     /// So many were counted that they are handed on.
     pub fn is_full(&self) -> bool {
         self.ahead >= AHEAD || self.ahead_octets >= AHEAD_OCTETS
+    }
+
+    /// A part begins. Where one worker stores, it is all that is handed on at once.
+    pub fn begin_part(&mut self, workers: usize) {
+        self.part = 0;
+        self.part_size = if workers == 1 { AHEAD } else { PART };
+    }
+
+    /// The part has so many messages that it ends.
+    pub fn is_part(&self) -> bool {
+        self.is_full() || self.part >= self.part_size
     }
 
     /// They are handed on.

@@ -1,9 +1,9 @@
 //! Sheets: the fields of the messages that are whole in what was read, each with the place that was looked for.
-ghost use Rattle.std.specs.Prelude.{◌≡◌, ◌<◌, ◌≤◌, ◌+◌, ◌*◌, ℕ, All, [], length, slice_index_or, false};
+ghost use Rattle.std.specs.Prelude.{◌≡◌, ◌<◌, ◌≤◌, ◌+◌, ◌*◌, ℕ, All, [], length, false};
 ghost use Rattle.fd_sections.specs.Parts.{sections_of};
 ghost use Rattle.fd_split.specs.Reading.{reading_fields};
 ghost use Rattle.fd_schema.specs.Grammar.{IsSchema};
-ghost use Rattle.fd_sheets.specs.{Opened.{Repeats}, Sheets.{FoundAs, IsLookedUp, IsOpen, IsReadable, IsUnsplit, Next, Shrinks, Took, TookMessage, TookOne, standing}};
+ghost use Rattle.fd_sheets.specs.{Opened.{Repeats}, Parts.{AreLookedUp}, Sheets.{FoundAs, IsLookedUp, IsOpen, IsReadable, IsUnsplit, Next, Shrinks, Took, TookMessage, TookOne, standing}};
 
 use crate::buffers::Buffers;
 use crate::opened::{Opened, put_sheet};
@@ -195,8 +195,8 @@ fn take_more(
     next_message(alloc, splitter, opened, buffers, rounds, sheets)
 }
 
-/// Takes the fields of the messages that are whole, as many as are handed on at once, and tells whether there are so many; or why none
-/// comes behind them. Those of a message that are more than are handed on at once are still to come.
+/// Takes the fields of the messages that are whole, as many as a part has, and tells whether there are so many; or why none comes
+/// behind them. Those of a message that are more than a part has are still to come.
 pub(crate) fn take_sheets(
     alloc: Global,
     splitter: &mut Splitter,
@@ -215,7 +215,7 @@ pub(crate) fn take_sheets(
     'fields: loop {
         match take_more(alloc, splitter, opened, buffers, rounds, sheets) {
             Ok(true) => {
-                if rounds.is_full() {
+                if rounds.is_part() {
                     return Ok(true);
                 }
             }
@@ -275,8 +275,7 @@ pub(crate) fn look_up_all<R: Threads + Sync>(
     requires schema { IsSchema schema.now }
     requires workers { 0 < workers }
     requires readable { All IsReadable sheets.old }
-    ensures long { length sheets.new ≡ length sheets.old }
-    ensures looked { (i : ℕ) (e : _) → i < length sheets.old → IsLookedUp schema.now given.now (slice_index_or sheets.old i e) (slice_index_or sheets.new i e) }
+    ensures { AreLookedUp schema.now given.now sheets.old sheets.new }
 {
     let threads = if sheets.len() < ENOUGH_SHEETS {
         1

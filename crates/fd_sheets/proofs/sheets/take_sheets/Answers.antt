@@ -11,8 +11,8 @@ returns-in-Err-clause-took c = λ n. took_not c.args.splitter.now c.fields.split
 pub returns-in-Ok-false-clause-took : goal.returns-in-Ok-false-clause-took
 returns-in-Ok-false-clause-took c = λ n. took_none c.args.splitter.now c.fields.splitter c.take_more.new.splitter c.args.opened.now c.fields.opened c.take_more.new.opened c.fields.sheets.items c.take_more.new.sheets.items c.fields.invariant.staged n (rw c.in-Ok-false.field-0-test at c.in-Ok-false.ensures.next)
 
-pub returns-then-is_full-clause-took : goal.returns-then-is_full-clause-took
-returns-then-is_full-clause-took c = λ n. took_full c.args.splitter.now c.fields.splitter c.take_more.new.splitter c.args.opened.now c.fields.opened c.take_more.new.opened c.fields.sheets.items c.take_more.new.sheets.items c.fields.invariant.staged n (rw c.in-Ok-true.field-0-test at c.in-Ok-true.ensures.next)
+pub returns-then-is_part-clause-took : goal.returns-then-is_part-clause-took
+returns-then-is_part-clause-took c = λ n. took_full c.args.splitter.now c.fields.splitter c.take_more.new.splitter c.args.opened.now c.fields.opened c.take_more.new.opened c.fields.sheets.items c.take_more.new.sheets.items c.fields.invariant.staged n (rw c.in-Ok-true.field-0-test at c.in-Ok-true.ensures.next)
 
 pub fields-smaller : goal.fields-smaller
 fields-smaller c = shrinks_next c.fields.splitter c.take_more.new.splitter c.fields.opened c.take_more.new.opened c.fields.sheets.items c.take_more.new.sheets.items ((rw c.in-Ok-true.field-0-test at c.in-Ok-true.ensures.next) 0) c.take_more.ensures.room
