@@ -7,18 +7,18 @@ use Rattle.fd_disk.specs.Images.{IsAfterFailedWrite, IsImage, is_in, loosened, o
 use Rattle.fd_entries.proofs.BatchSums.{both}
 use Rattle.fd_entries.specs.Batches.{distinct, is_empty, rows, total, with_pair}
 use Rattle.fd_entries.specs.Table.{body_of, gate_at, with_body, with_closed}
-use Rattle.fd_core.specs.World.{World}
-use Rattle.fd_core.specs.declared.machine.Phase.{Phase}
-use Rattle.fd_core.specs.declared.machine.Phase.TheVariants.{Filling, Synced, Written, Holding, BodyLoose, BodyFirm, GateLoose, Closing}
-use Rattle.fd_core.specs.declared.machine.Step.{Step}
-use Rattle.fd_core.specs.declared.machine.Step.TheVariants.{Put, SyncData, WriteIndex, SyncIndex, Body, SyncBody, Gate, SyncGate, CloseGate, SyncClose}
-use Rattle.fd_core.specs.declared.machine.Writer.{Writer}
-use Rattle.fd_core.specs.Machine.{can, can_fail, can_put, effect, entry_of, failed, fields_name, file_of, index_name, is_in_phase, possible, writer_of}
+use Rattle.fd_machine.specs.World.{World}
+use Rattle.fd_machine.specs.declared.machine.Phase.{Phase}
+use Rattle.fd_machine.specs.declared.machine.Phase.TheVariants.{Filling, Synced, Written, Holding, BodyLoose, BodyFirm, GateLoose, Closing}
+use Rattle.fd_machine.specs.declared.machine.Step.{Step}
+use Rattle.fd_machine.specs.declared.machine.Step.TheVariants.{Put, SyncData, WriteIndex, SyncIndex, Body, SyncBody, Gate, SyncGate, CloseGate, SyncClose}
+use Rattle.fd_machine.specs.declared.machine.Writer.{Writer}
+use Rattle.fd_machine.specs.Machine.{can, can_fail, can_put, effect, entry_of, failed, fields_name, file_of, index_name, is_in_phase, possible, writer_of}
 use Rattle.fd_core.specs.Calls.{CallsAreSteps, IsSync, IsWrite, LeavesAmong, the_file, the_table}
-use Rattle.fd_core.proofs.Updates.{file_there}
-use Rattle.fd_core.proofs.Keeping.{phase_is}
-use Rattle.fd_core.proofs.Reached.{done}
-use Rattle.fd_core.proofs.PutSteps.{put_fits, puts}
+use Rattle.fd_machine.proofs.Updates.{file_there}
+use Rattle.fd_machine.proofs.Keeping.{phase_is}
+use Rattle.fd_machine.proofs.Reached.{done}
+use Rattle.fd_machine.proofs.PutSteps.{put_fits, puts}
 use Rattle.fd_core.proofs.FailSteps.{fails}
 
 -- a file that has a range loose more

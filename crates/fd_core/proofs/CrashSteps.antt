@@ -5,14 +5,14 @@ use Rattle.std.proofs.lemmas.List.{drop_all, drop_more}
 use Rattle.fd_disk.specs.declared.file.File.{File}
 use Rattle.fd_disk.specs.declared.file.Range.{Range}
 use Rattle.fd_disk.specs.Images.{firm_file, is_in}
-use Rattle.fd_core.specs.declared.machine.NamedFile.{NamedFile}
-use Rattle.fd_core.specs.declared.machine.Step.TheVariants.{Crash}
-use Rattle.fd_core.specs.declared.machine.Writer.{Writer}
-use Rattle.fd_core.specs.World.{World}
+use Rattle.fd_machine.specs.declared.machine.NamedFile.{NamedFile}
+use Rattle.fd_machine.specs.declared.machine.Step.TheVariants.{Crash}
+use Rattle.fd_machine.specs.declared.machine.Writer.{Writer}
+use Rattle.fd_machine.specs.World.{World}
 use Rattle.fd_entries.specs.Batches.{same_bytes}
-use Rattle.fd_core.specs.Machine.{after, agrees_from, are_none, firmed, first_of_left, has_image, have_images, may_leave}
-use Rattle.fd_core.proofs.PutSteps.{something}
-use Rattle.fd_core.proofs.Reached.{done, up_and}
+use Rattle.fd_machine.specs.Machine.{after, agrees_from, are_none, firmed, first_of_left, has_image, have_images, may_leave}
+use Rattle.fd_machine.proofs.PutSteps.{something}
+use Rattle.fd_machine.proofs.Reached.{done, up_and}
 use Rattle.fd_entries.proofs.BatchSums.{drop_here}
 
 -- the place is in the first of the ranges, or in one of the others

@@ -5,19 +5,19 @@ use Rattle.fd_disk.specs.declared.folders.FileName.{FileName}
 use Rattle.fd_disk.specs.Images.{loosened, written}
 use Rattle.fd_entries.specs.declared.table.Entry.{Entry}
 use Rattle.fd_entries.specs.Table.{listed, with_body, with_closed, with_gate}
-use Rattle.fd_core.specs.declared.machine.NamedFile.{NamedFile}
-use Rattle.fd_core.specs.declared.machine.Phase.{Phase}
-use Rattle.fd_core.specs.declared.machine.Phase.TheVariants.{Filling, Synced, Written, Sealed, Holding, BodyLoose, BodyFirm, GateLoose, Closing}
-use Rattle.fd_core.specs.declared.machine.Step.TheVariants.{Fail}
-use Rattle.fd_core.specs.declared.machine.Writer.{Writer}
-use Rattle.fd_core.specs.World.{World}
+use Rattle.fd_machine.specs.declared.machine.NamedFile.{NamedFile}
+use Rattle.fd_machine.specs.declared.machine.Phase.{Phase}
+use Rattle.fd_machine.specs.declared.machine.Phase.TheVariants.{Filling, Synced, Written, Sealed, Holding, BodyLoose, BodyFirm, GateLoose, Closing}
+use Rattle.fd_machine.specs.declared.machine.Step.TheVariants.{Fail}
+use Rattle.fd_machine.specs.declared.machine.Writer.{Writer}
+use Rattle.fd_machine.specs.World.{World}
 use Rattle.fd_entries.specs.Batches.{rows, total}
-use Rattle.fd_core.specs.Machine.{after, back, can_fail, entry_of, failed, fields_name, file_of, fresh, index_name, put_file, put_writer, writer_in, writer_of}
+use Rattle.fd_machine.specs.Machine.{after, back, can_fail, entry_of, failed, fields_name, file_of, fresh, index_name, put_file, put_writer, writer_in, writer_of}
 use Rattle.fd_entries.specs.Numbers.{entries_or_none, greatest_seq}
-use Rattle.fd_core.specs.Took.{IsAt, IsPlace, IsReached}
-use Rattle.fd_core.proofs.Keeping.{id_is}
-use Rattle.fd_core.proofs.Steps.{in_other}
-use Rattle.fd_core.proofs.Reached.{done, place_is, place_put, reached_seq, up_and}
+use Rattle.fd_machine.specs.Took.{IsAt, IsPlace, IsReached}
+use Rattle.fd_machine.proofs.Keeping.{id_is}
+use Rattle.fd_machine.proofs.Steps.{in_other}
+use Rattle.fd_machine.proofs.Reached.{done, place_is, place_put, reached_seq, up_and}
 
 pub fails : (s : World) (w : ℕ) (p : Phase) → s.down ≡ false → (writer_of s w).phase ≡ p → can_fail p ≡ true → after s (Fail w) ≡ failed s (writer_of s w) p
 fails s w p up is may = done s (Fail w) (up_and s.down (can_fail (writer_of s w).phase) up (ap can_fail is ∙ may)) ∙ ap (failed s (writer_of s w)) is

@@ -5,20 +5,20 @@ use Rattle.fd_disk.specs.declared.file.File.{File}
 use Rattle.fd_disk.specs.Images.{synced, written}
 use Rattle.fd_entries.specs.declared.table.Entry.{Entry}
 use Rattle.fd_entries.specs.Table.{body_of, gate_at, with_body}
-use Rattle.fd_core.specs.declared.machine.NamedFile.{NamedFile}
-use Rattle.fd_core.specs.declared.machine.Phase.{Phase}
-use Rattle.fd_core.specs.declared.machine.Phase.TheVariants.{Filling, Synced, Written, Sealed, Holding, BodyLoose}
-use Rattle.fd_core.specs.declared.machine.Step.{Step}
-use Rattle.fd_core.specs.declared.machine.Step.TheVariants.{SyncData, WriteIndex, SyncIndex, Body}
-use Rattle.fd_core.specs.declared.machine.Writer.{Writer}
-use Rattle.fd_core.specs.World.{World}
+use Rattle.fd_machine.specs.declared.machine.NamedFile.{NamedFile}
+use Rattle.fd_machine.specs.declared.machine.Phase.{Phase}
+use Rattle.fd_machine.specs.declared.machine.Phase.TheVariants.{Filling, Synced, Written, Sealed, Holding, BodyLoose}
+use Rattle.fd_machine.specs.declared.machine.Step.{Step}
+use Rattle.fd_machine.specs.declared.machine.Step.TheVariants.{SyncData, WriteIndex, SyncIndex, Body}
+use Rattle.fd_machine.specs.declared.machine.Writer.{Writer}
+use Rattle.fd_machine.specs.World.{World}
 use Rattle.fd_entries.specs.Batches.{IsBounded, rows}
-use Rattle.fd_core.specs.Machine.{after, effect, entry_of, fields_name, file_of, index_name, is_in_phase, possible, put_file, put_writer, writer_of}
+use Rattle.fd_machine.specs.Machine.{after, effect, entry_of, fields_name, file_of, index_name, is_in_phase, possible, put_file, put_writer, writer_of}
 use Rattle.fd_entries.specs.Batches.{is_empty}
-use Rattle.fd_core.specs.Took.{IsPlace, IsReached}
-use Rattle.fd_core.proofs.Images.{and_true}
-use Rattle.fd_core.proofs.Steps.{in_other}
-use Rattle.fd_core.proofs.Reached.{done, phase_put, place_is, reached_few, reached_up, up_and}
+use Rattle.fd_machine.specs.Took.{IsPlace, IsReached}
+use Rattle.fd_machine.proofs.Images.{and_true}
+use Rattle.fd_machine.proofs.Steps.{in_other}
+use Rattle.fd_machine.proofs.Reached.{done, phase_put, place_is, reached_few, reached_up, up_and}
 
 -- the batch of a writer is one that a table may list
 pub reached_bounded : (s : World) (w : ℕ) → IsReached s → s.down ≡ false → IsBounded (writer_of s w).pairs

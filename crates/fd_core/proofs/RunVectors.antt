@@ -1,10 +1,10 @@
 -- A crash while a gate is being opened.
 use Rattle.std.proofs.Common.{◌≡◌, ℕ, true, false, List, [], ◌∷◌, ◌++◌, take, map, refl, codes}
-use Rattle.fd_core.specs.World.{World}
+use Rattle.fd_machine.specs.World.{World}
 use Rattle.fd_entries.specs.declared.batch.Pair.{Pair}
-use Rattle.fd_core.specs.declared.machine.Step.{Step}
-use Rattle.fd_core.specs.declared.machine.Step.TheVariants.{Put, SyncData, WriteIndex, SyncIndex, Take, Body, SyncBody, Gate, SyncGate, Post, Release, Fail, CloseGate, SyncClose, Crash, Reopen}
-use Rattle.fd_core.specs.Machine.{run, after, start, possible}
+use Rattle.fd_machine.specs.declared.machine.Step.{Step}
+use Rattle.fd_machine.specs.declared.machine.Step.TheVariants.{Put, SyncData, WriteIndex, SyncIndex, Take, Body, SyncBody, Gate, SyncGate, Post, Release, Fail, CloseGate, SyncClose, Crash, Reopen}
+use Rattle.fd_machine.specs.Machine.{run, after, start, possible}
 use Rattle.fd_entries.specs.Table.{listed}
 
 steps : List Step

@@ -4,12 +4,12 @@ use Rattle.fd_disk.specs.declared.file.File.{File}
 use Rattle.fd_entries.specs.declared.table.Entry.{Entry}
 use Rattle.fd_entries.proofs.StandingLemmas.{doubt_table, staged_settled}
 use Rattle.fd_entries.specs.Numbers.{ListsSome}
-use Rattle.fd_core.specs.declared.machine.Phase.{Phase}
-use Rattle.fd_core.specs.declared.machine.Phase.TheVariants.{Filling, Synced, Written, Sealed, Holding, BodyLoose, BodyFirm, GateLoose, Listed, Posted, Closing}
-use Rattle.fd_core.specs.declared.machine.Writer.{Writer}
-use Rattle.fd_core.specs.World.{World}
-use Rattle.fd_core.specs.Machine.{entry_of, writer_of}
-use Rattle.fd_core.proofs.Holds.{Doubtful, Owned, Mending, OwnedOrMending, FreeOrInDoubt, TableHolds, HoldsUp}
+use Rattle.fd_machine.specs.declared.machine.Phase.{Phase}
+use Rattle.fd_machine.specs.declared.machine.Phase.TheVariants.{Filling, Synced, Written, Sealed, Holding, BodyLoose, BodyFirm, GateLoose, Listed, Posted, Closing}
+use Rattle.fd_machine.specs.declared.machine.Writer.{Writer}
+use Rattle.fd_machine.specs.World.{World}
+use Rattle.fd_machine.specs.Machine.{entry_of, writer_of}
+use Rattle.fd_machine.proofs.Holds.{Doubtful, Owned, Mending, OwnedOrMending, FreeOrInDoubt, TableHolds, HoldsUp}
 
 some_of_doubt : (es : List Entry) (f : File) (e : Entry) → Doubtful f es e → ListsSome f.reads
 some_of_doubt es f e d = elim (doubt_table [] es f e d.0 f.reads d.1) [

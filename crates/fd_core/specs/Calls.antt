@@ -5,10 +5,10 @@ use Rattle.fd_disk.specs.declared.folders.FileName.{FileName}
 use Rattle.fd_disk.specs.Images.{IsAfterFailedWrite, IsImage, synced, written}
 use Rattle.fd_entries.specs.Batches.{rows, total}
 use Rattle.fd_entries.specs.Table.{body_of, gate_at}
-use Rattle.fd_core.specs.World.{World}
-use Rattle.fd_core.specs.declared.machine.Step.{Step}
-use Rattle.fd_core.specs.declared.machine.Step.TheVariants.{Put, SyncData, WriteIndex, SyncIndex, Body, SyncBody, Gate, SyncGate, CloseGate, SyncClose, Fail}
-use Rattle.fd_core.specs.Machine.{after, entry_of, fields_name, file_of, index_name, possible, writer_of}
+use Rattle.fd_machine.specs.World.{World}
+use Rattle.fd_machine.specs.declared.machine.Step.{Step}
+use Rattle.fd_machine.specs.declared.machine.Step.TheVariants.{Put, SyncData, WriteIndex, SyncIndex, Body, SyncBody, Gate, SyncGate, CloseGate, SyncClose, Fail}
+use Rattle.fd_machine.specs.Machine.{after, entry_of, fields_name, file_of, index_name, possible, writer_of}
 
 -- what a crash may leave of the one file it may leave of the other
 abbrev pub LeavesAmong : File → File → Type 0

@@ -1,6 +1,6 @@
 ghost use Rattle.std.specs.Prelude.{◌≡◌, ◌<◌, true, drop, length, IfOk, OnOk, OnErr};
 ghost use Rattle.fd_disk.specs.Images.{firm_file, is_in};
-ghost use Rattle.fd_core.specs.{Machine.{after, agrees_from, firmed, has_image, have_images, may_leave}, Took.{took_of}, declared.machine.Step.TheVariants.{Crash}};
+ghost use Rattle.fd_machine.specs.{Machine.{after, agrees_from, firmed, has_image, have_images, may_leave}, Took.{took_of}, declared.machine.Step.TheVariants.{Crash}};
 
 use crate::{Files, NamedFile, State, Took, Writers};
 use fd_bytes::{Bytes, Items, NoMemory};

@@ -1,18 +1,18 @@
 ghost use Rattle.std.specs.Prelude.{◌≡◌, IfOk, OnOk, OnErr};
-ghost use Rattle.fd_core.specs.{Machine.{after}, Took.{took_of}};
+ghost use Rattle.fd_machine.specs.{Machine.{after}, Took.{took_of}};
 
 use crate::crash_steps::crash;
 use crate::fail_steps::fail;
 use crate::fetch_step::fetch;
 use crate::open_steps::reopen;
 use crate::put_step::put;
-use crate::state::look;
 use crate::writer_steps::{
     body, close_gate, gate, post, release, sync_body, sync_close, sync_data, sync_gate, sync_index,
     take, write_index,
 };
 use crate::{State, Step, Took};
 use fd_bytes::NoMemory;
+use fd_machine::look;
 use std::alloc::Global;
 
 /// Takes a step, where it is possible now. `Took::No` is answered exactly where it is not possible, and then nothing

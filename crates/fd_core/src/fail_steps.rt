@@ -1,13 +1,12 @@
 ghost use Rattle.std.specs.Prelude.{◌≡◌, ◌<◌, ◌^◌, ◌⊎◌, false, IfOk, IsSome, IsNone, OnOk, OnErr};
 ghost use Rattle.fd_entries.specs.Batches.{total};
-ghost use Rattle.fd_core.specs.{Machine.{after, fields_name, writer_in, writer_of}, Took.{IsAt, took_of}, declared.machine.Phase.TheVariants.{Filling, Synced, Written, Holding, BodyLoose, BodyFirm, GateLoose, Closing}, declared.machine.Step.TheVariants.{Fail}, declared.machine.Writer.{Writer}};
+ghost use Rattle.fd_machine.specs.{Machine.{after, fields_name, writer_in, writer_of}, Took.{IsAt, took_of}, declared.machine.Phase.TheVariants.{Filling, Synced, Written, Holding, BodyLoose, BodyFirm, GateLoose, Closing}, declared.machine.Step.TheVariants.{Fail}, declared.machine.Writer.{Writer}};
 
-use crate::files::write_file;
-use crate::machine::entry_of;
 use crate::{Phase, State, Took};
 use fd_bytes::NoMemory;
 use fd_disk::{FileKind, FileName};
 use fd_entries::{CLOSED, OPEN, gate_at, greatest, rows_of, total_of};
+use fd_machine::{entry_of, write_file};
 use std::alloc::Global;
 
 /// The disk call that the writer would make next fails.

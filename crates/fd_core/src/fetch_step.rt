@@ -1,5 +1,5 @@
 ghost use Rattle.std.specs.Prelude.{◌≡◌, ◌≤◌, ◌<◌, length, false, MatchOption, Some, None, IfOk};
-ghost use Rattle.fd_core.specs.{Machine.{fetched, of_slot, seen_by}, Took.{took_of}, declared.machine.Step.TheVariants.{Fetch}};
+ghost use Rattle.fd_machine.specs.{Machine.{fetched, of_slot, seen_by}, Took.{took_of}, declared.machine.Step.TheVariants.{Fetch}};
 
 use crate::open_steps::file_name;
 use crate::{Answer, Seen, State, Took};

@@ -1,4 +1,5 @@
-ghost use Rattle.fd_core.specs.{Calls.{EveryCallIsAStep}, Laws.{FetchesNewest, LeavesImages, OnlyGrows, OnlyPostLists, OnlyReopens, OverEveryRun, PostsItsPairs, SeesOnlyListed, SurvivesCrash}};
+ghost use Rattle.fd_core.specs.Calls.{EveryCallIsAStep};
+ghost use Rattle.fd_machine.specs.Laws.{FetchesNewest, LeavesImages, OnlyGrows, OnlyPostLists, OnlyReopens, OverEveryRun, PostsItsPairs, SeesOnlyListed, SurvivesCrash};
 
 /// What holds over every interleaving of the steps, at each step: a fetch answers the newest bytes of its key among the
 /// batches that its reader has seen; the history only grows, and by nothing but a post or an opening; a post appends

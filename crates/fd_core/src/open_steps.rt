@@ -1,5 +1,5 @@
 ghost use Rattle.std.specs.Prelude.{◌≡◌, map, IfOk, OnOk, OnErr};
-ghost use Rattle.fd_core.specs.{Machine.{after, batch_in}, Took.{AllHeld, IsHeld, took_of}, declared.machine.Step.TheVariants.{Reopen}};
+ghost use Rattle.fd_machine.specs.{Machine.{after, batch_in}, Took.{AllHeld, IsHeld, took_of}, declared.machine.Step.TheVariants.{Reopen}};
 
 use crate::{Files, State, Took};
 use fd_bytes::{Items, NoMemory};

@@ -1,5 +1,5 @@
 ghost use Rattle.std.specs.Prelude.{◌≡◌, ◌++◌, ◌∷◌, [], Some, false, slice_get, slice_set, length, ◌<◌, IfOk, OnOk, OnErr};
-ghost use Rattle.fd_core.specs.{Machine.{after, filled, put_file, writer_in}, Took.{IsPlace, took_of}, declared.machine.Step.TheVariants.{Put}, declared.machine.Writer.{Writer}};
+ghost use Rattle.fd_machine.specs.{Machine.{after, filled, put_file, writer_in}, Took.{IsPlace, took_of}, declared.machine.Step.TheVariants.{Put}, declared.machine.Writer.{Writer}};
 
 use crate::fail_steps::{first_seq, next_place};
 use crate::{Files, NamedFile, Phase, State, Took, Writer, Writers};

@@ -1,13 +1,12 @@
 // What a writer does step by step, from the sync of its batch to the next batch.
 ghost use Rattle.std.specs.Prelude.{◌≡◌, IfOk, OnOk, OnErr};
-ghost use Rattle.fd_core.specs.{Machine.{after}, Took.{took_of}, declared.machine.Step.TheVariants.{Body, CloseGate, Gate, Post, Release, SyncBody, SyncClose, SyncData, SyncGate, SyncIndex, Take, WriteIndex}};
+ghost use Rattle.fd_machine.specs.{Machine.{after}, Took.{took_of}, declared.machine.Step.TheVariants.{Body, CloseGate, Gate, Post, Release, SyncBody, SyncClose, SyncData, SyncGate, SyncIndex, Take, WriteIndex}};
 
-use crate::files::{sync_file, write_file};
-use crate::machine::entry_of;
 use crate::{Phase, State, Took};
 use fd_bytes::NoMemory;
 use fd_disk::FileKind;
 use fd_entries::{CLOSED, OPEN, gate_at, rows_of};
+use fd_machine::{entry_of, sync_file, write_file};
 use std::alloc::Global;
 
 /// The writer takes the table, where nobody owns it.

@@ -2,8 +2,8 @@
 use Rattle.std.proofs.Common.{◌≡◌, ◌≢◌, ◌∙◌, ◌≤◌, ◌+◌, ℕ, zero, suc, List, [], ◌∷◌, ◌++◌, length, append_assoc, slice_get, Some, ap, arith}
 use Rattle.std.specs.Prelude.{codes, flat_map, min}
 use Rattle.std.specs.Fmt.{decimal}
-use Rattle.fd_core.specs.declared.machine.Answer.{Answer}
-use Rattle.fd_core.specs.declared.machine.Answer.TheVariants.{Found, Miss}
+use Rattle.fd_machine.specs.declared.machine.Answer.{Answer}
+use Rattle.fd_machine.specs.declared.machine.Answer.TheVariants.{Found, Miss}
 use Rattle.fd_script.specs.declared.script.Lane.{Lane}
 use Rattle.fd_script.specs.declared.script.Step.{Step}
 use Rattle.fd_lanes.specs.declared.end.End.{End}

@@ -1,8 +1,8 @@
 -- The lines of the steps of a session.
 use Rattle.std.specs.Prelude.{ℕ, ◌+◌, List, [], ◌∷◌, ◌++◌, length, codes, flat_map, string_bytes, zip}
 use Rattle.std.specs.Fmt.{decimal}
-use Rattle.fd_core.specs.declared.machine.Answer.{Answer}
-use Rattle.fd_core.specs.declared.machine.Answer.TheVariants.{Found, Miss}
+use Rattle.fd_machine.specs.declared.machine.Answer.{Answer}
+use Rattle.fd_machine.specs.declared.machine.Answer.TheVariants.{Found, Miss}
 use Rattle.fd_listing.specs.Lines.{blank, line}
 use Rattle.fd_script.specs.declared.script.Lane.{Lane}
 use Rattle.fd_script.specs.declared.script.Step.{Step}

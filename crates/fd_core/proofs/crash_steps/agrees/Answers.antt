@@ -1,5 +1,5 @@
 use Rattle.std.proofs.Common.{List, ℕ, sym, ◌∙◌, ap}
-use Rattle.fd_core.specs.Machine.{agrees_from}
+use Rattle.fd_machine.specs.Machine.{agrees_from}
 use Rattle.fd_core.proofs.CrashSteps.{agree_short}
 use Rattle.fd_core.proofs.crash_steps.agrees.Goals as goal
 

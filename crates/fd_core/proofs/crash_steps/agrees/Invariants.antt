@@ -1,5 +1,5 @@
 use Rattle.std.proofs.Common.{◌≡◌, length, drop}
-use Rattle.fd_core.specs.Machine.{agrees_from}
+use Rattle.fd_machine.specs.Machine.{agrees_from}
 use Rattle.fd_core.proofs.crash_steps.agrees.Given as goal
 
 abbrev pub invariant-loop-k : goal.invariant-loop-k

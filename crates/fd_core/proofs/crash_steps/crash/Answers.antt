@@ -1,11 +1,11 @@
 use Rattle.std.proofs.Common.{sym, ◌∙◌, ap, subst}
-use Rattle.fd_core.specs.World.{World}
-use Rattle.fd_core.specs.Took.{IsReached}
-use Rattle.fd_core.specs.Machine.{after}
-use Rattle.fd_core.specs.declared.machine.Step.TheVariants.{Crash}
-use Rattle.fd_core.proofs.Reached.{reached_step}
+use Rattle.fd_machine.specs.World.{World}
+use Rattle.fd_machine.specs.Took.{IsReached}
+use Rattle.fd_machine.specs.Machine.{after}
+use Rattle.fd_machine.specs.declared.machine.Step.TheVariants.{Crash}
+use Rattle.fd_machine.proofs.Reached.{reached_step}
 use Rattle.fd_core.proofs.CrashSteps.{crash_done}
-use Rattle.fd_core.specs.Machine.{may_leave}
+use Rattle.fd_machine.specs.Machine.{may_leave}
 use Rattle.fd_core.proofs.crash_steps.crash.Goals as goal
 
 pub returns-clause-ok : goal.returns-clause-ok

@@ -1,8 +1,8 @@
 use Rattle.std.proofs.Common.{◌≡◌, ◌+◌, ◌++◌, [], ◌∷◌, ◌&&◌, true, List, drop, sym, ◌∙◌, ap, arith, append_assoc}
 use Rattle.fd_disk.specs.declared.file.File.{File}
 use Rattle.fd_disk.specs.Images.{firm_file}
-use Rattle.fd_core.specs.declared.machine.NamedFile.{NamedFile}
-use Rattle.fd_core.specs.Machine.{firmed, has_image, have_images}
+use Rattle.fd_machine.specs.declared.machine.NamedFile.{NamedFile}
+use Rattle.fd_machine.specs.Machine.{firmed, has_image, have_images}
 use Rattle.fd_core.proofs.CrashSteps.{firmed_step, images_step, left_for}
 use Rattle.fd_entries.proofs.BatchSums.{both}
 use Rattle.fd_core.proofs.crash_steps.firmed.Goals as goal

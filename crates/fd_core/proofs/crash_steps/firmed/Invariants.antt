@@ -1,5 +1,5 @@
 use Rattle.std.proofs.Common.{◌≡◌, ◌+◌, ◌++◌, true, length, drop}
-use Rattle.fd_core.specs.Machine.{firmed, have_images}
+use Rattle.fd_machine.specs.Machine.{firmed, have_images}
 use Rattle.fd_core.proofs.crash_steps.firmed.Given as goal
 
 abbrev pub invariant-loop-i : goal.invariant-loop-i

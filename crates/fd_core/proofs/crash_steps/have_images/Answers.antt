@@ -1,7 +1,7 @@
 use Rattle.std.proofs.Common.{◌≡◌, ◌+◌, ◌-◌, ◌<◌, ◌&&◌, Bool, false, true, ℕ, nat_le, length, drop, sym, ◌∙◌, ap, arith}
-use Rattle.fd_core.specs.Machine.{has_image, have_images}
+use Rattle.fd_machine.specs.Machine.{has_image, have_images}
 use Rattle.fd_core.proofs.CrashSteps.{images_end, images_short, images_step, shorter}
-use Rattle.fd_core.proofs.PutSteps.{something}
+use Rattle.fd_machine.proofs.PutSteps.{something}
 use Rattle.fd_core.proofs.crash_steps.have_images.Goals as goal
 
 pub returns-then-i-len : goal.returns-then-i-len

@@ -1,5 +1,5 @@
 use Rattle.std.proofs.Common.{◌≡◌, ◌+◌, length, drop}
-use Rattle.fd_core.specs.Machine.{have_images}
+use Rattle.fd_machine.specs.Machine.{have_images}
 use Rattle.fd_core.proofs.crash_steps.have_images.Given as goal
 
 abbrev pub invariant-loop-i : goal.invariant-loop-i

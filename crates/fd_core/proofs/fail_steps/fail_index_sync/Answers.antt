@@ -1,12 +1,12 @@
 use Rattle.std.proofs.Common.{sym, ◌∙◌, ap, subst}
-use Rattle.fd_core.specs.World.{World}
-use Rattle.fd_core.specs.Took.{IsReached}
-use Rattle.fd_core.specs.Machine.{after}
-use Rattle.fd_core.specs.declared.machine.Step.TheVariants.{Fail}
-use Rattle.fd_core.proofs.Reached.{reached_step}
+use Rattle.fd_machine.specs.World.{World}
+use Rattle.fd_machine.specs.Took.{IsReached}
+use Rattle.fd_machine.specs.Machine.{after}
+use Rattle.fd_machine.specs.declared.machine.Step.TheVariants.{Fail}
+use Rattle.fd_machine.proofs.Reached.{reached_step}
 use Rattle.fd_core.proofs.FailSteps.{fail_index_sync_done}
-use Rattle.fd_core.specs.Took.{IsAt}
-use Rattle.fd_core.specs.declared.machine.Phase.TheVariants.{Written}
+use Rattle.fd_machine.specs.Took.{IsAt}
+use Rattle.fd_machine.specs.declared.machine.Phase.TheVariants.{Written}
 use Rattle.fd_core.proofs.fail_steps.fail_index_sync.Goals as goal
 
 pub returns : goal.returns

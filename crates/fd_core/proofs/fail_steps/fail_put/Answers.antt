@@ -1,13 +1,13 @@
 use Rattle.std.proofs.Common.{◌≡◌, sym, ◌∙◌, ap, subst}
-use Rattle.fd_core.specs.World.{World}
-use Rattle.fd_core.specs.Took.{IsReached}
-use Rattle.fd_core.specs.Machine.{after}
-use Rattle.fd_core.specs.declared.machine.Step.TheVariants.{Fail}
-use Rattle.fd_core.proofs.Reached.{reached_step}
+use Rattle.fd_machine.specs.World.{World}
+use Rattle.fd_machine.specs.Took.{IsReached}
+use Rattle.fd_machine.specs.Machine.{after}
+use Rattle.fd_machine.specs.declared.machine.Step.TheVariants.{Fail}
+use Rattle.fd_machine.proofs.Reached.{reached_step}
 use Rattle.fd_core.proofs.FailSteps.{fail_put_done}
-use Rattle.fd_core.specs.Machine.{fields_name, writer_of}
+use Rattle.fd_machine.specs.Machine.{fields_name, writer_of}
 use Rattle.fd_entries.specs.Batches.{total}
-use Rattle.fd_core.specs.declared.machine.Phase.TheVariants.{Filling}
+use Rattle.fd_machine.specs.declared.machine.Phase.TheVariants.{Filling}
 use Rattle.fd_core.proofs.fail_steps.fail_put.Goals as goal
 
 pub returns-clause-ok : goal.returns-clause-ok

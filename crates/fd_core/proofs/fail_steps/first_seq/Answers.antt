@@ -1,8 +1,8 @@
 use Rattle.std.proofs.Common.{◌≡◌, false, sym, ◌∙◌, ap, subst, arith}
-use Rattle.fd_core.specs.World.{World}
-use Rattle.fd_core.specs.Machine.{writer_in}
-use Rattle.fd_core.specs.declared.machine.Writer.{Writer}
-use Rattle.fd_core.proofs.Reached.{reached_up}
+use Rattle.fd_machine.specs.World.{World}
+use Rattle.fd_machine.specs.Machine.{writer_in}
+use Rattle.fd_machine.specs.declared.machine.Writer.{Writer}
+use Rattle.fd_machine.proofs.Reached.{reached_up}
 use Rattle.fd_core.proofs.TableReads.{lists_some}
 use Rattle.fd_core.proofs.FailSteps.{first_fits}
 use Rattle.fd_core.proofs.fail_steps.first_seq.Goals as goal

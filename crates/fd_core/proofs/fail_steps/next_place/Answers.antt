@@ -1,5 +1,5 @@
 use Rattle.std.proofs.Common.{◌≡◌, false, ◌∙◌, ap, arith}
-use Rattle.fd_core.specs.World.{World}
+use Rattle.fd_machine.specs.World.{World}
 use Rattle.fd_core.proofs.FillSteps.{place_bounded}
 use Rattle.fd_core.proofs.fail_steps.next_place.Goals as goal
 

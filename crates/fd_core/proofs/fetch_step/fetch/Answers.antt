@@ -1,7 +1,7 @@
 use Rattle.std.proofs.Common.{◌≤◌, length, sym, subst}
-use Rattle.fd_core.specs.World.{World}
-use Rattle.fd_core.proofs.Reached.{reached_up}
-use Rattle.fd_core.proofs.OpenSteps.{seen_small}
+use Rattle.fd_machine.specs.World.{World}
+use Rattle.fd_machine.proofs.Reached.{reached_up}
+use Rattle.fd_machine.proofs.OpenSteps.{seen_small}
 use Rattle.fd_core.proofs.fetch_step.fetch.Goals as goal
 
 pub newest_of-requires-clause-listed : goal.newest_of-requires-clause-listed

@@ -1,6 +1,6 @@
 use Rattle.std.proofs.Common.{◌-◌, sym, ◌∙◌, arith}
-use Rattle.fd_core.specs.Machine.{fetched, of_slot}
-use Rattle.fd_core.proofs.OpenSteps.{fetched_step, found_slot, passed_slot}
+use Rattle.fd_machine.specs.Machine.{fetched, of_slot}
+use Rattle.fd_machine.proofs.OpenSteps.{fetched_step, found_slot, passed_slot}
 use Rattle.fd_core.proofs.fetch_step.newest_of.Goals as goal
 
 pub returns-then-is_some : goal.returns-then-is_some

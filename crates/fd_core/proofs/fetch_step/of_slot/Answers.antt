@@ -5,10 +5,10 @@ use Rattle.fd_disk.specs.declared.folders.FileKind.TheVariants.{Fields, Index}
 use Rattle.fd_entries.specs.declared.table.Entry.{Entry}
 use Rattle.fd_entries.specs.Table.{entry_in, gate_at}
 use Rattle.fd_entries.specs.Batches.{HoldBatch}
-use Rattle.fd_core.specs.World.{World}
-use Rattle.fd_core.specs.Machine.{file_of}
-use Rattle.fd_core.proofs.Reached.{reached_up}
-use Rattle.fd_core.proofs.OpenSteps.{slot_held, slot_small, slot_whole}
+use Rattle.fd_machine.specs.World.{World}
+use Rattle.fd_machine.specs.Machine.{file_of}
+use Rattle.fd_machine.proofs.Reached.{reached_up}
+use Rattle.fd_machine.proofs.OpenSteps.{slot_held, slot_small, slot_whole}
 use Rattle.fd_core.proofs.fetch_step.of_slot.Goals as goal
 
 pub entry_at-entry-requires-clause-number : goal.entry_at-entry-requires-clause-number

@@ -1,8 +1,8 @@
 use Rattle.std.proofs.Common.{◌≡◌, ◌==◌, ◌+◌, if◌then◌else◌, Bool, true, false, Some, drop, sym, ◌∙◌, ap, arith}
 use Rattle.std.proofs.lemmas.Bool.Decides.{nat_tests}
-use Rattle.fd_core.specs.declared.machine.Seen.{Seen}
-use Rattle.fd_core.specs.Machine.{seen_by}
-use Rattle.fd_core.proofs.OpenSteps.{seen_step}
+use Rattle.fd_machine.specs.declared.machine.Seen.{Seen}
+use Rattle.fd_machine.specs.Machine.{seen_by}
+use Rattle.fd_machine.proofs.OpenSteps.{seen_step}
 use Rattle.fd_core.proofs.fetch_step.seen_by.Goals as goal
 
 pub returns-then-at-r : goal.returns-then-at-r

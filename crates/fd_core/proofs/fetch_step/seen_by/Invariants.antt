@@ -1,5 +1,5 @@
 use Rattle.std.proofs.Common.{◌≡◌, length, drop}
-use Rattle.fd_core.specs.Machine.{seen_by}
+use Rattle.fd_machine.specs.Machine.{seen_by}
 use Rattle.fd_core.proofs.fetch_step.seen_by.Given as goal
 
 abbrev pub invariant-loop-i : goal.invariant-loop-i

@@ -1,5 +1,5 @@
-use Rattle.fd_core.specs.Machine.{run, start}
-use Rattle.fd_core.proofs.EveryRun.{fetches, sees, grows, post, only_post, survives, images, only_reopens}
+use Rattle.fd_machine.specs.Machine.{run, start}
+use Rattle.fd_machine.proofs.EveryRun.{fetches, sees, grows, post, only_post, survives, images, only_reopens}
 use Rattle.fd_core.proofs.law.every_run.Goals as goal
 
 pub returns-clause-fetches : goal.returns-clause-fetches

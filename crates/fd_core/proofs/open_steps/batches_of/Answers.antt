@@ -1,4 +1,4 @@
-use Rattle.fd_core.proofs.OpenSteps.{batches_step, held_step}
+use Rattle.fd_machine.proofs.OpenSteps.{batches_step, held_step}
 use Rattle.fd_core.proofs.open_steps.batches_of.Goals as goal
 
 pub batch_of-requires : goal.batch_of-requires

@@ -1,6 +1,6 @@
 use Rattle.std.proofs.Common.{◌≡◌, ◌++◌, length, map, drop}
-use Rattle.fd_core.specs.Machine.{batch_in}
-use Rattle.fd_core.specs.Took.{AllHeld}
+use Rattle.fd_machine.specs.Machine.{batch_in}
+use Rattle.fd_machine.specs.Took.{AllHeld}
 use Rattle.fd_core.proofs.open_steps.batches_of.Given as goal
 
 abbrev pub invariant-loop-i : goal.invariant-loop-i

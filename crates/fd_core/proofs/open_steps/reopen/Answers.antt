@@ -1,13 +1,13 @@
 use Rattle.std.proofs.Common.{ℕ, List, sym, ◌∙◌, ap, subst, []}
-use Rattle.fd_core.specs.World.{World}
-use Rattle.fd_core.specs.Took.{IsReached}
-use Rattle.fd_core.specs.Machine.{after}
-use Rattle.fd_core.specs.declared.machine.Step.TheVariants.{Reopen}
-use Rattle.fd_core.proofs.Reached.{reached_step}
-use Rattle.fd_core.proofs.OpenSteps.{down_held, down_lists, reopen_done}
+use Rattle.fd_machine.specs.World.{World}
+use Rattle.fd_machine.specs.Took.{IsReached}
+use Rattle.fd_machine.specs.Machine.{after}
+use Rattle.fd_machine.specs.declared.machine.Step.TheVariants.{Reopen}
+use Rattle.fd_machine.proofs.Reached.{reached_step}
+use Rattle.fd_machine.proofs.OpenSteps.{down_held, down_lists, reopen_done}
 use Rattle.fd_entries.specs.Table.{listed}
 use Rattle.fd_entries.specs.Numbers.{entries_or_none}
-use Rattle.fd_core.specs.Took.{AllHeld}
+use Rattle.fd_machine.specs.Took.{AllHeld}
 use Rattle.fd_entries.specs.Numbers.{ListsSome}
 use Rattle.fd_core.proofs.open_steps.reopen.Goals as goal
 

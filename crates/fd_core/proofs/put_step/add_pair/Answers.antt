@@ -1,4 +1,4 @@
-use Rattle.fd_core.proofs.PutSteps.{still_inside, undone}
+use Rattle.fd_machine.proofs.PutSteps.{still_inside, undone}
 use Rattle.fd_core.proofs.put_step.add_pair.Goals as goal
 
 pub drop_pair-requires : goal.drop_pair-requires

@@ -1,14 +1,14 @@
 use Rattle.std.proofs.Common.{◌≡◌, ℕ, List, true, false, sym, ◌∙◌, ap, subst, [], ◌∷◌, ◌++◌}
-use Rattle.fd_core.specs.World.{World}
-use Rattle.fd_core.specs.Took.{IsReached}
-use Rattle.fd_core.specs.Machine.{after}
-use Rattle.fd_core.specs.declared.machine.Step.TheVariants.{Put}
-use Rattle.fd_core.proofs.Reached.{reached_step}
-use Rattle.fd_core.proofs.PutSteps.{put_first_done}
-use Rattle.fd_core.specs.Machine.{can_put, file_of, filled, put_file, writer_in, writer_of}
+use Rattle.fd_machine.specs.World.{World}
+use Rattle.fd_machine.specs.Took.{IsReached}
+use Rattle.fd_machine.specs.Machine.{after}
+use Rattle.fd_machine.specs.declared.machine.Step.TheVariants.{Put}
+use Rattle.fd_machine.proofs.Reached.{reached_step}
+use Rattle.fd_machine.proofs.PutSteps.{put_first_done}
+use Rattle.fd_machine.specs.Machine.{can_put, file_of, filled, put_file, writer_in, writer_of}
 use Rattle.fd_entries.specs.declared.batch.Pair.{Pair}
-use Rattle.fd_core.specs.declared.machine.Phase.TheVariants.{Filling}
-use Rattle.fd_core.specs.declared.machine.Writer.{Writer}
+use Rattle.fd_machine.specs.declared.machine.Phase.TheVariants.{Filling}
+use Rattle.fd_machine.specs.declared.machine.Writer.{Writer}
 use Rattle.fd_disk.specs.Images.{written}
 use Rattle.fd_core.proofs.put_step.put_first.Goals as goal
 

@@ -1,15 +1,15 @@
 use Rattle.std.proofs.Common.{◌≡◌, ℕ, List, true, false, sym, ◌∙◌, ap, subst, arith, length}
-use Rattle.fd_core.specs.World.{World}
-use Rattle.fd_core.specs.Took.{IsReached}
-use Rattle.fd_core.specs.Machine.{after}
-use Rattle.fd_core.specs.declared.machine.Step.TheVariants.{Put}
-use Rattle.fd_core.proofs.Reached.{reached_step, place_is}
-use Rattle.fd_core.proofs.PutSteps.{put_fits, put_next_done}
+use Rattle.fd_machine.specs.World.{World}
+use Rattle.fd_machine.specs.Took.{IsReached}
+use Rattle.fd_machine.specs.Machine.{after}
+use Rattle.fd_machine.specs.declared.machine.Step.TheVariants.{Put}
+use Rattle.fd_machine.proofs.Reached.{reached_step, place_is}
+use Rattle.fd_machine.proofs.PutSteps.{put_fits, put_next_done}
 use Rattle.fd_entries.specs.Batches.{total}
-use Rattle.fd_core.specs.Machine.{can_put, fields_name, file_of, put_file, writer_of}
-use Rattle.fd_core.specs.Took.{IsPlace}
+use Rattle.fd_machine.specs.Machine.{can_put, fields_name, file_of, put_file, writer_of}
+use Rattle.fd_machine.specs.Took.{IsPlace}
 use Rattle.fd_entries.specs.declared.batch.Pair.{Pair}
-use Rattle.fd_core.specs.declared.machine.Writer.{Writer}
+use Rattle.fd_machine.specs.declared.machine.Writer.{Writer}
 use Rattle.fd_disk.specs.Images.{written}
 use Rattle.fd_core.proofs.FillSteps.{place_bounded}
 use Rattle.fd_core.proofs.put_step.put_next.Goals as goal

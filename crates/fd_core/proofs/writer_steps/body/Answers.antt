@@ -1,11 +1,11 @@
 use Rattle.std.proofs.Common.{◌==◌, sym, ◌∙◌, ap, subst, length}
-use Rattle.fd_core.specs.World.{World}
-use Rattle.fd_core.specs.Took.{IsAt, IsReached}
-use Rattle.fd_core.specs.Machine.{after, code}
-use Rattle.fd_core.specs.declared.machine.Phase.{Phase}
-use Rattle.fd_core.specs.declared.machine.Phase.TheVariants.{Holding}
-use Rattle.fd_core.specs.declared.machine.Step.TheVariants.{Body}
-use Rattle.fd_core.proofs.Reached.{phase_at, reached_step}
+use Rattle.fd_machine.specs.World.{World}
+use Rattle.fd_machine.specs.Took.{IsAt, IsReached}
+use Rattle.fd_machine.specs.Machine.{after, code}
+use Rattle.fd_machine.specs.declared.machine.Phase.{Phase}
+use Rattle.fd_machine.specs.declared.machine.Phase.TheVariants.{Holding}
+use Rattle.fd_machine.specs.declared.machine.Step.TheVariants.{Body}
+use Rattle.fd_machine.proofs.Reached.{phase_at, reached_step}
 use Rattle.fd_core.proofs.FillSteps.{body_done, body_written, count_few, place_bounded}
 use Rattle.fd_entries.specs.Table.{gate_at}
 use Rattle.fd_core.proofs.writer_steps.body.Goals as goal

@@ -1,12 +1,12 @@
 use Rattle.std.proofs.Common.{◌==◌, ℕ, sym, ◌∙◌, ap, subst, [], ◌∷◌}
-use Rattle.fd_core.specs.World.{World}
-use Rattle.fd_core.specs.Took.{IsAt, IsReached}
-use Rattle.fd_core.specs.Machine.{after, code, fresh, writer_of}
-use Rattle.fd_core.specs.declared.machine.Phase.{Phase}
-use Rattle.fd_core.specs.declared.machine.Phase.TheVariants.{Holding}
-use Rattle.fd_core.specs.declared.machine.Step.TheVariants.{CloseGate}
-use Rattle.fd_core.proofs.Reached.{reached_step}
-use Rattle.fd_core.proofs.Reached.{close_gate_done}
+use Rattle.fd_machine.specs.World.{World}
+use Rattle.fd_machine.specs.Took.{IsAt, IsReached}
+use Rattle.fd_machine.specs.Machine.{after, code, fresh, writer_of}
+use Rattle.fd_machine.specs.declared.machine.Phase.{Phase}
+use Rattle.fd_machine.specs.declared.machine.Phase.TheVariants.{Holding}
+use Rattle.fd_machine.specs.declared.machine.Step.TheVariants.{CloseGate}
+use Rattle.fd_machine.proofs.Reached.{reached_step}
+use Rattle.fd_machine.proofs.Reached.{close_gate_done}
 use Rattle.fd_core.proofs.FillSteps.{count_few}
 use Rattle.fd_disk.specs.Images.{written}
 use Rattle.fd_core.proofs.writer_steps.close_gate.Goals as goal

@@ -1,11 +1,11 @@
 use Rattle.std.proofs.Common.{◌==◌, ◌≡◌, true, sym, ◌∙◌, ap, subst}
-use Rattle.fd_core.specs.World.{World}
-use Rattle.fd_core.specs.Took.{IsAt, IsReached}
-use Rattle.fd_core.specs.Machine.{after, code, is_in_phase}
-use Rattle.fd_core.specs.declared.machine.Phase.{Phase}
-use Rattle.fd_core.specs.declared.machine.Phase.TheVariants.{Listed}
-use Rattle.fd_core.specs.declared.machine.Step.TheVariants.{Post}
-use Rattle.fd_core.proofs.Reached.{phase_at, post_done, reached_step}
+use Rattle.fd_machine.specs.World.{World}
+use Rattle.fd_machine.specs.Took.{IsAt, IsReached}
+use Rattle.fd_machine.specs.Machine.{after, code, is_in_phase}
+use Rattle.fd_machine.specs.declared.machine.Phase.{Phase}
+use Rattle.fd_machine.specs.declared.machine.Phase.TheVariants.{Listed}
+use Rattle.fd_machine.specs.declared.machine.Step.TheVariants.{Post}
+use Rattle.fd_machine.proofs.Reached.{phase_at, post_done, reached_step}
 use Rattle.fd_core.proofs.writer_steps.post.Goals as goal
 
 pub returns-clause-ok : goal.returns-clause-ok

@@ -1,11 +1,11 @@
 use Rattle.std.proofs.Common.{◌==◌, sym, ◌∙◌, ap, subst}
-use Rattle.fd_core.specs.World.{World}
-use Rattle.fd_core.specs.Took.{IsAt, IsReached}
-use Rattle.fd_core.specs.Machine.{after, code, fresh, writer_of}
-use Rattle.fd_core.specs.declared.machine.Phase.{Phase}
-use Rattle.fd_core.specs.declared.machine.Phase.TheVariants.{Posted}
-use Rattle.fd_core.specs.declared.machine.Step.TheVariants.{Release}
-use Rattle.fd_core.proofs.Reached.{release_done, release_fits, reached_step}
+use Rattle.fd_machine.specs.World.{World}
+use Rattle.fd_machine.specs.Took.{IsAt, IsReached}
+use Rattle.fd_machine.specs.Machine.{after, code, fresh, writer_of}
+use Rattle.fd_machine.specs.declared.machine.Phase.{Phase}
+use Rattle.fd_machine.specs.declared.machine.Phase.TheVariants.{Posted}
+use Rattle.fd_machine.specs.declared.machine.Step.TheVariants.{Release}
+use Rattle.fd_machine.proofs.Reached.{release_done, release_fits, reached_step}
 use Rattle.fd_core.proofs.writer_steps.release.Goals as goal
 
 pub returns-clause-state : goal.returns-clause-state

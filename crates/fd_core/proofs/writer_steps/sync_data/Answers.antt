@@ -1,11 +1,11 @@
 use Rattle.std.proofs.Common.{sym, ◌∙◌, ap, subst, arith}
-use Rattle.fd_core.specs.World.{World}
-use Rattle.fd_core.specs.Took.{IsReached}
-use Rattle.fd_core.specs.Machine.{after}
-use Rattle.fd_core.specs.declared.machine.Step.TheVariants.{SyncData}
-use Rattle.fd_core.proofs.Reached.{reached_step}
+use Rattle.fd_machine.specs.World.{World}
+use Rattle.fd_machine.specs.Took.{IsReached}
+use Rattle.fd_machine.specs.Machine.{after}
+use Rattle.fd_machine.specs.declared.machine.Step.TheVariants.{SyncData}
+use Rattle.fd_machine.proofs.Reached.{reached_step}
 use Rattle.fd_core.proofs.FillSteps.{sync_data_done}
-use Rattle.fd_core.specs.Machine.{file_of, put_file}
+use Rattle.fd_machine.specs.Machine.{file_of, put_file}
 use Rattle.fd_disk.specs.Images.{synced}
 use Rattle.fd_disk.specs.declared.folders.FileName.{FileName}
 use Rattle.fd_core.proofs.writer_steps.sync_data.Goals as goal

@@ -1,11 +1,11 @@
 use Rattle.std.proofs.Common.{◌==◌, sym, ◌∙◌, ap, subst}
-use Rattle.fd_core.specs.World.{World}
-use Rattle.fd_core.specs.Took.{IsAt, IsReached}
-use Rattle.fd_core.specs.Machine.{after, code, fresh, writer_of}
-use Rattle.fd_core.specs.declared.machine.Phase.{Phase}
-use Rattle.fd_core.specs.declared.machine.Phase.TheVariants.{GateLoose}
-use Rattle.fd_core.specs.declared.machine.Step.TheVariants.{SyncGate}
-use Rattle.fd_core.proofs.Reached.{sync_gate_done, reached_step}
+use Rattle.fd_machine.specs.World.{World}
+use Rattle.fd_machine.specs.Took.{IsAt, IsReached}
+use Rattle.fd_machine.specs.Machine.{after, code, fresh, writer_of}
+use Rattle.fd_machine.specs.declared.machine.Phase.{Phase}
+use Rattle.fd_machine.specs.declared.machine.Phase.TheVariants.{GateLoose}
+use Rattle.fd_machine.specs.declared.machine.Step.TheVariants.{SyncGate}
+use Rattle.fd_machine.proofs.Reached.{sync_gate_done, reached_step}
 use Rattle.fd_core.proofs.writer_steps.sync_gate.Goals as goal
 
 pub returns-clause-ok : goal.returns-clause-ok

@@ -1,11 +1,11 @@
 use Rattle.std.proofs.Common.{◌==◌, sym, ◌∙◌, ap, subst}
-use Rattle.fd_core.specs.World.{World}
-use Rattle.fd_core.specs.Took.{IsAt, IsReached}
-use Rattle.fd_core.specs.Machine.{after, code, file_of, put_file}
-use Rattle.fd_core.specs.declared.machine.Phase.{Phase}
-use Rattle.fd_core.specs.declared.machine.Phase.TheVariants.{Written}
-use Rattle.fd_core.specs.declared.machine.Step.TheVariants.{SyncIndex}
-use Rattle.fd_core.proofs.Reached.{phase_at, reached_step}
+use Rattle.fd_machine.specs.World.{World}
+use Rattle.fd_machine.specs.Took.{IsAt, IsReached}
+use Rattle.fd_machine.specs.Machine.{after, code, file_of, put_file}
+use Rattle.fd_machine.specs.declared.machine.Phase.{Phase}
+use Rattle.fd_machine.specs.declared.machine.Phase.TheVariants.{Written}
+use Rattle.fd_machine.specs.declared.machine.Step.TheVariants.{SyncIndex}
+use Rattle.fd_machine.proofs.Reached.{phase_at, reached_step}
 use Rattle.fd_core.proofs.FillSteps.{sync_index_done}
 use Rattle.fd_disk.specs.Images.{synced}
 use Rattle.fd_disk.specs.declared.folders.FileName.{FileName}

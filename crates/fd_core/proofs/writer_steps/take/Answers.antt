@@ -1,11 +1,11 @@
 use Rattle.std.proofs.Common.{◌==◌, sym, ◌∙◌, ap, subst, arith}
-use Rattle.fd_core.specs.World.{World}
-use Rattle.fd_core.specs.Took.{IsAt, IsReached}
-use Rattle.fd_core.specs.Machine.{after, code, fresh, writer_of}
-use Rattle.fd_core.specs.declared.machine.Phase.{Phase}
-use Rattle.fd_core.specs.declared.machine.Phase.TheVariants.{Sealed}
-use Rattle.fd_core.specs.declared.machine.Step.TheVariants.{Take}
-use Rattle.fd_core.proofs.Reached.{take_done, reached_step}
+use Rattle.fd_machine.specs.World.{World}
+use Rattle.fd_machine.specs.Took.{IsAt, IsReached}
+use Rattle.fd_machine.specs.Machine.{after, code, fresh, writer_of}
+use Rattle.fd_machine.specs.declared.machine.Phase.{Phase}
+use Rattle.fd_machine.specs.declared.machine.Phase.TheVariants.{Sealed}
+use Rattle.fd_machine.specs.declared.machine.Step.TheVariants.{Take}
+use Rattle.fd_machine.proofs.Reached.{take_done, reached_step}
 use Rattle.fd_core.proofs.writer_steps.take.Goals as goal
 
 pub returns-clause-state : goal.returns-clause-state

@@ -1,0 +1,15 @@
+pub mod SeenLemmas
+pub mod Updates
+pub mod Holds
+pub mod Fetching
+pub mod Keeping
+pub mod Steps
+pub mod Failing
+pub mod Images
+pub mod Crashing
+pub mod EveryRun
+pub mod Reached
+pub mod Places
+pub mod FilePlaces
+pub mod PutSteps
+pub mod OpenSteps
