@@ -1,3 +1,7 @@
-//! How the contract of a command names what the command was given: a store, an input, an output and a report, over any
-//! implementations of their traits. It has definitions alone, in `specs/Given`.
+//! What a command is given, a store, an input, an output, a report and a gate, over any implementations of their traits, and how
+//! its contract names them: `specs/Objects` where they are given as one, and `specs/Given` where each is given by itself.
 #![tactic(auto)]
+
+mod given;
+
+pub use given::{Objects, World};
