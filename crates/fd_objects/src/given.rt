@@ -1,6 +1,7 @@
 use fd_disk::{Renew, Store};
 use fd_io::{Gate, Sink, Source};
 use std::alloc::Global;
+use std::marker::PhantomData;
 
 /// The kinds of the objects that a command is given.
 pub trait World {
@@ -43,4 +44,32 @@ pub struct Objects<W: World> {
     pub report: W::Report,
     /// What threads pass on their way.
     pub gate: W::Gate,
+}
+
+/// The world of objects of these kinds: of the faults of a store and of a stream, of a store, an input, an output, a report and a
+/// gate.
+pub struct Kinds<F, X, S, I, K, E, G> {
+    of: PhantomData<(F, X, S, I, K, E, G)>,
+}
+
+impl<F: Send + Drop, X: Drop, S: Store<F>, I: Source<X>, K: Sink<X>, E: Sink<X>, G: Gate> World
+    for Kinds<F, X, S, I, K, E, G>
+where
+    S::Folder: Renew<F>,
+{
+    type StoreFault = F;
+
+    type StreamFault = X;
+
+    type Folder = S::Folder;
+
+    type Store = S;
+
+    type Input = I;
+
+    type Output = K;
+
+    type Report = E;
+
+    type Gate = G;
 }

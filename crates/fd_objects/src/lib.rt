@@ -4,4 +4,4 @@
 
 mod given;
 
-pub use given::{Objects, World};
+pub use given::{Kinds, Objects, World};
