@@ -1,7 +1,7 @@
 -- What a command was given as one, and a fact of it: a store, an input, an output and a report, each by what its trait says of it
 -- when the command is called and when it returns.
 use Rattle.std.specs.Borrow.{MutBor}
-use Rattle.std.specs.Prelude.{ℕ, List}
+use Rattle.std.specs.Prelude.{ℕ, List, Option}
 use Rattle.fd_disk.specs.Folders.{Holdings}
 use Rattle.fd_disk.specs.declared.shelves.Store as stores
 use Rattle.fd_io.specs.declared.stream.Source as sources
@@ -21,9 +21,19 @@ source_between says old new = object (says.left old) (says.left new) (says.fault
 abbrev pub sink_between : {K X : Type 0} → sinks.Ghosts K X → K → K → Object (List ℕ)
 sink_between says old new = object (says.taken old) (says.taken new) (says.faults old) (says.faults new)
 
+-- ---- an earlier moment
+
+-- the same since an earlier moment, at which it told this and had counted so many faults
+abbrev pub since : {A : Type 0} → Option A → ℕ → Object A → Object A
+since before faults x = object before x.now faults x.faults_now
+
+-- from such a moment up to the call
+abbrev pub until : {A : Type 0} → Option A → ℕ → Object A → Object A
+until before faults x = object before x.before faults x.faults_before
+
 -- ---- all four
 
-abbrev pub Over : {W F X A B C D E G H J S I K R L : Type 0} → stores.Ghosts S F A B C D E G H J → sources.Ghosts I X → sinks.Ghosts K X
-    → sinks.Ghosts R X → Given (Objects W F X A B C D E G H J S I K R L) → Fact → Type 0
+abbrev pub Over : {W F X S I K R L A B C D E G H J : Type 0} → stores.Ghosts S F A B C D E G H J → sources.Ghosts I X → sinks.Ghosts K X
+    → sinks.Ghosts R X → Given (Objects W F X S I K R L A B C D E G H J) → Fact → Type 0
 Over s i k r o Holds = Holds (store_between s o.entry.now.store o.exit.now.store) (source_between i o.entry.now.input o.exit.now.input)
     (sink_between k o.entry.now.output o.exit.now.output) (sink_between r o.entry.now.report o.exit.now.report)

@@ -11,11 +11,8 @@ pub trait World {
     /// A fault of the input, the output or the report.
     type StreamFault: Drop;
 
-    /// A dataset of the store.
-    type Folder: Renew<Self::StoreFault>;
-
-    /// The store.
-    type Store: Store<Self::StoreFault, Folder = Self::Folder>;
+    /// The store, whose datasets can be purged.
+    type Store: Store<Self::StoreFault, Folder: Renew<Self::StoreFault>>;
 
     /// The input.
     type Input: Source<Self::StreamFault>;
@@ -60,8 +57,6 @@ where
     type StoreFault = F;
 
     type StreamFault = X;
-
-    type Folder = S::Folder;
 
     type Store = S;
 

@@ -13,8 +13,6 @@ impl<W: World> World for Stopping<W> {
 
     type StreamFault = W::StreamFault;
 
-    type Folder = Stopped<W::Folder>;
-
     type Store = Stopped<W::Store>;
 
     type Input = W::Input;
