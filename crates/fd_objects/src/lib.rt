@@ -1,5 +1,5 @@
-//! What a command is given, a store, an input, an output, a report and a gate, over any implementations of their traits, and how
-//! its contract names them: `specs/Objects` where they are given as one, and `specs/Given` where each is given by itself.
+//! What a command is given: a store, an input, an output, a report and a gate, over any implementations of their traits; and how
+//! contracts name them, in `specs/Objects`, and where a function is given one of them by itself, in `specs/Given`.
 #![tactic(auto)]
 
 mod given;
