@@ -24,9 +24,12 @@ pub fn list<W: World>(objects: &mut Objects<W>, root: &Root) -> Status
     requires home { (name : List ℕ) → W.Store.out objects.old.store name ≡ false }
     ensures ran { Over W.Store.Store W.Input.Source W.Output.Sink W.Report.Sink objects (Ran (commands.List root.now) result) }
     ensures notices { Over W.Store.Store W.Input.Source W.Output.Sink W.Report.Sink objects (Notices (commands.List root.now) result) }
-    ensures firm { Over W.Store.Store W.Input.Source W.Output.Sink W.Report.Sink objects (λ store input _ _. AnswersFirmly (commands.List root.now) result store input) }
-    ensures recorded { Over W.Store.Store W.Input.Source W.Output.Sink W.Report.Sink objects (λ store input output _. ListsRecords list_text result input.before store.before output) }
-    ensures unread { Over W.Store.Store W.Input.Source W.Output.Sink W.Report.Sink objects (λ store input _ _. ReadsFitly (commands.List root.now) store input) }
+    ensures firm { Over W.Store.Store W.Input.Source W.Output.Sink W.Report.Sink objects
+        (λ store input _ _. AnswersFirmly (commands.List root.now) result store input) }
+    ensures recorded { Over W.Store.Store W.Input.Source W.Output.Sink W.Report.Sink objects
+        (λ store input output _. ListsRecords list_text result input.before store.before output) }
+    ensures unread { Over W.Store.Store W.Input.Source W.Output.Sink W.Report.Sink objects
+        (λ store input _ _. ReadsFitly (commands.List root.now) store input) }
     ensures home { (name : List ℕ) → W.Store.out objects.new.store name ≡ false }
 {
     match partial(
@@ -47,9 +50,12 @@ pub fn axes<W: World>(objects: &mut Objects<W>, root: &Root) -> Status
     requires home { (name : List ℕ) → W.Store.out objects.old.store name ≡ false }
     ensures ran { Over W.Store.Store W.Input.Source W.Output.Sink W.Report.Sink objects (Ran (commands.Axes root.now) result) }
     ensures notices { Over W.Store.Store W.Input.Source W.Output.Sink W.Report.Sink objects (Notices (commands.Axes root.now) result) }
-    ensures firm { Over W.Store.Store W.Input.Source W.Output.Sink W.Report.Sink objects (λ store input _ _. AnswersFirmly (commands.Axes root.now) result store input) }
-    ensures recorded { Over W.Store.Store W.Input.Source W.Output.Sink W.Report.Sink objects (λ store input output _. ListsRecords axes_text result input.before store.before output) }
-    ensures unread { Over W.Store.Store W.Input.Source W.Output.Sink W.Report.Sink objects (λ store input _ _. ReadsFitly (commands.Axes root.now) store input) }
+    ensures firm { Over W.Store.Store W.Input.Source W.Output.Sink W.Report.Sink objects
+        (λ store input _ _. AnswersFirmly (commands.Axes root.now) result store input) }
+    ensures recorded { Over W.Store.Store W.Input.Source W.Output.Sink W.Report.Sink objects
+        (λ store input output _. ListsRecords axes_text result input.before store.before output) }
+    ensures unread { Over W.Store.Store W.Input.Source W.Output.Sink W.Report.Sink objects
+        (λ store input _ _. ReadsFitly (commands.Axes root.now) store input) }
     ensures home { (name : List ℕ) → W.Store.out objects.new.store name ≡ false }
 {
     match partial(
@@ -69,8 +75,10 @@ pub fn stats<W: World>(objects: &mut Objects<W>, root: &Root) -> Status
     requires home { (name : List ℕ) → W.Store.out objects.old.store name ≡ false }
     ensures ran { Over W.Store.Store W.Input.Source W.Output.Sink W.Report.Sink objects (Ran (commands.Stats root.now) result) }
     ensures notices { Over W.Store.Store W.Input.Source W.Output.Sink W.Report.Sink objects (Notices (commands.Stats root.now) result) }
-    ensures firm { Over W.Store.Store W.Input.Source W.Output.Sink W.Report.Sink objects (λ store input _ _. AnswersFirmly (commands.Stats root.now) result store input) }
-    ensures recorded { Over W.Store.Store W.Input.Source W.Output.Sink W.Report.Sink objects (λ store _ output _. CountsRecords result store.before output) }
+    ensures firm { Over W.Store.Store W.Input.Source W.Output.Sink W.Report.Sink objects
+        (λ store input _ _. AnswersFirmly (commands.Stats root.now) result store input) }
+    ensures recorded { Over W.Store.Store W.Input.Source W.Output.Sink W.Report.Sink objects
+        (λ store _ output _. CountsRecords result store.before output) }
     ensures input { objects.new.input ≡ objects.old.input }
     ensures home { (name : List ℕ) → W.Store.out objects.new.store name ≡ false }
 {
@@ -87,7 +95,8 @@ fn printed<W: World>(objects: &mut Objects<W>, lines: &Lines) -> Status
         (command : Command) (before : Option Holdings) (faults : ℕ) (left : Option (List ℕ)) (reads : ℕ)
         → Begins command lines.now before store.before faults store.faults_before (until left reads input)
         → Ran command result (since before faults store) (since left reads input) output report) }
-    ensures whole { Over W.Store.Store W.Input.Source W.Output.Sink W.Report.Sink objects (λ store _ output report. (result ≡ Done) ⊎ (result ≡ Missed)
+    ensures whole { Over W.Store.Store W.Input.Source W.Output.Sink W.Report.Sink objects
+        (λ store _ output report. (result ≡ Done) ⊎ (result ≡ Missed)
         → PrintsAll lines.now result store.before output report) }
     ensures firm { (result ≡ Done) ⊎ (result ≡ Missed)
         → IfSome (W.Store.has objects.old.store) (λ h. (names : List (List ℕ)) → AreNames h names

@@ -71,13 +71,15 @@ fn answered<W: World, Z: Sealed<W::StoreFault>, R: Threads + Wait + Sync>(
     requires chains { AreChains (length layers.now) (expand ready.request) (map seen_place ready.places.items) }
     ensures ran { Over W.Store.Store W.Input.Source W.Output.Sink W.Report.Sink objects (λ store input output report.
         (root : List ℕ) (before : Option Holdings) (faults : ℕ) (left : Option (List ℕ)) (reads : ℕ)
-        → Begins (RetrieveOver root layers.now workers) before store.before faults store.faults_before (until left reads input) ready.opened.items
+        → Begins (RetrieveOver root layers.now workers) before store.before faults store.faults_before
+        (until left reads input) ready.opened.items
         (laid_answers (table_in ready.opened.items) (laid_with layers.now ready.request ready.places.items))
         → Ran (RetrieveOver root layers.now workers) result (since before faults store) (since left reads input) output report) }
     ensures each { (h : Holdings) (octets : List ℕ) → IsReady h layers.now octets ready.request ready.places.items ready.opened.items
         → (result ≡ Done) ⊎ (result ≡ Missed)
         → AnsweredEach (IsLaidAnswer (table_at h)) (laid_of h layers.now octets) result
-        (W.Output.taken objects.old.output) (W.Output.taken objects.new.output) (W.Report.taken objects.old.report) (W.Report.taken objects.new.report) }
+        (W.Output.taken objects.old.output) (W.Output.taken objects.new.output) (W.Report.taken objects.old.report)
+        (W.Report.taken objects.new.report) }
     ensures input { objects.new.input ≡ objects.old.input }
     ensures has { W.Store.has objects.new.store ≡ W.Store.has objects.old.store }
     ensures out { W.Store.out objects.new.store ≡ W.Store.out objects.old.store }

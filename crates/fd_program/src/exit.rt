@@ -30,7 +30,8 @@ pub fn ran<W: World, R: Threads + Wait + Sync>(
     requires home { (name : List ℕ) → W.Store.out objects.old.store name ≡ false }
 
     // What holds of the run, fact by fact, where it ended with the status that is told so.
-    ensures served { Over W.Store.Store W.Input.Source W.Output.Sink W.Report.Sink objects (ServedAs W.StoreFault (texts words.now) (exit_status result)) }
+    ensures served { Over W.Store.Store W.Input.Source W.Output.Sink W.Report.Sink objects
+        (ServedAs W.StoreFault (texts words.now) (exit_status result)) }
 
     // Each folder is back in the store.
     ensures home { (name : List ℕ) → W.Store.out objects.new.store name ≡ false }

@@ -27,7 +27,8 @@ pub fn fdb<W: World, R: Threads + Wait + Sync>(
     requires home { (name : List ℕ) → W.Store.out objects.old.store name ≡ false }
 
     // What holds of the run, fact by fact, for the command that the words ask for, or where they ask for none.
-    ensures served { Over W.Store.Store W.Input.Source W.Output.Sink W.Report.Sink objects (Served W.StoreFault (command_of (texts words.now)) result) }
+    ensures served { Over W.Store.Store W.Input.Source W.Output.Sink W.Report.Sink objects
+        (Served W.StoreFault (command_of (texts words.now)) result) }
 
     // Each folder is back in the store.
     ensures home { (name : List ℕ) → W.Store.out objects.new.store name ≡ false }

@@ -41,7 +41,8 @@ pub fn retrieve<W: World, R: Threads + Wait + Sync>(
     requires workers { (1 ≤ workers) × (workers ≤ 8) }
     requires home { (name : List ℕ) → W.Store.out objects.old.store name ≡ false }
     ensures ran { Over W.Store.Store W.Input.Source W.Output.Sink W.Report.Sink objects (Ran (Retrieve root.now workers) result) }
-    ensures unread { Over W.Store.Store W.Input.Source W.Output.Sink W.Report.Sink objects (λ store input _ _. ReadsFitly (Retrieve root.now workers) store input) }
+    ensures unread { Over W.Store.Store W.Input.Source W.Output.Sink W.Report.Sink objects
+        (λ store input _ _. ReadsFitly (Retrieve root.now workers) store input) }
     ensures notices { Over W.Store.Store W.Input.Source W.Output.Sink W.Report.Sink objects (Notices (Retrieve root.now workers) result) }
     ensures firm { Over W.Store.Store W.Input.Source W.Output.Sink W.Report.Sink objects
         (λ store input _ _. AnswersFirmly (Retrieve root.now workers) result store input) }
@@ -75,7 +76,8 @@ fn answered<W: World, Z: Sealed<W::StoreFault>, R: Threads + Wait + Sync>(
     ensures each { (h : Holdings) (octets : List ℕ) → IsReady h octets ready.request ready.places.items ready.opened.items
         → (result ≡ Done) ⊎ (result ≡ Missed)
         → AnsweredEach (IsAnswer (table_at h)) (asked_of h octets) result
-        (W.Output.taken objects.old.output) (W.Output.taken objects.new.output) (W.Report.taken objects.old.report) (W.Report.taken objects.new.report) }
+        (W.Output.taken objects.old.output) (W.Output.taken objects.new.output) (W.Report.taken objects.old.report)
+        (W.Report.taken objects.new.report) }
     ensures input { objects.new.input ≡ objects.old.input }
     ensures has { W.Store.has objects.new.store ≡ W.Store.has objects.old.store }
     ensures out { W.Store.out objects.new.store ≡ W.Store.out objects.old.store }
@@ -113,7 +115,8 @@ pub fn answer_located<W: World, Z: Sealed<W::StoreFault>, R: Threads + Sync>(
     ensures located { (result ≡ Done) ⊎ (result ≡ Missed) → IsOk located }
     ensures told { (result ≡ Done) ⊎ (result ≡ Missed)
         → IfOk located (λ v. (xs : List Answer) → AreAt opened.now (expand request.now) xs v.items
-        → Tells result (outcomes.answered xs) (W.Output.taken objects.old.output) (W.Output.taken objects.new.output) (W.Report.taken objects.old.report) (W.Report.taken objects.new.report)) }
+        → Tells result (outcomes.answered xs) (W.Output.taken objects.old.output) (W.Output.taken objects.new.output)
+        (W.Report.taken objects.old.report) (W.Report.taken objects.new.report)) }
     ensures input { objects.new.input ≡ objects.old.input }
     ensures has { W.Store.has objects.new.store ≡ W.Store.has objects.old.store }
     ensures out { W.Store.out objects.new.store ≡ W.Store.out objects.old.store }

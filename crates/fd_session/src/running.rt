@@ -43,7 +43,8 @@ pub fn session<W: World, R: Threads + Wait + Sync>(
 ) -> Status
     requires home { (name : List ℕ) → W.Store.out objects.old.store name ≡ false }
     ensures ran { Over W.Store.Store W.Input.Source W.Output.Sink W.Report.Sink objects (SessionRan W.StoreFault result) }
-    ensures unread { Over W.Store.Store W.Input.Source W.Output.Sink W.Report.Sink objects (λ store input _ _. ReadsFitly (commands.Session root.now) store input) }
+    ensures unread { Over W.Store.Store W.Input.Source W.Output.Sink W.Report.Sink objects
+        (λ store input _ _. ReadsFitly (commands.Session root.now) store input) }
     ensures home { (name : List ℕ) → W.Store.out objects.new.store name ≡ false }
 {
     match stored_schema(objects.alloc, &mut objects.store, root.as_str()) {

@@ -14,7 +14,8 @@ use fd_words::Root;
 /// schema that it had, or, where it had none, maybe the whole input, which is a schema then.
 pub fn create_until<W: World>(objects: &mut Objects<Stopping<W>>, root: &Root) -> Status
     requires home { (name : List ℕ) → W.Store.out objects.old.store.inner name ≡ false }
-    ensures left { IfSome (W.Input.left objects.old.input) (λ octets. WhereTold (W.Store.has objects.old.store.inner) (W.Store.has objects.new.store.inner) (EachLeft (FoundCreated octets))) }
+    ensures left { IfSome (W.Input.left objects.old.input) (λ octets. WhereTold (W.Store.has objects.old.store.inner)
+        (W.Store.has objects.new.store.inner) (EachLeft (FoundCreated octets))) }
     ensures home { (name : List ℕ) → W.Store.out objects.new.store.inner name ≡ false }
 {
     create(objects, root)

@@ -23,7 +23,8 @@ pub fn session_until<W: World, R: Threads + Wait + Sync>(
     root: &Root,
 ) -> Status
     requires home { (name : List ℕ) → W.Store.out objects.old.store.inner name ≡ false }
-    ensures left { IfSome (W.Input.left objects.old.input) (λ octets. WhereTold (W.Store.has objects.old.store.inner) (W.Store.has objects.new.store.inner)
+    ensures left { IfSome (W.Input.left objects.old.input) (λ octets. WhereTold (W.Store.has objects.old.store.inner)
+        (W.Store.has objects.new.store.inner)
         (EachLeft (FoundOfSession (StopFault W.StoreFault) result (sink_between W.Output.Sink objects.old.output objects.new.output)
         (sink_between W.Report.Sink objects.old.report objects.new.report) octets))) }
     ensures home { (name : List ℕ) → W.Store.out objects.new.store.inner name ≡ false }

@@ -27,7 +27,8 @@ pub fn retrieve_until<W: World, R: Threads + Wait + Sync>(
     requires workers { (1 ≤ workers) × (workers ≤ 8) }
     requires home { (name : List ℕ) → W.Store.out objects.old.store.inner name ≡ false }
     ensures before { WhereTold (W.Store.has objects.old.store.inner) (W.Store.has objects.new.store.inner) (EachLeft IsAfterCrash) }
-    ensures answered { AnswersLast (commands.Retrieve root.now workers) result (W.Input.left objects.old.input) (W.Store.has objects.old.store.inner) (W.Store.has objects.new.store.inner) }
+    ensures answered { AnswersLast (commands.Retrieve root.now workers) result (W.Input.left objects.old.input)
+        (W.Store.has objects.old.store.inner) (W.Store.has objects.new.store.inner) }
     ensures home { (name : List ℕ) → W.Store.out objects.new.store.inner name ≡ false }
 {
     retrieve(rt, objects, root, workers)
@@ -45,7 +46,8 @@ pub fn retrieve_over_until<W: World, R: Threads + Wait + Sync>(
     requires layers { AreLayers layers.now }
     requires home { (name : List ℕ) → W.Store.out objects.old.store.inner name ≡ false }
     ensures before { WhereTold (W.Store.has objects.old.store.inner) (W.Store.has objects.new.store.inner) (EachLeft IsAfterCrash) }
-    ensures answered { AnswersLast (commands.RetrieveOver root.now layers.now workers) result (W.Input.left objects.old.input) (W.Store.has objects.old.store.inner) (W.Store.has objects.new.store.inner) }
+    ensures answered { AnswersLast (commands.RetrieveOver root.now layers.now workers) result (W.Input.left objects.old.input)
+        (W.Store.has objects.old.store.inner) (W.Store.has objects.new.store.inner) }
     ensures home { (name : List ℕ) → W.Store.out objects.new.store.inner name ≡ false }
 {
     retrieve_over(rt, objects, root, layers, workers)
@@ -55,7 +57,8 @@ pub fn retrieve_over_until<W: World, R: Threads + Wait + Sync>(
 pub fn list_until<W: World>(objects: &mut Objects<Stopping<W>>, root: &Root) -> Status
     requires home { (name : List ℕ) → W.Store.out objects.old.store.inner name ≡ false }
     ensures before { WhereTold (W.Store.has objects.old.store.inner) (W.Store.has objects.new.store.inner) (EachLeft IsAfterCrash) }
-    ensures answered { AnswersLast (commands.List root.now) result (W.Input.left objects.old.input) (W.Store.has objects.old.store.inner) (W.Store.has objects.new.store.inner) }
+    ensures answered { AnswersLast (commands.List root.now) result (W.Input.left objects.old.input) (W.Store.has objects.old.store.inner)
+        (W.Store.has objects.new.store.inner) }
     ensures home { (name : List ℕ) → W.Store.out objects.new.store.inner name ≡ false }
 {
     list(objects, root)
@@ -65,7 +68,8 @@ pub fn list_until<W: World>(objects: &mut Objects<Stopping<W>>, root: &Root) -> 
 pub fn axes_until<W: World>(objects: &mut Objects<Stopping<W>>, root: &Root) -> Status
     requires home { (name : List ℕ) → W.Store.out objects.old.store.inner name ≡ false }
     ensures before { WhereTold (W.Store.has objects.old.store.inner) (W.Store.has objects.new.store.inner) (EachLeft IsAfterCrash) }
-    ensures answered { AnswersLast (commands.Axes root.now) result (W.Input.left objects.old.input) (W.Store.has objects.old.store.inner) (W.Store.has objects.new.store.inner) }
+    ensures answered { AnswersLast (commands.Axes root.now) result (W.Input.left objects.old.input) (W.Store.has objects.old.store.inner)
+        (W.Store.has objects.new.store.inner) }
     ensures home { (name : List ℕ) → W.Store.out objects.new.store.inner name ≡ false }
 {
     axes(objects, root)
@@ -84,7 +88,8 @@ pub fn cubes_until<W: World>(objects: &mut Objects<Stopping<W>>, root: &Root) ->
 pub fn stats_until<W: World>(objects: &mut Objects<Stopping<W>>, root: &Root) -> Status
     requires home { (name : List ℕ) → W.Store.out objects.old.store.inner name ≡ false }
     ensures before { WhereTold (W.Store.has objects.old.store.inner) (W.Store.has objects.new.store.inner) (EachLeft IsAfterCrash) }
-    ensures answered { AnswersLast (commands.Stats root.now) result None (W.Store.has objects.old.store.inner) (W.Store.has objects.new.store.inner) }
+    ensures answered { AnswersLast (commands.Stats root.now) result None (W.Store.has objects.old.store.inner)
+        (W.Store.has objects.new.store.inner) }
     ensures home { (name : List ℕ) → W.Store.out objects.new.store.inner name ≡ false }
 {
     stats(objects, root)

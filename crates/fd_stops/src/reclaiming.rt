@@ -20,8 +20,10 @@ pub fn purge_until<W: World>(
     dataset: &Dataset,
 ) -> Status
     requires home { (name : List ℕ) → W.Store.out objects.old.store.inner name ≡ false }
-    ensures left { WhereTold (W.Store.has objects.old.store.inner) (W.Store.has objects.new.store.inner) (EachLeft (FoundReclaimed dataset.now (IsLeftByPurge dataset.now))) }
-    ensures table { WhereTold (W.Store.has objects.old.store.inner) (W.Store.has objects.new.store.inner) (EachLeft (HasOldOr kept dataset.now)) }
+    ensures left { WhereTold (W.Store.has objects.old.store.inner) (W.Store.has objects.new.store.inner)
+        (EachLeft (FoundReclaimed dataset.now (IsLeftByPurge dataset.now))) }
+    ensures table { WhereTold (W.Store.has objects.old.store.inner) (W.Store.has objects.new.store.inner)
+        (EachLeft (HasOldOr kept dataset.now)) }
     ensures home { (name : List ℕ) → W.Store.out objects.new.store.inner name ≡ false }
 {
     every_purge();
@@ -37,8 +39,10 @@ pub fn wipe_until<W: World>(
     dataset: &Dataset,
 ) -> Status
     requires home { (name : List ℕ) → W.Store.out objects.old.store.inner name ≡ false }
-    ensures left { WhereTold (W.Store.has objects.old.store.inner) (W.Store.has objects.new.store.inner) (EachLeft (FoundReclaimed dataset.now (IsLeftByWipe dataset.now))) }
-    ensures table { WhereTold (W.Store.has objects.old.store.inner) (W.Store.has objects.new.store.inner) (EachLeft (HasOldOr (λ t. []) dataset.now)) }
+    ensures left { WhereTold (W.Store.has objects.old.store.inner) (W.Store.has objects.new.store.inner)
+        (EachLeft (FoundReclaimed dataset.now (IsLeftByWipe dataset.now))) }
+    ensures table { WhereTold (W.Store.has objects.old.store.inner) (W.Store.has objects.new.store.inner)
+        (EachLeft (HasOldOr (λ t. []) dataset.now)) }
     ensures home { (name : List ℕ) → W.Store.out objects.new.store.inner name ≡ false }
 {
     every_purge();

@@ -26,7 +26,8 @@ pub fn archive_until<W: World, R: Threads + Wait + Sync>(
 ) -> Status
     requires home { (name : List ℕ) → W.Store.out objects.old.store.inner name ≡ false }
     requires workers { (1 ≤ workers) × (workers ≤ 8) }
-    ensures left { IfSome (W.Input.left objects.old.input) (λ octets. WhereTold (W.Store.has objects.old.store.inner) (W.Store.has objects.new.store.inner) (EachLeft (λ h j. FoundStored workers (rules_of h.schema) given.now octets h j))) }
+    ensures left { IfSome (W.Input.left objects.old.input) (λ octets. WhereTold (W.Store.has objects.old.store.inner)
+        (W.Store.has objects.new.store.inner) (EachLeft (λ h j. FoundStored workers (rules_of h.schema) given.now octets h j))) }
     ensures home { (name : List ℕ) → W.Store.out objects.new.store.inner name ≡ false }
 {
     archive(rt, objects, root, given, workers)
@@ -45,7 +46,8 @@ pub fn trial_until<W: World, R: Threads + Wait + Sync>(
     requires count { count ≤ 100000 }
     requires workers { (1 ≤ workers) × (workers ≤ 8) }
     requires home { (name : List ℕ) → W.Store.out objects.old.store.inner name ≡ false }
-    ensures left { WhereTold (W.Store.has objects.old.store.inner) (W.Store.has objects.new.store.inner) (EachLeft (λ h j. FoundTried workers count (trial_rules h.schema) h j)) }
+    ensures left { WhereTold (W.Store.has objects.old.store.inner) (W.Store.has objects.new.store.inner)
+        (EachLeft (λ h j. FoundTried workers count (trial_rules h.schema) h j)) }
     ensures home { (name : List ℕ) → W.Store.out objects.new.store.inner name ≡ false }
 {
     trial(rt, objects, root, count, workers)

@@ -51,9 +51,11 @@ fn tell_schema<X: Drop, E: Sink<X>>(
 pub fn create<W: World>(objects: &mut Objects<W>, root: &Root) -> Status
     requires home { (name : List ℕ) → W.Store.out objects.old.store name ≡ false }
     ensures ran { Over W.Store.Store W.Input.Source W.Output.Sink W.Report.Sink objects (Ran (Create root.now) result) }
-    ensures kept { IfSome (W.Input.left objects.old.input) (λ octets. WhereTold (W.Store.has objects.old.store) (W.Store.has objects.new.store) (IsCreatedOnly octets)) }
+    ensures kept { IfSome (W.Input.left objects.old.input) (λ octets. WhereTold (W.Store.has objects.old.store)
+        (W.Store.has objects.new.store) (IsCreatedOnly octets)) }
     ensures output { objects.new.output ≡ objects.old.output }
-    ensures unread { Over W.Store.Store W.Input.Source W.Output.Sink W.Report.Sink objects (λ store input _ _. ReadsFitly (Create root.now) store input) }
+    ensures unread { Over W.Store.Store W.Input.Source W.Output.Sink W.Report.Sink objects
+        (λ store input _ _. ReadsFitly (Create root.now) store input) }
     ensures home { (name : List ℕ) → W.Store.out objects.new.store name ≡ false }
 {
     match objects.store.enter(objects.alloc, root.as_str()) {
@@ -82,7 +84,8 @@ fn plant<W: World>(objects: &mut Objects<W>, root: &Root) -> Status
     requires home { (name : List ℕ) → W.Store.out objects.old.store name ≡ false }
     requires none { IfSome (W.Store.has objects.old.store) (λ h. h.schema ≡ None) }
     ensures ran { Over W.Store.Store W.Input.Source W.Output.Sink W.Report.Sink objects (Ran (Create root.now) result) }
-    ensures kept { IfSome (W.Input.left objects.old.input) (λ octets. WhereTold (W.Store.has objects.old.store) (W.Store.has objects.new.store) (IsCreatedOnly octets)) }
+    ensures kept { IfSome (W.Input.left objects.old.input) (λ octets. WhereTold (W.Store.has objects.old.store)
+        (W.Store.has objects.new.store) (IsCreatedOnly octets)) }
     ensures output { objects.new.output ≡ objects.old.output }
     ensures home { (name : List ℕ) → W.Store.out objects.new.store name ≡ false }
 {

@@ -60,7 +60,8 @@ pub fn trial<W: World, R: Threads + Wait + Sync>(
     requires workers { (1 ≤ workers) × (workers ≤ 8) }
     requires home { (name : List ℕ) → W.Store.out objects.old.store name ≡ false }
     ensures ran { Over W.Store.Store W.Input.Source W.Output.Sink W.Report.Sink objects (Ran (Trial root.now count workers) result) }
-    ensures notices { Over W.Store.Store W.Input.Source W.Output.Sink W.Report.Sink objects (Notices (Trial root.now count workers) result) }
+    ensures notices { Over W.Store.Store W.Input.Source W.Output.Sink W.Report.Sink objects
+        (Notices (Trial root.now count workers) result) }
     ensures spares { WhereTold (W.Store.has objects.old.store) (W.Store.has objects.new.store) SparesDamaged }
     ensures outlasts { Over W.Store.Store W.Input.Source W.Output.Sink W.Report.Sink objects
         (λ store input _ report. OutlastsCrash (Trial root.now count workers) result store input report) }
@@ -110,7 +111,8 @@ fn trial_by<W: World, R: Threads + Wait + Sync>(
     ensures undamaged { (result ≡ Status.Done) ⊎ (result ≡ Status.Missed)
         → IfSome (W.Store.has objects.old.store) (NoneDamaged (taken schema.now trial_given (generated_messages count)).stored) }
     ensures spares { WhereTold (W.Store.has objects.old.store) (W.Store.has objects.new.store) SparesDamaged }
-    ensures outlasts { WhereTold (W.Store.has objects.old.store) (W.Store.has objects.new.store) (OutlastsTrial result workers count (Ok schema.now)) }
+    ensures outlasts { WhereTold (W.Store.has objects.old.store) (W.Store.has objects.new.store)
+        (OutlastsTrial result workers count (Ok schema.now)) }
     ensures input { objects.new.input ≡ objects.old.input }
     ensures output { objects.new.output ≡ objects.old.output }
     ensures home { (name : List ℕ) → W.Store.out objects.new.store name ≡ false }
