@@ -16,15 +16,17 @@ use fd_bytes::NoMemory;
 use fd_disk::{Renew, Store};
 use fd_disk_real::RealStore;
 use fd_io::{Gate, StdSink, StdSource};
+use fd_objects::{Kinds, Objects};
 use fd_outcome::tell_no_memory;
 use std::alloc::Global;
 use std::env;
-use std::io::ErrorKind;
+use std::io::{Error, ErrorKind};
 use std::process::ExitCode;
 use std::sync::Wait;
 use std::thread::Threads;
 
 /// A gate that holds nobody back.
+#[derive(Drop)]
 struct Open;
 
 impl Gate for Open {
@@ -45,38 +47,44 @@ fn run<R: Threads + Wait + Sync>(rt: HostRuntime, waits: &R) -> ExitCode {
     let Ok(words) = words_of(rt.alloc(), &texts) else {
         return ended(tell_no_memory(&mut report));
     };
-    let Ok(mut store) = RealStore::new(rt.alloc(), rt) else {
+    let Ok(store) = RealStore::new(rt.alloc(), rt) else {
         return ended(tell_no_memory(&mut report));
     };
-    serve(rt, waits, &words, &mut store)
+    let (_store, code) = serve(rt, waits, &words, store);
+    code
 }
 
-/// Runs the command that the words ask for, over this store, and over standard input, output and error. No folder of the
-/// store is out, and none is out afterwards.
+/// Runs the command that the words ask for, over this store, and over standard input, output and error. Gives the store back. No
+/// folder of the store is out, and none is out afterwards.
 fn serve<F: Send + Drop, S: Store<F>, R: Threads + Wait + Sync>(
     rt: HostRuntime,
     waits: &R,
     words: &[&str],
-    store: &mut S,
-) -> ExitCode
+    store: S,
+) -> (S, ExitCode)
 where
     S::Folder: Renew<F>,
-    requires home { (name : List ℕ) → S.out store.old name ≡ false }
-    ensures home { (name : List ℕ) → S.out store.new name ≡ false }
+    requires home { (name : List ℕ) → S.out store name ≡ false }
+    ensures home { (name : List ℕ) → S.out result.0 name ≡ false }
 {
-    let mut input = StdSource::new(rt.stdin().lock());
-    let mut output = StdSink::new(rt.stdout());
-    let mut report = StdSink::new(rt.stderr());
-    ran(
-        waits,
-        rt.alloc(),
-        words,
+    let mut objects = Objects::<Kinds<F, Error, S, _, _, _, _>> {
+        alloc: rt.alloc(),
         store,
-        &mut input,
-        &mut output,
-        &mut report,
-        &Open,
-    )
+        input: StdSource::new(rt.stdin().lock()),
+        output: StdSink::new(rt.stdout()),
+        report: StdSink::new(rt.stderr()),
+        gate: Open,
+    };
+    let code = ran(waits, &mut objects, words);
+    let Objects {
+        alloc: _alloc,
+        store,
+        input: _input,
+        output: _output,
+        report: _report,
+        gate: _gate,
+    } = objects;
+    (store, code)
 }
 
 /// The program's arguments, its own name first, or none where one of them is no text, as no command has such a word.

@@ -3,10 +3,10 @@ ghost use Rattle.std.specs.Prelude.{◌≡◌, ◌⊎◌, ◌≤◌, List, ℕ, 
 ghost use Rattle.fd_disk.specs.Folders.{Holdings};
 ghost use Rattle.fd_request.specs.Expansion.{expand};
 ghost use Rattle.fd_words.specs.declared.command.Command.TheVariants.{Retrieve};
-ghost use Rattle.fd_outcome.specs.{Causes.{BadFile, damaged_line}, Ends.{Tells}, Noticing.{AnsweredEach, AnswersFirmly, IsAnswer, Notices, ReadsFitly}, Objects.{Object}, Ran.{Ran}, Told.{ToldOrNoMemory}, Asking.{Answer, answers, asked_of}, Store.{table_at}, declared.status.Status.TheVariants.{Done, Missed}};
+ghost use Rattle.fd_outcome.specs.{Causes.{BadFile, damaged_line}, Ends.{Tells}, Noticing.{AnsweredEach, AnswersFirmly, IsAnswer, Notices, ReadsFitly}, Ran.{Ran}, Told.{ToldOrNoMemory}, Asking.{Answer, answers, asked_of}, Store.{table_at}, declared.status.Status.TheVariants.{Done, Missed}};
 ghost use Rattle.fd_key.specs.Pairs.{Pair};
 ghost use Rattle.fd_outcome.specs.Outcome as outcomes;
-ghost use Rattle.fd_objects.specs.Given.{Over, sink_of, source_of, store_of, store_since};
+ghost use Rattle.fd_objects.specs.Objects.{Over, since, until};
 ghost use Rattle.fd_ahead.specs.Places.{AreIn};
 ghost use Rattle.fd_retrieve.specs.{Commands.{Begins, retrieving}, Located.{OnLost}, Open.{table_in}, Ready.{IsReady, asked_at}, Telling.{counts_status, counts_text}};
 ghost use Rattle.fd_answering.specs.{Located.{AreAt}, Damages.{IsDamagedAt}};
@@ -16,7 +16,8 @@ use crate::preparing::{Ready, prepared};
 use fd_ahead::{Located, Opened};
 use fd_answering::{Halt, answer_all};
 use fd_disk::{Folder, Sealed, Store};
-use fd_io::{Gate, Sink, Source};
+use fd_io::Sink;
+use fd_objects::{Objects, World};
 use fd_outcome::{Status, tell, tell_disk_failed, tell_no_memory, tell_output_failed};
 use fd_request::Request;
 use fd_segment::Damage;
@@ -31,152 +32,127 @@ use std::thread::Threads;
 /// so many read and check the fields ahead of the one that is written; what is answered doesn't depend on their number. No
 /// folder of the store is out, and none is out afterwards: each dataset is given back as soon as it is opened, and nothing
 /// is made in the store. The tables that are answered from are firm then, so what was answered outlasts a crash.
-pub fn retrieve<
-    F: Send + Drop,
-    X: Drop,
-    S: Store<F>,
-    I: Source<X>,
-    K: Sink<X>,
-    E: Sink<X>,
-    G: Gate,
-    R: Threads + Wait + Sync,
->(
+pub fn retrieve<W: World, R: Threads + Wait + Sync>(
     rt: &R,
-    alloc: Global,
+    objects: &mut Objects<W>,
     root: &Root,
     workers: u32,
-    store: &mut S,
-    input: &mut I,
-    output: &mut K,
-    report: &mut E,
-    gate: &G,
 ) -> Status
-where
     requires workers { (1 ≤ workers) × (workers ≤ 8) }
-    requires home { (name : List ℕ) → S.out store.old name ≡ false }
-    ensures ran { Over S.Store store I.Source input K.Sink output E.Sink report (Ran (Retrieve root.now workers) result) }
-    ensures unread { ReadsFitly (Retrieve root.now workers) (store_of S.Store store) (source_of I.Source input) }
-    ensures notices { Over S.Store store I.Source input K.Sink output E.Sink report (Notices (Retrieve root.now workers) result) }
-    ensures firm { AnswersFirmly (Retrieve root.now workers) result (store_of S.Store store) (source_of I.Source input) }
-    ensures home { (name : List ℕ) → S.out store.new name ≡ false }
+    requires home { (name : List ℕ) → W.Store.out objects.old.store name ≡ false }
+    ensures ran { Over W.Store.Store W.Input.Source W.Output.Sink W.Report.Sink objects (Ran (Retrieve root.now workers) result) }
+    ensures unread { Over W.Store.Store W.Input.Source W.Output.Sink W.Report.Sink objects
+        (λ store input _ _. ReadsFitly (Retrieve root.now workers) store input) }
+    ensures notices { Over W.Store.Store W.Input.Source W.Output.Sink W.Report.Sink objects (Notices (Retrieve root.now workers) result) }
+    ensures firm { Over W.Store.Store W.Input.Source W.Output.Sink W.Report.Sink objects
+        (λ store input _ _. AnswersFirmly (Retrieve root.now workers) result store input) }
+    ensures home { (name : List ℕ) → W.Store.out objects.new.store name ≡ false }
 {
-    match prepared(alloc, root.as_str(), store, input) {
-        Ok(ready) => answered(rt, alloc, store, ready, workers, output, report, gate),
-        Err(stop) => tell_stop(alloc, store, report, stop),
+    match prepared(
+        objects.alloc,
+        root.as_str(),
+        &mut objects.store,
+        &mut objects.input,
+    ) {
+        Ok(ready) => answered(rt, objects, ready, workers),
+        Err(stop) => tell_stop(objects.alloc, &mut objects.store, &mut objects.report, stop),
     }
 }
 
 /// Answers what stands ready.
-fn answered<
-    F: Send + Drop,
-    X: Drop,
-    S: Store<F>,
-    Z: Sealed<F>,
-    K: Sink<X>,
-    E: Sink<X>,
-    G: Gate,
-    R: Threads + Wait + Sync,
->(
+fn answered<W: World, Z: Sealed<W::StoreFault>, R: Threads + Wait + Sync>(
     rt: &R,
-    alloc: Global,
-    store: &mut S,
-    ready: Ready<F, Z>,
+    objects: &mut Objects<W>,
+    ready: Ready<W::StoreFault, Z>,
     workers: u32,
-    output: &mut K,
-    report: &mut E,
-    gate: &G,
 ) -> Status
-where
     requires workers { (1 ≤ workers) × (workers ≤ 8) }
     requires count { length ready.places.items ≡ length (expand ready.request) }
-    ensures ran { (root : List ℕ) (before : Option Holdings) (faults : ℕ) (input : Object (List ℕ))
-        → Begins (Retrieve root workers) before (S.has store.old) faults (S.faults store.old) input ready.opened.items
+    ensures ran { Over W.Store.Store W.Input.Source W.Output.Sink W.Report.Sink objects (λ store input output report.
+        (root : List ℕ) (before : Option Holdings) (faults : ℕ) (left : Option (List ℕ)) (reads : ℕ)
+        → Begins (Retrieve root workers) before store.before faults store.faults_before (until left reads input) ready.opened.items
         (answers (table_in ready.opened.items) (asked_at ready.request ready.places.items))
-        → Ran (Retrieve root workers) result (store_since before faults S.Store store) input
-        (sink_of K.Sink output) (sink_of E.Sink report) }
+        → Ran (Retrieve root workers) result (since before faults store) (since left reads input) output report) }
     ensures each { (h : Holdings) (octets : List ℕ) → IsReady h octets ready.request ready.places.items ready.opened.items
         → (result ≡ Done) ⊎ (result ≡ Missed)
         → AnsweredEach (IsAnswer (table_at h)) (asked_of h octets) result
-        (K.taken output.old) (K.taken output.new) (E.taken report.old) (E.taken report.new) }
-    ensures has { S.has store.new ≡ S.has store.old }
-    ensures out { S.out store.new ≡ S.out store.old }
+        (W.Output.taken objects.old.output) (W.Output.taken objects.new.output) (W.Report.taken objects.old.report)
+        (W.Report.taken objects.new.report) }
+    ensures input { objects.new.input ≡ objects.old.input }
+    ensures has { W.Store.has objects.new.store ≡ W.Store.has objects.old.store }
+    ensures out { W.Store.out objects.new.store ≡ W.Store.out objects.old.store }
 {
     let Ready {
         request,
         places,
         opened,
     } = ready;
-    let located = locate(rt, alloc, &opened, &places, workers, gate);
-    answer_located(
-        rt, alloc, store, &request, &opened, located, workers, output, report,
-    )
+    let located = locate(rt, objects.alloc, &opened, &places, workers, &objects.gate);
+    answer_located(rt, objects, &request, &opened, located, workers)
 }
 
 /// Answers a request whose keys are located in datasets that are open, or tells why they aren't: writes what is found for each
 /// key, in the order of the request, and tells each key that has none, and how many were found and missed. So many threads
 /// read and check the fields ahead of the one that is written.
-pub fn answer_located<
-    F: Send + Drop,
-    X: Drop,
-    S: Store<F>,
-    Z: Sealed<F>,
-    K: Sink<X>,
-    E: Sink<X>,
-    R: Threads + Sync,
->(
+pub fn answer_located<W: World, Z: Sealed<W::StoreFault>, R: Threads + Sync>(
     rt: &R,
-    alloc: Global,
-    store: &mut S,
+    objects: &mut Objects<W>,
     request: &Request,
-    opened: &[Opened<F, Z>],
-    located: Result<Vec<Option<Located>>, Lost<F>>,
+    opened: &[Opened<W::StoreFault, Z>],
+    located: Result<Vec<Option<Located>>, Lost<W::StoreFault>>,
     workers: u32,
-    output: &mut K,
-    report: &mut E,
 ) -> Status
-where
     requires count { IfOk located (λ v. length v.items ≡ length (expand request.now)) }
     requires within { IfOk located (λ v. AreIn opened.now v.items) }
     requires damaged { IfErr located (λ e. OnLost e (IsDamagedAt opened.now)) }
     // The command is `retrieve`, or `retrieve` over layers; what stands where the keys are located are its answers.
-    ensures ran { (root : List ℕ) (over : Option (List (List Pair))) (before : Option Holdings) (faults : ℕ) (input : Object (List ℕ))
+    ensures ran { Over W.Store.Store W.Input.Source W.Output.Sink W.Report.Sink objects (λ store input output report.
+        (root : List ℕ) (over : Option (List (List Pair))) (before : Option Holdings) (faults : ℕ) (left : Option (List ℕ)) (reads : ℕ)
         (o : Option (List Answer))
-        → Begins (retrieving root over workers) before (S.has store.old) faults (S.faults store.old) input opened.now o
+        → Begins (retrieving root over workers) before store.before faults store.faults_before (until left reads input) opened.now o
         → IfOk located (λ v. (xs : List Answer) → o ≡ Some xs → AreAt opened.now (expand request.now) xs v.items)
-        → Ran (retrieving root over workers) result (store_since before faults S.Store store) input
-        (sink_of K.Sink output) (sink_of E.Sink report) }
+        → Ran (retrieving root over workers) result (since before faults store) (since left reads input) output report) }
     ensures located { (result ≡ Done) ⊎ (result ≡ Missed) → IsOk located }
     ensures told { (result ≡ Done) ⊎ (result ≡ Missed)
         → IfOk located (λ v. (xs : List Answer) → AreAt opened.now (expand request.now) xs v.items
-        → Tells result (outcomes.answered xs) (K.taken output.old) (K.taken output.new) (E.taken report.old) (E.taken report.new)) }
-    ensures has { S.has store.new ≡ S.has store.old }
-    ensures out { S.out store.new ≡ S.out store.old }
+        → Tells result (outcomes.answered xs) (W.Output.taken objects.old.output) (W.Output.taken objects.new.output)
+        (W.Report.taken objects.old.report) (W.Report.taken objects.new.report)) }
+    ensures input { objects.new.input ≡ objects.old.input }
+    ensures has { W.Store.has objects.new.store ≡ W.Store.has objects.old.store }
+    ensures out { W.Store.out objects.new.store ≡ W.Store.out objects.old.store }
 {
     let located = match located {
         Ok(located) => located,
         Err(Lost::Disk(fault)) => {
-            store.note(fault);
-            return tell_disk_failed(report);
+            objects.store.note(fault);
+            return tell_disk_failed(&mut objects.report);
         }
         Err(Lost::Damaged(number, damage)) => {
-            return tell_damaged(alloc, &opened[number], damage, report);
+            return tell_damaged(objects.alloc, &opened[number], damage, &mut objects.report);
         }
-        Err(Lost::NoMemory) => return tell_no_memory(report),
+        Err(Lost::NoMemory) => return tell_no_memory(&mut objects.report),
     };
     match answer_all(
-        rt, alloc, request, opened, &located, workers, output, report,
+        rt,
+        objects.alloc,
+        request,
+        opened,
+        &located,
+        workers,
+        &mut objects.output,
+        &mut objects.report,
     ) {
-        Ok((found, missed)) => tell_counts(alloc, report, found, missed),
+        Ok((found, missed)) => tell_counts(objects.alloc, &mut objects.report, found, missed),
         Err(Halt::Disk(fault)) => {
-            store.note(fault);
-            tell_disk_failed(report)
+            objects.store.note(fault);
+            tell_disk_failed(&mut objects.report)
         }
-        Err(Halt::Unwritten(_)) => tell_output_failed(report),
+        Err(Halt::Unwritten(_)) => tell_output_failed(&mut objects.report),
         Err(Halt::Untold(_)) => Status::OutputFault,
         Err(Halt::Damaged(number, damage)) => {
-            tell_damaged(alloc, &opened[number], damage, report)
+            tell_damaged(objects.alloc, &opened[number], damage, &mut objects.report)
         }
-        Err(Halt::NoMemory) => tell_no_memory(report),
+        Err(Halt::NoMemory) => tell_no_memory(&mut objects.report),
     }
 }
 

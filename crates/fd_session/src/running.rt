@@ -4,8 +4,8 @@ ghost use Rattle.fd_bytes.specs.Causes.{Rose};
 ghost use Rattle.fd_disk.specs.Folders.{Holdings};
 ghost use Rattle.fd_schema.specs.{Grammar.{IsSchema}, Reading.{seen_place}};
 ghost use Rattle.fd_words.specs.declared.command.Command.TheVariants as commands;
-ghost use Rattle.fd_outcome.specs.{Asking.{rules_of}, Noticing.{ReadsFitly}, Objects.{Object}};
-ghost use Rattle.fd_objects.specs.Given.{Over, sink_of, source_of, store_of, store_since};
+ghost use Rattle.fd_outcome.specs.{Asking.{rules_of}, Noticing.{ReadsFitly}};
+ghost use Rattle.fd_objects.specs.Objects.{Over, since, until};
 ghost use Rattle.fd_casting.specs.{Miscasts.{NoneFails}, Steps.{AreMessages, all_posed}};
 ghost use Rattle.fd_lanes.specs.Acts.{ArePlaces, LanesFit};
 ghost use Rattle.fd_session.specs.{Sessions.{Begun, SessionRan}, Unopened.{OnDisk, ToldUnopened}};
@@ -15,8 +15,9 @@ use crate::reading::{Input, Unaccepted, read_input};
 use crate::telling::{tell_miscast, tell_script};
 use fd_casting::{CastFault, cast};
 use fd_disk::Store;
-use fd_io::{Gate, Sink, Source};
+use fd_io::Sink;
 use fd_lanes::Transcript;
+use fd_objects::{Objects, World};
 use fd_outcome::{
     Status, Unruled, stored_schema, tell, tell_disk_failed, tell_input_failed, tell_no_memory,
     tell_refusal,
@@ -35,165 +36,153 @@ use std::thread::Threads;
 /// in a thread of its own; writes what their gets found to the output, and how their steps ended to the report. No folder of
 /// the store is out, and none is out afterwards. Nothing is archived and no table is founded before the whole input was
 /// accepted; and nothing of the input is read where the store has no schema, or one that is none.
-pub fn session<
-    F: Send,
-    X: Drop,
-    S: Store<F>,
-    I: Source<X>,
-    K: Sink<X>,
-    E: Sink<X>,
-    G: Gate,
-    R: Threads + Wait + Sync,
->(
+pub fn session<W: World, R: Threads + Wait + Sync>(
     rt: &R,
-    alloc: Global,
+    objects: &mut Objects<W>,
     root: &Root,
-    store: &mut S,
-    input: &mut I,
-    output: &mut K,
-    report: &mut E,
-    gate: &G,
 ) -> Status
-where
-    requires home { (name : List ℕ) → S.out store.old name ≡ false }
-    ensures ran { Over S.Store store I.Source input K.Sink output E.Sink report (SessionRan F result) }
-    ensures unread { ReadsFitly (commands.Session root.now) (store_of S.Store store) (source_of I.Source input) }
-    ensures home { (name : List ℕ) → S.out store.new name ≡ false }
+    requires home { (name : List ℕ) → W.Store.out objects.old.store name ≡ false }
+    ensures ran { Over W.Store.Store W.Input.Source W.Output.Sink W.Report.Sink objects (SessionRan W.StoreFault result) }
+    ensures unread { Over W.Store.Store W.Input.Source W.Output.Sink W.Report.Sink objects
+        (λ store input _ _. ReadsFitly (commands.Session root.now) store input) }
+    ensures home { (name : List ℕ) → W.Store.out objects.new.store name ≡ false }
 {
-    match stored_schema(alloc, store, root.as_str()) {
-        Ok(schema) => session_by(rt, alloc, &schema, store, input, output, report, gate),
+    match stored_schema(objects.alloc, &mut objects.store, root.as_str()) {
+        Ok(schema) => session_by(rt, objects, &schema),
         Err(Unruled::Disk(fault)) => {
-            store.note(fault);
-            tell_disk_failed(report)
+            objects.store.note(fault);
+            tell_disk_failed(&mut objects.report)
         }
-        Err(Unruled::Missing) => tell(report, "refused SchemaMissing\n", Status::Refused),
-        Err(Unruled::At { line, kind }) => tell_schema(alloc, report, line, &kind),
-        Err(Unruled::NoMemory) => tell_no_memory(report),
+        Err(Unruled::Missing) => tell(
+            &mut objects.report,
+            "refused SchemaMissing\n",
+            Status::Refused,
+        ),
+        Err(Unruled::At { line, kind }) => tell_schema(
+            objects.alloc,
+            &mut objects.report,
+            line,
+            &kind,
+        ),
+        Err(Unruled::NoMemory) => tell_no_memory(&mut objects.report),
     }
 }
 
 /// The same, by the store's rules.
-fn session_by<
-    F: Send,
-    X: Drop,
-    S: Store<F>,
-    I: Source<X>,
-    K: Sink<X>,
-    E: Sink<X>,
-    G: Gate,
-    R: Threads + Wait + Sync,
->(
+fn session_by<W: World, R: Threads + Wait + Sync>(
     rt: &R,
-    alloc: Global,
+    objects: &mut Objects<W>,
     schema: &Schema,
-    store: &mut S,
-    input: &mut I,
-    output: &mut K,
-    report: &mut E,
-    gate: &G,
 ) -> Status
-where
-    requires home { (name : List ℕ) → S.out store.old name ≡ false }
+    requires home { (name : List ℕ) → W.Store.out objects.old.store name ≡ false }
     requires schema { IsSchema schema.now }
-    requires rules { IfSome (S.has store.old) (λ h. rules_of h.schema ≡ Ok schema.now) }
-    ensures ran { (before : Option Holdings) (faults : ℕ) → S.has store.old ≡ before → faults ≤ S.faults store.old
-        → SessionRan F result (store_since before faults S.Store store) (source_of I.Source input)
-        (sink_of K.Sink output) (sink_of E.Sink report) }
-    ensures home { (name : List ℕ) → S.out store.new name ≡ false }
+    requires rules { IfSome (W.Store.has objects.old.store) (λ h. rules_of h.schema ≡ Ok schema.now) }
+    ensures ran { Over W.Store.Store W.Input.Source W.Output.Sink W.Report.Sink objects (λ store input output report.
+        (before : Option Holdings) (faults : ℕ) → store.before ≡ before → faults ≤ store.faults_before
+        → SessionRan W.StoreFault result (since before faults store) input output report) }
+    ensures home { (name : List ℕ) → W.Store.out objects.new.store name ≡ false }
 {
-    match read_input(alloc, input) {
-        Ok(read) => session_of(rt, alloc, schema, &read, store, output, report, gate),
-        Err(Unaccepted::Unread) => tell_input_failed(report),
+    match read_input(objects.alloc, &mut objects.input) {
+        Ok(read) => session_of(rt, objects, schema, &read),
+        Err(Unaccepted::Unread) => tell_input_failed(&mut objects.report),
         Err(Unaccepted::Script(ScriptFault::At { line, kind })) => {
-            tell_script(alloc, report, line, &kind)
+            tell_script(objects.alloc, &mut objects.report, line, &kind)
         }
-        Err(Unaccepted::Script(ScriptFault::NoMemory)) => tell_no_memory(report),
-        Err(Unaccepted::Stream(refusal)) => tell_refusal(alloc, report, refusal),
-        Err(Unaccepted::NoMemory) => tell_no_memory(report),
+        Err(Unaccepted::Script(ScriptFault::NoMemory)) => tell_no_memory(&mut objects.report),
+        Err(Unaccepted::Stream(refusal)) => tell_refusal(
+            objects.alloc,
+            &mut objects.report,
+            refusal,
+        ),
+        Err(Unaccepted::NoMemory) => tell_no_memory(&mut objects.report),
     }
 }
 
 /// The same, of an input that was read.
-fn session_of<
-    F: Send,
-    X: Drop,
-    S: Store<F>,
-    K: Sink<X>,
-    E: Sink<X>,
-    G: Gate,
-    R: Threads + Wait + Sync,
->(
+fn session_of<W: World, R: Threads + Wait + Sync>(
     rt: &R,
-    alloc: Global,
+    objects: &mut Objects<W>,
     schema: &Schema,
     read: &Input,
-    store: &mut S,
-    output: &mut K,
-    report: &mut E,
-    gate: &G,
 ) -> Status
-where
-    requires home { (name : List ℕ) → S.out store.old name ≡ false }
+    requires home { (name : List ℕ) → W.Store.out objects.old.store name ≡ false }
     requires schema { IsSchema schema.now }
     requires short { length read.now.script.dataset ≤ 255 }
     requires each { AreMessages read.now.messages }
-    ensures ran { (before : Option Holdings) (faults : ℕ) (input : Object (List ℕ))
-        → Begun schema.now read.now.script read.now.messages before (S.has store.old) faults (S.faults store.old) input
-        → SessionRan F result (store_since before faults S.Store store) input (sink_of K.Sink output) (sink_of E.Sink report) }
-    ensures home { (name : List ℕ) → S.out store.new name ≡ false }
+    ensures ran { Over W.Store.Store W.Input.Source W.Output.Sink W.Report.Sink objects (λ store input output report.
+        (before : Option Holdings) (faults : ℕ) (left : Option (List ℕ)) (reads : ℕ)
+        → Begun schema.now read.now.script read.now.messages before store.before faults store.faults_before (until left reads input)
+        → SessionRan W.StoreFault result (since before faults store) (since left reads input) output report) }
+    ensures input { objects.new.input ≡ objects.old.input }
+    ensures home { (name : List ℕ) → W.Store.out objects.new.store name ≡ false }
 {
     let Input { script, messages } = read;
-    match cast(alloc, script, schema, messages.as_slice()) {
+    match cast(objects.alloc, script, schema, messages.as_slice()) {
         Ok(places) => {
             let places = places.as_slice();
-            run_script(rt, alloc, schema, read, places, store, output, report, gate)
+            run_script(rt, objects, schema, read, places)
         }
-        Err(CastFault::At { line, kind }) => tell_miscast(alloc, report, line, kind),
-        Err(CastFault::NoMemory) => tell_no_memory(report),
+        Err(CastFault::At { line, kind }) => tell_miscast(
+            objects.alloc,
+            &mut objects.report,
+            line,
+            kind,
+        ),
+        Err(CastFault::NoMemory) => tell_no_memory(&mut objects.report),
     }
 }
 
 /// Runs a script that was accepted, and tells what it did.
-fn run_script<
-    F: Send,
-    X: Drop,
-    S: Store<F>,
-    K: Sink<X>,
-    E: Sink<X>,
-    G: Gate,
-    R: Threads + Wait + Sync,
->(
+fn run_script<W: World, R: Threads + Wait + Sync>(
     rt: &R,
-    alloc: Global,
+    objects: &mut Objects<W>,
     schema: &Schema,
     read: &Input,
     places: &[Place],
-    store: &mut S,
-    output: &mut K,
-    report: &mut E,
-    gate: &G,
 ) -> Status
-where
-    requires home { (name : List ℕ) → S.out store.old name ≡ false }
+    requires home { (name : List ℕ) → W.Store.out objects.old.store name ≡ false }
     requires short { length read.now.script.dataset ≤ 255 }
     requires steps { LanesFit schema.now read.now.messages read.now.script.dataset (map seen_place places.now) read.now.script.lanes }
     requires places { ArePlaces schema.now read.now.messages read.now.script.lanes (map seen_place places.now) }
     requires done { NoneFails schema.now read.now.script.dataset read.now.messages (all_posed read.now.script.lanes) }
-    ensures ran { (before : Option Holdings) (faults : ℕ) (input : Object (List ℕ))
-        → Begun schema.now read.now.script read.now.messages before (S.has store.old) faults (S.faults store.old) input
-        → SessionRan F result (store_since before faults S.Store store) input (sink_of K.Sink output) (sink_of E.Sink report) }
-    ensures home { (name : List ℕ) → S.out store.new name ≡ false }
+    ensures ran { Over W.Store.Store W.Input.Source W.Output.Sink W.Report.Sink objects (λ store input output report.
+        (before : Option Holdings) (faults : ℕ) (left : Option (List ℕ)) (reads : ℕ)
+        → Begun schema.now read.now.script read.now.messages before store.before faults store.faults_before (until left reads input)
+        → SessionRan W.StoreFault result (since before faults store) (since left reads input) output report) }
+    ensures input { objects.new.input ≡ objects.old.input }
+    ensures home { (name : List ℕ) → W.Store.out objects.new.store name ≡ false }
 {
     let Input { script, messages } = read;
     let messages = messages.as_slice();
-    match play(rt, alloc, schema, script, messages, places, store, gate) {
+    match play(
+        rt,
+        objects.alloc,
+        schema,
+        script,
+        messages,
+        places,
+        &mut objects.store,
+        &objects.gate,
+    ) {
         Ok(transcript) => {
-            let status = tell_session(alloc, script, &transcript, output, report);
+            let status = tell_session(
+                objects.alloc,
+                script,
+                &transcript,
+                &mut objects.output,
+                &mut objects.report,
+            );
             let Transcript { before: _, lanes } = transcript;
-            note_all(store, lanes);
+            note_all(&mut objects.store, lanes);
             status
         }
-        Err(fault) => tell_unopened(alloc, script.dataset(), store, report, fault),
+        Err(fault) => tell_unopened(
+            objects.alloc,
+            script.dataset(),
+            &mut objects.store,
+            &mut objects.report,
+            fault,
+        ),
     }
 }
 

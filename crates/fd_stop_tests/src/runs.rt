@@ -5,11 +5,13 @@ ghost use Rattle.fd_words.specs.Words.{IsWithinLimits};
 use fd_disk::{Renew, Store};
 use fd_disk_mem::MemStore;
 use fd_gen::generated;
-use fd_io::{Gate, MemSink, MemSource, Sink, Source};
+use fd_io::{Gate, MemIoFault, MemSink, MemSource};
+use fd_objects::{Kinds, Objects, World};
 use fd_outcome::Status;
 use fd_stopped::Stopped;
 use fd_stops::{
-    archive_until, create_until, list_until, purge_until, session_until, trial_until, wipe_until,
+    Stopping, archive_until, create_until, list_until, purge_until, session_until, trial_until,
+    wipe_until,
 };
 use fd_words::{Command, read_command};
 use std::alloc::Global;
@@ -32,6 +34,7 @@ pub(crate) const ROW: Row = Row {
 };
 
 /// A gate that holds nobody back.
+#[derive(Drop)]
 struct Open;
 
 impl Gate for Open {
@@ -39,42 +42,25 @@ impl Gate for Open {
 }
 
 /// Runs one of these commands over a store that stops, and no other.
-fn command_until<
-    F: Send + Drop,
-    X: Drop,
-    S: Store<F>,
-    I: Source<X>,
-    K: Sink<X>,
-    R: Threads + Wait + Sync,
->(
+fn command_until<W: World, R: Threads + Wait + Sync>(
     rt: &R,
-    alloc: Global,
+    objects: &mut Objects<Stopping<W>>,
     command: &Command,
-    store: &mut Stopped<S>,
-    input: &mut I,
-    output: &mut K,
-    report: &mut K,
 ) -> Status
-where
-    S::Folder: Renew<F>,
-    requires home { (name : List ℕ) → S.out store.old.inner name ≡ false }
+    requires home { (name : List ℕ) → W.Store.out objects.old.store.inner name ≡ false }
     requires within { IsWithinLimits command.now }
-    ensures home { (name : List ℕ) → S.out store.new.inner name ≡ false }
+    ensures home { (name : List ℕ) → W.Store.out objects.new.store.inner name ≡ false }
 {
     match command {
-        Command::Create(root) => create_until(alloc, root, store, input, report),
-        Command::Archive(root, given, workers) => archive_until(
-            rt, alloc, root, given, *workers, store, input, report, &Open,
-        ),
-        Command::Session(root) => {
-            session_until(rt, alloc, root, store, input, output, report, &Open)
+        Command::Create(root) => create_until(objects, root),
+        Command::Archive(root, given, workers) => {
+            archive_until(rt, objects, root, given, *workers)
         }
-        Command::Trial(root, count, workers) => {
-            trial_until(rt, alloc, root, *count, *workers, store, report, &Open)
-        }
-        Command::Purge(root, dataset) => purge_until(alloc, root, dataset, store, report),
-        Command::Wipe(root, dataset) => wipe_until(alloc, root, dataset, store, report),
-        Command::List(root) => list_until(alloc, root, store, input, output, report),
+        Command::Session(root) => session_until(rt, objects, root),
+        Command::Trial(root, count, workers) => trial_until(rt, objects, root, *count, *workers),
+        Command::Purge(root, dataset) => purge_until(objects, root, dataset),
+        Command::Wipe(root, dataset) => wipe_until(objects, root, dataset),
+        Command::List(root) => list_until(objects, root),
         _ => Status::Words,
     }
 }
@@ -107,32 +93,42 @@ fn streams_of(alloc: Global, row: &Row) -> Option<(MemSource, MemSink, MemSink)>
     Some((input, output, report))
 }
 
-/// Runs a row over a store that stops. Gives its status, and what it has written on the output.
+/// Runs a row over a store that stops. Gives the store back, and the row's status with what it has written on the output.
 fn run<F: Send + Drop, S: Store<F>, R: Threads + Wait + Sync>(
     rt: &R,
     alloc: Global,
     row: &Row,
-    store: &mut Stopped<S>,
-) -> Option<(Status, MemSink)>
+    store: Stopped<S>,
+) -> (Stopped<S>, Option<(Status, MemSink)>)
 where
     S::Folder: Renew<F>,
-    requires home { (name : List ℕ) → S.out store.old.inner name ≡ false }
-    ensures home { (name : List ℕ) → S.out store.new.inner name ≡ false }
+    requires home { (name : List ℕ) → S.out store.inner name ≡ false }
+    ensures home { (name : List ℕ) → S.out result.0.inner name ≡ false }
 {
-    let (mut input, mut output, mut report) = streams_of(alloc, row)?;
-    let Ok(Some(command)) = read_command(alloc, row.words) else {
-        return None;
+    let Some((input, output, report)) = streams_of(alloc, row) else {
+        return (store, None);
     };
-    let status = command_until(
-        rt,
+    let Ok(Some(command)) = read_command(alloc, row.words) else {
+        return (store, None);
+    };
+    let mut objects = Objects::<Stopping<Kinds<F, MemIoFault, S, _, _, _, _>>> {
         alloc,
-        &command,
         store,
-        &mut input,
-        &mut output,
-        &mut report,
-    );
-    Some((status, output))
+        input,
+        output,
+        report,
+        gate: Open,
+    };
+    let status = command_until(rt, &mut objects, &command);
+    let Objects {
+        alloc: _alloc,
+        store,
+        input: _input,
+        output,
+        report: _report,
+        gate: _gate,
+    } = objects;
+    (store, Some((status, output)))
 }
 
 /// The same over one that holds a store in memory.
@@ -140,7 +136,7 @@ pub(crate) fn run_in_memory<R: Threads + Wait + Sync>(
     rt: &R,
     alloc: Global,
     row: &Row,
-    store: &mut Stopped<MemStore>,
-) -> Option<(Status, MemSink)> {
+    store: Stopped<MemStore>,
+) -> (Stopped<MemStore>, Option<(Status, MemSink)>) {
     run(rt, alloc, row, store)
 }

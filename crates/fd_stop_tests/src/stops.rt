@@ -39,32 +39,43 @@ enum End {
     Wrong,
 }
 
-/// The status of a row.
+/// The store after a row, and the row's status.
 fn status_of<R: Threads + Wait + Sync>(
     rt: &R,
     alloc: Global,
     row: &Row,
-    store: &mut Stopped<MemStore>,
-) -> Option<Status> {
-    let (status, _) = run_in_memory(rt, alloc, row, store)?;
-    Some(status)
+    store: Stopped<MemStore>,
+) -> (Stopped<MemStore>, Option<Status>) {
+    let (store, ran) = run_in_memory(rt, alloc, row, store);
+    match ran {
+        Some((status, _)) => (store, Some(status)),
+        None => (store, None),
+    }
 }
 
-/// The status of the command of a case, of whose calls so many go on, where the rows before it end well.
+/// The store after the command of a case, of whose calls so many go on, and the command's status, where the rows before it end well.
 fn stopped_status<R: Threads + Wait + Sync>(
     rt: &R,
     alloc: Global,
     case: &Case,
     calls: u64,
-    store: &mut Stopped<MemStore>,
-) -> Option<Status> {
+    store: Stopped<MemStore>,
+) -> (Stopped<MemStore>, Option<Status>) {
+    let mut store = store;
     for row in case.before {
-        if status_of(rt, alloc, row, store) != Some(Status::Done) {
-            return None;
+        let (left, status) = status_of(rt, alloc, row, store);
+        store = left;
+        if status != Some(Status::Done) {
+            return (store, None);
         }
     }
-    store.stops = Stops::new(alloc, calls).ok()?;
-    status_of(rt, alloc, &case.row, store)
+    match Stops::new(alloc, calls) {
+        Ok(stops) => {
+            store.stops = stops;
+            status_of(rt, alloc, &case.row, store)
+        }
+        Err(_) => (store, None),
+    }
 }
 
 /// What a crash leaves, with this choice of it. All calls go on from there.
@@ -94,9 +105,10 @@ fn found_in<R: Threads + Wait + Sync>(
     rt: &R,
     alloc: Global,
     case: &Case,
-    store: &mut Stopped<MemStore>,
+    store: Stopped<MemStore>,
 ) -> Option<usize> {
-    let (status, output) = run_in_memory(rt, alloc, &LOOK, store)?;
+    let (_store, ran) = run_in_memory(rt, alloc, &LOOK, store);
+    let (status, output) = ran?;
     match status {
         Status::Done => number_of(case.found, output.taken()),
         Status::Refused => number_of(case.found, NO_SCHEMA.as_bytes()),
@@ -129,10 +141,10 @@ fn end_of<R: Threads + Wait + Sync>(
     let Ok(store) = MemStore::new(alloc, 8192, 64) else {
         return End::Wrong;
     };
-    let mut stopped = Stopped::new(store, stops);
-    let status = stopped_status(rt, alloc, case, calls, &mut stopped);
+    let whole = Stopped::new(store, stops);
+    let (stopped, status) = stopped_status(rt, alloc, case, calls, whole);
     match crashed(alloc, choice, stopped) {
-        Some(mut left) => judged(case, calls, status, found_in(rt, alloc, case, &mut left)),
+        Some(left) => judged(case, calls, status, found_in(rt, alloc, case, left)),
         None => End::Wrong,
     }
 }

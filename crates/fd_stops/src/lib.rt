@@ -6,6 +6,7 @@ mod law;
 mod playing;
 mod reading;
 mod reclaiming;
+mod stopping;
 mod storing;
 
 pub use creating::create_until;
@@ -15,4 +16,5 @@ pub use reading::{
     axes_until, cubes_until, list_until, retrieve_over_until, retrieve_until, stats_until,
 };
 pub use reclaiming::{purge_until, wipe_until};
+pub use stopping::Stopping;
 pub use storing::{archive_until, trial_until};

@@ -4,11 +4,12 @@ ghost use Rattle.fd_bytes.specs.Causes.{Rose};
 ghost use Rattle.fd_io.specs.Streams.{Takes, TakesFront};
 ghost use Rattle.fd_words.specs.declared.command.Command.TheVariants.{Generate};
 ghost use Rattle.fd_outcome.specs.{Outcome.{generated_messages}, Ran.{Ran}};
-ghost use Rattle.fd_objects.specs.Given.{OverSinks};
+ghost use Rattle.fd_objects.specs.Objects.{Over};
 ghost use Rattle.fd_streams.specs.Generating.{OnUnwritten};
 
 use fd_gen::generated;
 use fd_io::{Sink, write_all};
+use fd_objects::{Objects, World};
 use fd_outcome::{Status, tell_no_memory, tell_output_failed};
 use std::alloc::Global;
 
@@ -45,18 +46,15 @@ fn write_generated<X: Drop, K: Sink<X>>(
 }
 
 /// Runs `generate`: the output takes the messages, and neither input nor store is asked.
-pub fn generate<X: Drop, K: Sink<X>, E: Sink<X>>(
-    alloc: Global,
-    count: u32,
-    output: &mut K,
-    report: &mut E,
-) -> Status
+pub fn generate<W: World>(objects: &mut Objects<W>, count: u32) -> Status
     requires few { count ≤ 100000 }
-    ensures { OverSinks K.Sink output E.Sink report (Ran (Generate count) result) }
+    ensures ran { Over W.Store.Store W.Input.Source W.Output.Sink W.Report.Sink objects (Ran (Generate count) result) }
+    ensures store { objects.new.store ≡ objects.old.store }
+    ensures input { objects.new.input ≡ objects.old.input }
 {
-    match write_generated(alloc, count, output) {
+    match write_generated(objects.alloc, count, &mut objects.output) {
         Ok(()) => Status::Done,
-        Err(Unmade::Unwritten(_)) => tell_output_failed(report),
-        Err(Unmade::NoMemory) => tell_no_memory(report),
+        Err(Unmade::Unwritten(_)) => tell_output_failed(&mut objects.report),
+        Err(Unmade::NoMemory) => tell_no_memory(&mut objects.report),
     }
 }

@@ -4,11 +4,12 @@ ghost use Rattle.fd_disk.specs.Folders.{WhereTold};
 ghost use Rattle.fd_schema.specs.{Reading.{IsFirst}, Grammar.{Fault}};
 ghost use Rattle.fd_words.specs.declared.command.Command.TheVariants.{Create};
 ghost use Rattle.fd_outcome.specs.{Causes.{InSchema, telling}, Noticing.{ReadsFitly}, Ran.{Ran}, Told.{ToldOrNoMemory}};
-ghost use Rattle.fd_objects.specs.Given.{OverInput, source_of, store_of};
+ghost use Rattle.fd_objects.specs.Objects.{Over};
 ghost use Rattle.fd_streams.specs.Creating.{IsCreatedOnly};
 
 use fd_disk::{Down, Store};
-use fd_io::{Sink, Source};
+use fd_io::Sink;
+use fd_objects::{Objects, World};
 use fd_outcome::{
     Status, Unread, is_schema_limit, read_front, schema_kind, tell, tell_input_failed, tell_limit,
     tell_no_memory, tell_noted, tell_place,
@@ -47,59 +48,65 @@ fn tell_schema<X: Drop, E: Sink<X>>(
 
 /// Stores the input as the schema of a store that has none. Where it has one, nothing of the input is read; and whatever is
 /// told, the store is the same but for the whole input as its schema.
-pub fn create<F: Send, X: Drop, S: Store<F>, I: Source<X>, E: Sink<X>>(
-    alloc: Global,
-    root: &Root,
-    store: &mut S,
-    input: &mut I,
-    report: &mut E,
-) -> Status
-    requires home { (name : List ℕ) → S.out store.old name ≡ false }
-    ensures ran { OverInput S.Store store I.Source input E.Sink report (Ran (Create root.now) result) }
-    ensures kept { IfSome (I.left input.old) (λ octets. WhereTold (S.has store.old) (S.has store.new) (IsCreatedOnly octets)) }
-    ensures unread { ReadsFitly (Create root.now) (store_of S.Store store) (source_of I.Source input) }
-    ensures home { (name : List ℕ) → S.out store.new name ≡ false }
+pub fn create<W: World>(objects: &mut Objects<W>, root: &Root) -> Status
+    requires home { (name : List ℕ) → W.Store.out objects.old.store name ≡ false }
+    ensures ran { Over W.Store.Store W.Input.Source W.Output.Sink W.Report.Sink objects (Ran (Create root.now) result) }
+    ensures kept { IfSome (W.Input.left objects.old.input) (λ octets. WhereTold (W.Store.has objects.old.store)
+        (W.Store.has objects.new.store) (IsCreatedOnly octets)) }
+    ensures output { objects.new.output ≡ objects.old.output }
+    ensures unread { Over W.Store.Store W.Input.Source W.Output.Sink W.Report.Sink objects
+        (λ store input _ _. ReadsFitly (Create root.now) store input) }
+    ensures home { (name : List ℕ) → W.Store.out objects.new.store name ≡ false }
 {
-    match store.enter(alloc, root.as_str()) {
+    match objects.store.enter(objects.alloc, root.as_str()) {
         Ok(()) => {}
-        Err(Down::Fault(fault)) => return tell_noted(store, report, fault),
-        Err(Down::NoMemory) => return tell_no_memory(report),
+        Err(Down::Fault(fault)) => return tell_noted(
+            &mut objects.store,
+            &mut objects.report,
+            fault,
+        ),
+        Err(Down::NoMemory) => return tell_no_memory(&mut objects.report),
     }
-    match store.schema(alloc) {
-        Ok(None) => plant(alloc, root, store, input, report),
-        Ok(Some(_)) => tell(report, "refused SchemaPresent\n", Status::Refused),
-        Err(Down::Fault(fault)) => tell_noted(store, report, fault),
-        Err(Down::NoMemory) => tell_no_memory(report),
+    match objects.store.schema(objects.alloc) {
+        Ok(None) => plant(objects, root),
+        Ok(Some(_)) => tell(
+            &mut objects.report,
+            "refused SchemaPresent\n",
+            Status::Refused,
+        ),
+        Err(Down::Fault(fault)) => tell_noted(&mut objects.store, &mut objects.report, fault),
+        Err(Down::NoMemory) => tell_no_memory(&mut objects.report),
     }
 }
 
 /// The same, where the store has none.
-fn plant<F: Send, X: Drop, S: Store<F>, I: Source<X>, E: Sink<X>>(
-    alloc: Global,
-    root: &Root,
-    store: &mut S,
-    input: &mut I,
-    report: &mut E,
-) -> Status
-    requires home { (name : List ℕ) → S.out store.old name ≡ false }
-    requires none { IfSome (S.has store.old) (λ h. h.schema ≡ None) }
-    ensures ran { OverInput S.Store store I.Source input E.Sink report (Ran (Create root.now) result) }
-    ensures kept { IfSome (I.left input.old) (λ octets. WhereTold (S.has store.old) (S.has store.new) (IsCreatedOnly octets)) }
-    ensures home { (name : List ℕ) → S.out store.new name ≡ false }
+fn plant<W: World>(objects: &mut Objects<W>, root: &Root) -> Status
+    requires home { (name : List ℕ) → W.Store.out objects.old.store name ≡ false }
+    requires none { IfSome (W.Store.has objects.old.store) (λ h. h.schema ≡ None) }
+    ensures ran { Over W.Store.Store W.Input.Source W.Output.Sink W.Report.Sink objects (Ran (Create root.now) result) }
+    ensures kept { IfSome (W.Input.left objects.old.input) (λ octets. WhereTold (W.Store.has objects.old.store)
+        (W.Store.has objects.new.store) (IsCreatedOnly octets)) }
+    ensures output { objects.new.output ≡ objects.old.output }
+    ensures home { (name : List ℕ) → W.Store.out objects.new.store name ≡ false }
 {
-    let text = match read_front(alloc, input, 65_537) {
+    let text = match read_front(objects.alloc, &mut objects.input, 65_537) {
         Ok(text) => text,
-        Err(Unread::Fault(_)) => return tell_input_failed(report),
-        Err(Unread::NoMemory) => return tell_no_memory(report),
+        Err(Unread::Fault(_)) => return tell_input_failed(&mut objects.report),
+        Err(Unread::NoMemory) => return tell_no_memory(&mut objects.report),
     };
-    match Schema::read(alloc, &text) {
+    match Schema::read(objects.alloc, &text) {
         Ok(_) => {}
-        Err(SchemaFault::At { line, kind }) => return tell_schema(alloc, report, line, &kind),
-        Err(SchemaFault::NoMemory) => return tell_no_memory(report),
+        Err(SchemaFault::At { line, kind }) => return tell_schema(
+            objects.alloc,
+            &mut objects.report,
+            line,
+            &kind,
+        ),
+        Err(SchemaFault::NoMemory) => return tell_no_memory(&mut objects.report),
     }
-    match store.plant(alloc, &text) {
-        Ok(()) => tell(report, "created\n", Status::Done),
-        Err(Down::Fault(fault)) => tell_noted(store, report, fault),
-        Err(Down::NoMemory) => tell_no_memory(report),
+    match objects.store.plant(objects.alloc, &text) {
+        Ok(()) => tell(&mut objects.report, "created\n", Status::Done),
+        Err(Down::Fault(fault)) => tell_noted(&mut objects.store, &mut objects.report, fault),
+        Err(Down::NoMemory) => tell_no_memory(&mut objects.report),
     }
 }

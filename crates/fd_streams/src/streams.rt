@@ -1,14 +1,16 @@
 // The commands over a stream.
+ghost use Rattle.std.specs.Prelude.{◌≡◌};
 ghost use Rattle.fd_words.specs.declared.command.Command.TheVariants.{Pick, Split};
 ghost use Rattle.fd_outcome.specs.{Ran.{Ran}, Splitting.{split_line}, Told.{ToldOrNoMemory}};
-ghost use Rattle.fd_objects.specs.Given.{OverStreams};
+ghost use Rattle.fd_objects.specs.Objects.{Over};
 ghost use Rattle.fd_streams.specs.{Halted.{AreFew}, Streams.{listing_command}};
 
 use crate::listing::{Halt, list};
 use crate::parting::{Tally, split_input};
 use crate::picking::{Stop, last_wanted};
-use fd_io::{Sink, Source, write_all};
+use fd_io::{Sink, write_all};
 use fd_key::Given;
+use fd_objects::{Objects, World};
 use fd_outcome::{
     Listing, Status, tell, tell_input_failed, tell_no_memory, tell_output_failed, tell_refusal,
 };
@@ -16,51 +18,46 @@ use fd_words::Wanted;
 use std::alloc::Global;
 
 /// Runs `pick`.
-pub fn pick<X: Drop, I: Source<X>, K: Sink<X>, E: Sink<X>>(
-    alloc: Global,
-    wanted: &Wanted,
-    input: &mut I,
-    output: &mut K,
-    report: &mut E,
-) -> Status
-    ensures { OverStreams I.Source input K.Sink output E.Sink report (Ran (Pick wanted.now) result) }
+pub fn pick<W: World>(objects: &mut Objects<W>, wanted: &Wanted) -> Status
+    ensures ran { Over W.Store.Store W.Input.Source W.Output.Sink W.Report.Sink objects (Ran (Pick wanted.now) result) }
+    ensures store { objects.new.store ≡ objects.old.store }
 {
-    let Ok(given) = Given::none(alloc) else {
-        return tell_no_memory(report);
+    let Ok(given) = Given::none(objects.alloc) else {
+        return tell_no_memory(&mut objects.report);
     };
-    match last_wanted(alloc, wanted, &given, input) {
+    match last_wanted(objects.alloc, wanted, &given, &mut objects.input) {
         Ok(last) => {
             if !last.found {
-                return tell(report, "found 0 missed 1\n", Status::Missed);
+                return tell(&mut objects.report, "found 0 missed 1\n", Status::Missed);
             }
-            match write_all(output, &last.octets) {
-                Ok(()) => tell(report, "found 1 missed 0\n", Status::Done),
-                Err(_) => tell_output_failed(report),
+            match write_all(&mut objects.output, &last.octets) {
+                Ok(()) => tell(&mut objects.report, "found 1 missed 0\n", Status::Done),
+                Err(_) => tell_output_failed(&mut objects.report),
             }
         }
-        Err(Stop::Fault(_)) => tell_input_failed(report),
-        Err(Stop::Refused(refusal)) => tell_refusal(alloc, report, refusal),
-        Err(Stop::NoMemory) => tell_no_memory(report),
+        Err(Stop::Fault(_)) => tell_input_failed(&mut objects.report),
+        Err(Stop::Refused(refusal)) => tell_refusal(objects.alloc, &mut objects.report, refusal),
+        Err(Stop::NoMemory) => tell_no_memory(&mut objects.report),
     }
 }
 
 /// Runs a command that lists its input.
-pub fn write_list<X: Drop, I: Source<X>, K: Sink<X>, E: Sink<X>>(
-    alloc: Global,
-    listing: Listing,
-    input: &mut I,
-    output: &mut K,
-    report: &mut E,
-) -> Status
+pub fn write_list<W: World>(objects: &mut Objects<W>, listing: Listing) -> Status
     requires { AreFew listing }
-    ensures { OverStreams I.Source input K.Sink output E.Sink report (Ran (listing_command listing) result) }
+    ensures ran { Over W.Store.Store W.Input.Source W.Output.Sink W.Report.Sink objects (Ran (listing_command listing) result) }
+    ensures store { objects.new.store ≡ objects.old.store }
 {
-    match list(alloc, listing, input, output) {
+    match list(
+        objects.alloc,
+        listing,
+        &mut objects.input,
+        &mut objects.output,
+    ) {
         Ok(()) => Status::Done,
-        Err(Halt::Unread(_)) => tell_input_failed(report),
-        Err(Halt::Unwritten(_)) => tell_output_failed(report),
-        Err(Halt::Refused(refusal)) => tell_refusal(alloc, report, refusal),
-        Err(Halt::NoMemory) => tell_no_memory(report),
+        Err(Halt::Unread(_)) => tell_input_failed(&mut objects.report),
+        Err(Halt::Unwritten(_)) => tell_output_failed(&mut objects.report),
+        Err(Halt::Refused(refusal)) => tell_refusal(objects.alloc, &mut objects.report, refusal),
+        Err(Halt::NoMemory) => tell_no_memory(&mut objects.report),
     }
 }
 
@@ -78,19 +75,15 @@ fn tell_split<X: Drop, E: Sink<X>>(alloc: Global, report: &mut E, tally: &Tally)
 }
 
 /// Runs `split`: the output takes all fields of the input, each as a message of its own.
-pub fn split<X: Drop, I: Source<X>, K: Sink<X>, E: Sink<X>>(
-    alloc: Global,
-    input: &mut I,
-    output: &mut K,
-    report: &mut E,
-) -> Status
-    ensures { OverStreams I.Source input K.Sink output E.Sink report (Ran Split result) }
+pub fn split<W: World>(objects: &mut Objects<W>) -> Status
+    ensures ran { Over W.Store.Store W.Input.Source W.Output.Sink W.Report.Sink objects (Ran Split result) }
+    ensures store { objects.new.store ≡ objects.old.store }
 {
-    match split_input(alloc, input, output) {
-        Ok(tally) => tell_split(alloc, report, &tally),
-        Err(Halt::Unread(_)) => tell_input_failed(report),
-        Err(Halt::Unwritten(_)) => tell_output_failed(report),
-        Err(Halt::Refused(refusal)) => tell_refusal(alloc, report, refusal),
-        Err(Halt::NoMemory) => tell_no_memory(report),
+    match split_input(objects.alloc, &mut objects.input, &mut objects.output) {
+        Ok(tally) => tell_split(objects.alloc, &mut objects.report, &tally),
+        Err(Halt::Unread(_)) => tell_input_failed(&mut objects.report),
+        Err(Halt::Unwritten(_)) => tell_output_failed(&mut objects.report),
+        Err(Halt::Refused(refusal)) => tell_refusal(objects.alloc, &mut objects.report, refusal),
+        Err(Halt::NoMemory) => tell_no_memory(&mut objects.report),
     }
 }

@@ -4,8 +4,8 @@ ghost use Rattle.fd_disk.specs.Folders.{Holdings, WhereTold};
 ghost use Rattle.fd_listing.specs.Lines.{line};
 ghost use Rattle.fd_schema.specs.Grammar.{IsSchema};
 ghost use Rattle.fd_words.specs.declared.command.Command.TheVariants.{Trial};
-ghost use Rattle.fd_outcome.specs.{Archiving.{taken}, Ends.{IsPlanted}, Noticing.{Notices, SparesDamaged}, Objects.{object}, Outcome.{generated_messages}, Ran.{Ran}, Told.{ToldOrNoMemory}, Trying.{trial_given, trial_rules}};
-ghost use Rattle.fd_objects.specs.Given.{OverStore, sink_of, store_of, store_since};
+ghost use Rattle.fd_outcome.specs.{Archiving.{taken}, Ends.{IsPlanted}, Noticing.{Notices, SparesDamaged}, Outcome.{generated_messages}, Ran.{Ran}, Told.{ToldOrNoMemory}, Trying.{trial_given, trial_rules}};
+ghost use Rattle.fd_objects.specs.Objects.{Over, since};
 ghost use Rattle.fd_archive.specs.{Crashing.{OutlastsCrash, OutlastsTrial}, Kept.{NoneDamaged}};
 ghost use Rattle.fd_retrieve.specs.Looking.{IsLookedThrough};
 ghost use Rattle.fd_trial.specs.{Asking.{Begins}, Telling.{ToldUnstored}};
@@ -16,9 +16,9 @@ use crate::ruling::{Unruled, ruled};
 use fd_archive::{store_all, tell_fault};
 use fd_bulk::BulkFault;
 use fd_bytes::NoMemory;
-use fd_disk::Store;
-use fd_io::{Gate, Sink};
+use fd_io::Sink;
 use fd_key::{Given, GivenFault};
+use fd_objects::{Objects, World};
 use fd_outcome::{Status, tell, tell_disk_failed, tell_no_memory};
 use fd_retrieve::{Counted, count_found};
 use fd_schema::Schema;
@@ -49,85 +49,87 @@ fn given(alloc: Global) -> Result<Given, NoMemory>
 /// holds there what it held, and behind it few batches of these messages alone.
 /// The numbers are told only where none of the messages' datasets was damaged; a damaged dataset keeps its files, and its table as it
 /// was, or synced.
-pub fn trial<F: Send + Drop, X: Drop, S: Store<F>, E: Sink<X>, G: Gate, R: Threads + Wait + Sync>(
+pub fn trial<W: World, R: Threads + Wait + Sync>(
     rt: &R,
-    alloc: Global,
+    objects: &mut Objects<W>,
     root: &Root,
     count: u32,
     workers: u32,
-    store: &mut S,
-    report: &mut E,
-    gate: &G,
 ) -> Status
-where
     requires count { count ≤ 100000 }
     requires workers { (1 ≤ workers) × (workers ≤ 8) }
-    requires home { (name : List ℕ) → S.out store.old name ≡ false }
-    ensures ran { OverStore S.Store store E.Sink report (Ran (Trial root.now count workers) result) }
-    ensures notices { OverStore S.Store store E.Sink report (Notices (Trial root.now count workers) result) }
-    ensures spares { WhereTold (S.has store.old) (S.has store.new) SparesDamaged }
-    ensures outlasts { (left : Option (List ℕ)) (l : ℕ)
-        → OutlastsCrash (Trial root.now count workers) result (store_of S.Store store) (object left left l l) (sink_of E.Sink report) }
-    ensures home { (name : List ℕ) → S.out store.new name ≡ false }
+    requires home { (name : List ℕ) → W.Store.out objects.old.store name ≡ false }
+    ensures ran { Over W.Store.Store W.Input.Source W.Output.Sink W.Report.Sink objects (Ran (Trial root.now count workers) result) }
+    ensures notices { Over W.Store.Store W.Input.Source W.Output.Sink W.Report.Sink objects
+        (Notices (Trial root.now count workers) result) }
+    ensures spares { WhereTold (W.Store.has objects.old.store) (W.Store.has objects.new.store) SparesDamaged }
+    ensures outlasts { Over W.Store.Store W.Input.Source W.Output.Sink W.Report.Sink objects
+        (λ store input _ report. OutlastsCrash (Trial root.now count workers) result store input report) }
+    ensures input { objects.new.input ≡ objects.old.input }
+    ensures output { objects.new.output ≡ objects.old.output }
+    ensures home { (name : List ℕ) → W.Store.out objects.new.store name ≡ false }
 {
-    let Ok(given) = given(alloc) else {
-        return tell_no_memory(report);
+    let Ok(given) = given(objects.alloc) else {
+        return tell_no_memory(&mut objects.report);
     };
-    match ruled(alloc, store, root.as_str()) {
-        Ok(schema) => trial_by(
-            rt, alloc, &schema, &given, count, workers, store, report, gate,
+    match ruled(objects.alloc, &mut objects.store, root.as_str()) {
+        Ok(schema) => trial_by(rt, objects, &schema, &given, count, workers),
+        Err(Unruled::Disk) => tell_disk_failed(&mut objects.report),
+        Err(Unruled::Different) => tell(
+            &mut objects.report,
+            "refused SchemaDifferent\n",
+            Status::Refused,
         ),
-        Err(Unruled::Disk) => tell_disk_failed(report),
-        Err(Unruled::Different) => tell(report, "refused SchemaDifferent\n", Status::Refused),
-        Err(Unruled::At { line, kind }) => tell_schema(alloc, report, line, &kind),
-        Err(Unruled::NoMemory) => tell_no_memory(report),
+        Err(Unruled::At { line, kind }) => tell_schema(
+            objects.alloc,
+            &mut objects.report,
+            line,
+            &kind,
+        ),
+        Err(Unruled::NoMemory) => tell_no_memory(&mut objects.report),
     }
 }
 
 /// The same, by the store's rules.
-fn trial_by<F: Send + Drop, X: Drop, S: Store<F>, E: Sink<X>, G: Gate, R: Threads + Wait + Sync>(
+fn trial_by<W: World, R: Threads + Wait + Sync>(
     rt: &R,
-    alloc: Global,
+    objects: &mut Objects<W>,
     schema: &Schema,
     given: &Given,
     count: u32,
     workers: u32,
-    store: &mut S,
-    report: &mut E,
-    gate: &G,
 ) -> Status
-where
     requires count { count ≤ 100000 }
     requires workers { (1 ≤ workers) × (workers ≤ 8) }
-    requires home { (name : List ℕ) → S.out store.old name ≡ false }
+    requires home { (name : List ℕ) → W.Store.out objects.old.store name ≡ false }
     requires schema { IsSchema schema.now }
     requires given { given.now ≡ trial_given }
-    ensures ran { (root : List ℕ) (start : Option Holdings) (faults : ℕ) (left : Option (List ℕ)) (l : ℕ) (a : Option (List ℕ)) (k : ℕ)
-        → faults ≤ S.faults store.old
-        → WhereTold start (S.has store.old) (λ h m. IsPlanted h m × (trial_rules h.schema ≡ Ok schema.now))
-        → Ran (Trial root count workers) result (store_since start faults S.Store store)
-        (object left left l l) (object a a k k) (sink_of E.Sink report) }
+    ensures ran { Over W.Store.Store W.Input.Source W.Output.Sink W.Report.Sink objects (λ store input output report.
+        (root : List ℕ) (start : Option Holdings) (faults : ℕ) → faults ≤ store.faults_before
+        → WhereTold start store.before (λ h m. IsPlanted h m × (trial_rules h.schema ≡ Ok schema.now))
+        → Ran (Trial root count workers) result (since start faults store) input output report) }
     ensures undamaged { (result ≡ Status.Done) ⊎ (result ≡ Status.Missed)
-        → IfSome (S.has store.old) (NoneDamaged (taken schema.now trial_given (generated_messages count)).stored) }
-    ensures spares { WhereTold (S.has store.old) (S.has store.new) SparesDamaged }
-    ensures outlasts { WhereTold (S.has store.old) (S.has store.new) (OutlastsTrial result workers count (Ok schema.now)) }
-    ensures home { (name : List ℕ) → S.out store.new name ≡ false }
+        → IfSome (W.Store.has objects.old.store) (NoneDamaged (taken schema.now trial_given (generated_messages count)).stored) }
+    ensures spares { WhereTold (W.Store.has objects.old.store) (W.Store.has objects.new.store) SparesDamaged }
+    ensures outlasts { WhereTold (W.Store.has objects.old.store) (W.Store.has objects.new.store)
+        (OutlastsTrial result workers count (Ok schema.now)) }
+    ensures input { objects.new.input ≡ objects.old.input }
+    ensures output { objects.new.output ≡ objects.old.output }
+    ensures home { (name : List ℕ) → W.Store.out objects.new.store name ≡ false }
 {
-    let mut messages = MadeMessages::new(alloc, count);
+    let mut messages = MadeMessages::new(objects.alloc, count);
     match store_all(
         rt,
-        alloc,
+        objects.alloc,
         schema,
         given,
         workers,
-        store,
+        &mut objects.store,
         &mut messages,
-        gate,
+        &objects.gate,
     ) {
-        Ok(_) => ask(
-            rt, alloc, schema, given, count, workers, store, report, gate,
-        ),
-        Err(fault) => tell_unstored(alloc, report, fault),
+        Ok(_) => ask(rt, objects, schema, given, count, workers),
+        Err(fault) => tell_unstored(objects.alloc, &mut objects.report, fault),
     }
 }
 
@@ -146,37 +148,41 @@ fn tell_unstored<X: Drop, E: Sink<X>>(
 }
 
 /// Asks for the keys of the messages that were stored. These are in few enough datasets to be opened.
-fn ask<F: Send + Drop, X: Drop, S: Store<F>, E: Sink<X>, G: Gate, R: Threads + Wait + Sync>(
+fn ask<W: World, R: Threads + Wait + Sync>(
     rt: &R,
-    alloc: Global,
+    objects: &mut Objects<W>,
     schema: &Schema,
     given: &Given,
     count: u32,
     workers: u32,
-    store: &mut S,
-    report: &mut E,
-    gate: &G,
 ) -> Status
-where
     requires count { count ≤ 100000 }
     requires workers { (1 ≤ workers) × (workers ≤ 8) }
-    requires home { (name : List ℕ) → S.out store.old name ≡ false }
+    requires home { (name : List ℕ) → W.Store.out objects.old.store name ≡ false }
     requires given { given.now ≡ trial_given }
     requires stored { (taken schema.now given.now (generated_messages count)).refusal ≡ None }
-    ensures ran { (root : List ℕ) (start : Option Holdings) (faults : ℕ) (left : Option (List ℕ)) (l : ℕ) (a : Option (List ℕ)) (k : ℕ)
-        → faults ≤ S.faults store.old
-        → Begins workers schema.now count start (S.has store.old)
-        → Ran (Trial root count workers) result (store_since start faults S.Store store)
-        (object left left l l) (object a a k k) (sink_of E.Sink report) }
-    ensures looks { WhereTold (S.has store.old) (S.has store.new) IsLookedThrough }
-    ensures home { (name : List ℕ) → S.out store.new name ≡ false }
+    ensures ran { Over W.Store.Store W.Input.Source W.Output.Sink W.Report.Sink objects (λ store input output report.
+        (root : List ℕ) (start : Option Holdings) (faults : ℕ) → faults ≤ store.faults_before
+        → Begins workers schema.now count start store.before
+        → Ran (Trial root count workers) result (since start faults store) input output report) }
+    ensures looks { WhereTold (W.Store.has objects.old.store) (W.Store.has objects.new.store) IsLookedThrough }
+    ensures input { objects.new.input ≡ objects.old.input }
+    ensures output { objects.new.output ≡ objects.old.output }
+    ensures home { (name : List ℕ) → W.Store.out objects.new.store name ≡ false }
 {
-    let Ok(places) = places_of(alloc, schema, given, count) else {
-        return tell_no_memory(report);
+    let Ok(places) = places_of(objects.alloc, schema, given, count) else {
+        return tell_no_memory(&mut objects.report);
     };
-    match count_found(rt, alloc, store, &places, workers, gate) {
-        Ok(counted) => tell_counted(alloc, report, count, counted),
-        Err(stop) => tell_stop(alloc, store, report, stop),
+    match count_found(
+        rt,
+        objects.alloc,
+        &mut objects.store,
+        &places,
+        workers,
+        &objects.gate,
+    ) {
+        Ok(counted) => tell_counted(objects.alloc, &mut objects.report, count, counted),
+        Err(stop) => tell_stop(objects.alloc, &mut objects.store, &mut objects.report, stop),
     }
 }
 

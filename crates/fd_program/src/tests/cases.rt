@@ -5,7 +5,8 @@ use super::octets::{Part, are, push_parts};
 use crate::top::fdb;
 use fd_disk::{Renew, Store};
 use fd_disk_mem::{MemStore, Op};
-use fd_io::{Gate, MemSink, MemSource, Sink, Source};
+use fd_io::{Gate, MemIoFault, MemSink, MemSource, Source};
+use fd_objects::{Kinds, Objects};
 use std::alloc::Global;
 use std::sync::Wait;
 use std::sync::atomic::{AtomicU64, Ordering};
@@ -175,9 +176,15 @@ impl Turns {
     }
 }
 
-impl Gate for Turns {
+/// The gate of a row, lent to a run.
+#[derive(Drop)]
+struct Lent<'a> {
+    turns: &'a Turns,
+}
+
+impl Gate for Lent<'_> {
     fn pass<R: Wait>(&self, _rt: &R, lane: u32, step: u32) {
-        self.come(lane, step);
+        self.turns.come(lane, step);
     }
 }
 
@@ -231,32 +238,6 @@ fn streams_of(alloc: Global, row: &Row, piece: u32) -> Option<Streams> {
     })
 }
 
-/// The exit status of a run of the top call.
-fn status_of<
-    F: Send + Drop,
-    X: Drop,
-    S: Store<F>,
-    I: Source<X>,
-    K: Sink<X>,
-    R: Threads + Wait + Sync,
->(
-    rt: &R,
-    alloc: Global,
-    row: &Row,
-    store: &mut S,
-    input: &mut I,
-    output: &mut K,
-    report: &mut K,
-    gate: &Turns,
-) -> u8
-where
-    S::Folder: Renew<F>,
-    requires home { (name : List ℕ) → S.out store.old name ≡ false }
-    ensures home { (name : List ℕ) → S.out store.new name ≡ false }
-{
-    fdb(rt, alloc, row.words, store, input, output, report, gate).code()
-}
-
 /// Tells whether a run with this status has written what its row says, and met what its gate holds.
 fn is_right(
     alloc: Global,
@@ -272,91 +253,102 @@ fn is_right(
         && are(alloc, output.taken(), row.output)
 }
 
-/// Runs a row over this store, and tells whether it ends as it says.
+/// Runs a row over this store. Gives the store back, and tells whether the row ends as it says.
 fn ends_so<F: Send + Drop, S: Store<F>, R: Threads + Wait + Sync>(
     rt: &R,
     alloc: Global,
-    store: &mut S,
+    store: S,
     row: &Row,
     piece: u32,
-) -> bool
+) -> (S, bool)
 where
     S::Folder: Renew<F>,
-    requires home { (name : List ℕ) → S.out store.old name ≡ false }
-    ensures home { (name : List ℕ) → S.out store.new name ≡ false }
+    requires home { (name : List ℕ) → S.out store name ≡ false }
+    ensures home { (name : List ℕ) → S.out result.0 name ≡ false }
 {
     let Some(streams) = streams_of(alloc, row, piece) else {
-        return false;
+        return (store, false);
     };
     let Streams {
         input,
-        mut output,
-        mut report,
+        output,
+        report,
     } = streams;
-    let gate = Turns::new(row.holds);
-    let mut input = Gated {
-        input,
-        reads: 0,
-        gate: &gate,
-    };
-    let status = status_of(
-        rt,
+    let turns = Turns::new(row.holds);
+    let mut objects = Objects::<Kinds<F, MemIoFault, S, _, _, _, _>> {
         alloc,
-        row,
         store,
-        &mut input,
-        &mut output,
-        &mut report,
-        &gate,
-    );
-    is_right(alloc, row, &output, &report, status, &gate)
+        input: Gated {
+            input,
+            reads: 0,
+            gate: &turns,
+        },
+        output,
+        report,
+        gate: Lent { turns: &turns },
+    };
+    let status = fdb(rt, &mut objects, row.words).code();
+    let Objects {
+        alloc: _alloc,
+        store,
+        input: _input,
+        output,
+        report,
+        gate: _gate,
+    } = objects;
+    let is_so = is_right(alloc, row, &output, &report, status, &turns);
+    (store, is_so)
 }
 
-/// Runs rows over this store, one after the other, and tells whether each ends as it says.
+/// Runs rows over this store, one after the other. Gives the store back, and tells whether each row ends as it says.
 pub(super) fn all_end_so<F: Send + Drop, S: Store<F>, R: Threads + Wait + Sync>(
     rt: &R,
     alloc: Global,
-    store: &mut S,
+    store: S,
     rows: &[Row],
     piece: u32,
-) -> bool
+) -> (S, bool)
 where
     S::Folder: Renew<F>,
-    requires home { (name : List ℕ) → S.out store.old name ≡ false }
-    ensures home { (name : List ℕ) → S.out store.new name ≡ false }
+    requires home { (name : List ℕ) → S.out store name ≡ false }
+    ensures home { (name : List ℕ) → S.out result.0 name ≡ false }
 {
+    let mut store = store;
     for row in rows {
-        if !ends_so(rt, alloc, store, row, piece) {
-            return false;
+        let (left, is_so) = ends_so(rt, alloc, store, row, piece);
+        store = left;
+        if !is_so {
+            return (store, false);
         }
     }
-    true
+    (store, true)
 }
 
 /// The same, over a store in memory.
 fn all_end_in_memory<R: Threads + Wait + Sync>(
     rt: &R,
     alloc: Global,
-    store: &mut MemStore,
+    store: MemStore,
     rows: &[Row],
     piece: u32,
-) -> bool {
+) -> (MemStore, bool) {
     all_end_so(rt, alloc, store, rows, piece)
 }
 
-/// Runs a row where so many calls of the store pass before all fail, and tells whether it ends as it says.
+/// Runs a row where so many calls of the store pass before all fail. Gives the store back, and tells whether the row ends as it
+/// says.
 fn is_halted<R: Threads + Wait + Sync>(
     rt: &R,
     alloc: Global,
-    store: &mut MemStore,
+    mut store: MemStore,
     halted: Option<(u64, Row)>,
-) -> bool {
+) -> (MemStore, bool) {
     match halted {
         Some((calls, row)) => {
             store.fuse(calls);
             all_end_in_memory(rt, alloc, store, &[row], 100)
         }
-        None => true,
+        None => (store, true),
     }
 }
 
@@ -444,14 +436,15 @@ fn after(alloc: Global, mut store: MemStore, event: &Event) -> Option<MemStore> 
 
 /// Runs the rows of a case, and tells whether each ends as it says.
 fn holds<R: Threads + Wait + Sync>(rt: &R, alloc: Global, case: &Case) -> bool {
-    let Some(mut store) = store_of(alloc, case) else {
+    let Some(store) = store_of(alloc, case) else {
         return false;
     };
-    let before = all_end_in_memory(rt, alloc, &mut store, case.rows, case.piece)
-        && is_halted(rt, alloc, &mut store, case.halted);
+    let (store, before) = all_end_in_memory(rt, alloc, store, case.rows, case.piece);
+    let (store, halted) = is_halted(rt, alloc, store, case.halted);
     match after(alloc, store, &case.event) {
-        Some(mut store) => {
-            all_end_in_memory(rt, alloc, &mut store, case.after, case.piece) && before
+        Some(store) => {
+            let (_store, behind) = all_end_in_memory(rt, alloc, store, case.after, case.piece);
+            before && halted && behind
         }
         None => false,
     }

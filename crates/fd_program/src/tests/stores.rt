@@ -116,7 +116,10 @@ const KEEPING: &[Row] = &[CREATED, ARCHIVED, RETRIEVED, MISSED];
 #[test]
 fn keeps_files(rt: HostRuntime) {
     let kept = match RealStore::new(rt.alloc(), rt) {
-        Ok(mut store) => all_end_so(&rt, rt.alloc(), &mut store, KEEPING, 100),
+        Ok(store) => {
+            let (_store, is_so) = all_end_so(&rt, rt.alloc(), store, KEEPING, 100);
+            is_so
+        }
         Err(_) => false,
     };
     assert!(rt; kept);

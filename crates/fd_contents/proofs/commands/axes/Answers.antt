@@ -1,6 +1,7 @@
 use Rattle.std.proofs.Common.{◌≡◌, inl, sym, subst, List, ℕ, Some, Ok, Err}
 use Rattle.fd_disk.specs.Folders.{WhereTold}
 use Rattle.fd_words.specs.declared.command.Command.TheVariants as commands
+use Rattle.fd_outcome.specs.Noticing.{ReadsFitly}
 use Rattle.fd_outcome.specs.Objects.{object}
 use Rattle.fd_outcome.specs.Outcome.{outcome, refused}
 use Rattle.fd_outcome.specs.Store.{IsLookedThrough}
@@ -16,12 +17,12 @@ use Rattle.fd_contents.proofs.commands.axes.Goals as goal
 
 pub returns-in-Ok-clause-ran : goal.returns-in-Ok-clause-ran
 returns-in-Ok-clause-ran g c =
-    c.printed.ensures.ran (commands.Axes c.args.root.now) (g.S.Store.has c.args.store.now) (g.S.Store.faults c.args.store.now)
-    (object (g.I.Source.left c.args.input.now) (g.I.Source.left c.partial.new.input) (g.I.Source.faults c.args.input.now) (g.I.Source.faults c.partial.new.input))
+    c.printed.ensures.ran (commands.Axes c.args.root.now) (g.W.Store.Store.has c.args.objects.now.store) (g.W.Store.Store.faults c.args.objects.now.store)
+    (g.W.Input.Source.left c.args.objects.now.input) (g.W.Input.Source.faults c.args.objects.now.input)
     (record {
       is_listing = tt;
-      prints = λ octets h d e names. axes_prints c.args.root.now octets h c.in-Ok.partial (both_at (g.S.Store.has c.args.store.now) (g.I.Source.left c.args.input.now) (λ octets h. asked_in h octets ≡ Ok c.in-Ok.partial) c.in-Ok.ensures.asked octets h d e) names;
-      opens = λ octets h d e names name there. axes_opens c.args.root.now octets h c.in-Ok.partial (both_at (g.S.Store.has c.args.store.now) (g.I.Source.left c.args.input.now) (λ octets h. asked_in h octets ≡ Ok c.in-Ok.partial) c.in-Ok.ensures.asked octets h d e) names name there;
+      prints = λ octets h d e names. axes_prints c.args.root.now octets h c.in-Ok.partial (both_at (g.W.Store.Store.has c.args.objects.now.store) (g.W.Input.Source.left c.args.objects.now.input) (λ octets h. asked_in h octets ≡ Ok c.in-Ok.partial) c.in-Ok.ensures.asked octets h d e) names;
+      opens = λ octets h d e names name there. axes_opens c.args.root.now octets h c.in-Ok.partial (both_at (g.W.Store.Store.has c.args.objects.now.store) (g.W.Input.Source.left c.args.objects.now.input) (λ octets h. asked_in h octets ≡ Ok c.in-Ok.partial) c.in-Ok.ensures.asked octets h d e) names name there;
       same = c.in-Ok.ensures.has;
       later = c.in-Ok.ensures.later;
       calm = c.in-Ok.ensures.calm;
@@ -30,42 +31,47 @@ returns-in-Ok-clause-ran g c =
 
 pub returns-in-Err-clause-ran : goal.returns-in-Err-clause-ran
 returns-in-Err-clause-ran g c =
-    stopped (commands.Axes c.args.root.now) tt (g.S.Store.has c.args.store.now) (g.S.Store.has c.tell_stop.new.store) (g.S.Store.faults c.args.store.now) (g.S.Store.faults c.tell_stop.new.store)
-    (object (g.I.Source.left c.args.input.now) (g.I.Source.left c.partial.new.input) (g.I.Source.faults c.args.input.now) (g.I.Source.faults c.partial.new.input)) (g.K.Sink.taken c.args.output.now) (g.K.Sink.faults c.args.output.now)
-    (object (g.E.Sink.taken c.args.report.now) (g.E.Sink.taken c.tell_stop.new.report) (g.E.Sink.faults c.args.report.now) (g.E.Sink.faults c.tell_stop.new.report)) c.tell_stop.result
-    (subst (λ o. WhereTold (g.S.Store.has c.args.store.now) o IsLookedThrough) (sym c.tell_stop.ensures.has) (looked_unmoved (g.S.Store.has c.args.store.now) (g.S.Store.has c.partial.new.store) c.in-Err.ensures.has))
+    stopped (commands.Axes c.args.root.now) tt (g.W.Store.Store.has c.args.objects.now.store) (g.W.Store.Store.has c.tell_stop.new.store) (g.W.Store.Store.faults c.args.objects.now.store) (g.W.Store.Store.faults c.tell_stop.new.store)
+    (object (g.W.Input.Source.left c.args.objects.now.input) (g.W.Input.Source.left c.partial.new.input) (g.W.Input.Source.faults c.args.objects.now.input) (g.W.Input.Source.faults c.partial.new.input)) (g.W.Output.Sink.taken c.args.objects.now.output) (g.W.Output.Sink.faults c.args.objects.now.output)
+    (object (g.W.Report.Sink.taken c.args.objects.now.report) (g.W.Report.Sink.taken c.tell_stop.new.report) (g.W.Report.Sink.faults c.args.objects.now.report) (g.W.Report.Sink.faults c.tell_stop.new.report)) c.tell_stop.result
+    (subst (λ o. WhereTold (g.W.Store.Store.has c.args.objects.now.store) o IsLookedThrough) (sym c.tell_stop.ensures.has) (looked_unmoved (g.W.Store.Store.has c.args.objects.now.store) (g.W.Store.Store.has c.partial.new.store) c.in-Err.ensures.has))
     c.in-Err.stop c.tell_stop.ensures.told c.in-Err.ensures.early
     (λ octets h d e. refuses_more c.in-Err.stop (λ cause. asked_in h octets ≡ Err cause) (λ cause. (names : List (List ℕ)) → outcome (commands.Axes c.args.root.now) h names octets ≡ Some (refused cause)) (axes_refused c.args.root.now octets h)
-    (both_at (g.S.Store.has c.args.store.now) (g.I.Source.left c.args.input.now) (λ octets h. Refuses c.in-Err.stop (λ cause. asked_in h octets ≡ Err cause)) c.in-Err.ensures.refused octets h d e))
-    c.in-Err.ensures.input (later_disk c.in-Err.stop (g.S.Store.faults c.args.store.now) (g.S.Store.faults c.partial.new.store) (g.S.Store.faults c.tell_stop.new.store) c.in-Err.ensures.later c.tell_stop.ensures.noted) c.in-Err.ensures.calm_err
+    (both_at (g.W.Store.Store.has c.args.objects.now.store) (g.W.Input.Source.left c.args.objects.now.input) (λ octets h. Refuses c.in-Err.stop (λ cause. asked_in h octets ≡ Err cause)) c.in-Err.ensures.refused octets h d e))
+    c.in-Err.ensures.input (later_disk c.in-Err.stop (g.W.Store.Store.faults c.args.objects.now.store) (g.W.Store.Store.faults c.partial.new.store) (g.W.Store.Store.faults c.tell_stop.new.store) c.in-Err.ensures.later c.tell_stop.ensures.noted) c.in-Err.ensures.calm_err
 
 pub returns-in-Ok-clause-notices : goal.returns-in-Ok-clause-notices
 returns-in-Ok-clause-notices g c =
-    axes_notices (g.S.Store.has c.args.store.now) (g.S.Store.has c.partial.new.store) (g.S.Store.has c.printed.new.store) (g.S.Store.faults c.args.store.now) (g.S.Store.faults c.printed.new.store)
-    (object (g.I.Source.left c.args.input.now) (g.I.Source.left c.partial.new.input) (g.I.Source.faults c.args.input.now) (g.I.Source.faults c.partial.new.input))
-    (object (g.K.Sink.taken c.args.output.now) (g.K.Sink.taken c.printed.new.output) (g.K.Sink.faults c.args.output.now) (g.K.Sink.faults c.printed.new.output))
-    (object (g.E.Sink.taken c.args.report.now) (g.E.Sink.taken c.printed.new.report) (g.E.Sink.faults c.args.report.now) (g.E.Sink.faults c.printed.new.report)) c.printed.result
+    axes_notices (g.W.Store.Store.has c.args.objects.now.store) (g.W.Store.Store.has c.partial.new.store) (g.W.Store.Store.has c.printed.new.objects.store) (g.W.Store.Store.faults c.args.objects.now.store) (g.W.Store.Store.faults c.printed.new.objects.store)
+    (object (g.W.Input.Source.left c.args.objects.now.input) (g.W.Input.Source.left c.printed.new.objects.input) (g.W.Input.Source.faults c.args.objects.now.input) (g.W.Input.Source.faults c.printed.new.objects.input))
+    (object (g.W.Output.Sink.taken c.args.objects.now.output) (g.W.Output.Sink.taken c.printed.new.objects.output) (g.W.Output.Sink.faults c.args.objects.now.output) (g.W.Output.Sink.faults c.printed.new.objects.output))
+    (object (g.W.Report.Sink.taken c.args.objects.now.report) (g.W.Report.Sink.taken c.printed.new.objects.report) (g.W.Report.Sink.faults c.args.objects.now.report) (g.W.Report.Sink.faults c.printed.new.objects.report)) c.printed.result
     c.in-Ok.ensures.has c.args.root.now c.in-Ok.partial c.in-Ok.ensures.asked c.printed.ensures.whole
 
 pub returns-in-Err-clause-notices : goal.returns-in-Err-clause-notices
-returns-in-Err-clause-notices g c = λ whole. stop_whole _ c.tell_stop.result (g.E.Sink.taken c.args.report.now) (g.E.Sink.taken c.tell_stop.new.report) (g.E.Sink.faults c.args.report.now) (g.E.Sink.faults c.tell_stop.new.report) c.in-Err.stop c.tell_stop.ensures.told whole
+returns-in-Err-clause-notices g c = λ whole. stop_whole _ c.tell_stop.result (g.W.Report.Sink.taken c.args.objects.now.report) (g.W.Report.Sink.taken c.tell_stop.new.report) (g.W.Report.Sink.faults c.args.objects.now.report) (g.W.Report.Sink.faults c.tell_stop.new.report) c.in-Err.stop c.tell_stop.ensures.told whole
 
 pub returns-in-Ok-clause-recorded : goal.returns-in-Ok-clause-recorded
 returns-in-Ok-clause-recorded g c =
-    axes_records (g.S.Store.has c.args.store.now) (g.S.Store.has c.partial.new.store) (g.S.Store.has c.printed.new.store) (g.S.Store.faults c.args.store.now) (g.S.Store.faults c.printed.new.store)
-    (object (g.I.Source.left c.args.input.now) (g.I.Source.left c.partial.new.input) (g.I.Source.faults c.args.input.now) (g.I.Source.faults c.partial.new.input))
-    (object (g.K.Sink.taken c.args.output.now) (g.K.Sink.taken c.printed.new.output) (g.K.Sink.faults c.args.output.now) (g.K.Sink.faults c.printed.new.output))
-    (object (g.E.Sink.taken c.args.report.now) (g.E.Sink.taken c.printed.new.report) (g.E.Sink.faults c.args.report.now) (g.E.Sink.faults c.printed.new.report)) c.printed.result
+    axes_records (g.W.Store.Store.has c.args.objects.now.store) (g.W.Store.Store.has c.partial.new.store) (g.W.Store.Store.has c.printed.new.objects.store) (g.W.Store.Store.faults c.args.objects.now.store) (g.W.Store.Store.faults c.printed.new.objects.store)
+    (object (g.W.Input.Source.left c.args.objects.now.input) (g.W.Input.Source.left c.printed.new.objects.input) (g.W.Input.Source.faults c.args.objects.now.input) (g.W.Input.Source.faults c.printed.new.objects.input))
+    (object (g.W.Output.Sink.taken c.args.objects.now.output) (g.W.Output.Sink.taken c.printed.new.objects.output) (g.W.Output.Sink.faults c.args.objects.now.output) (g.W.Output.Sink.faults c.printed.new.objects.output))
+    (object (g.W.Report.Sink.taken c.args.objects.now.report) (g.W.Report.Sink.taken c.printed.new.objects.report) (g.W.Report.Sink.faults c.args.objects.now.report) (g.W.Report.Sink.faults c.printed.new.objects.report)) c.printed.result
     c.in-Ok.ensures.has c.in-Ok.partial c.in-Ok.ensures.asked c.printed.ensures.whole
 
 pub returns-in-Err-clause-recorded : goal.returns-in-Err-clause-recorded
-returns-in-Err-clause-recorded g c = λ done. stop_whole _ c.tell_stop.result (g.E.Sink.taken c.args.report.now) (g.E.Sink.taken c.tell_stop.new.report) (g.E.Sink.faults c.args.report.now) (g.E.Sink.faults c.tell_stop.new.report) c.in-Err.stop c.tell_stop.ensures.told (inl done)
+returns-in-Err-clause-recorded g c = λ done. stop_whole _ c.tell_stop.result (g.W.Report.Sink.taken c.args.objects.now.report) (g.W.Report.Sink.taken c.tell_stop.new.report) (g.W.Report.Sink.faults c.args.objects.now.report) (g.W.Report.Sink.faults c.tell_stop.new.report) c.in-Err.stop c.tell_stop.ensures.told (inl done)
 
 pub returns-in-Ok-clause-firm : goal.returns-in-Ok-clause-firm
 returns-in-Ok-clause-firm g c =
-    axes_firm c.args.root.now c.printed.result (object (g.S.Store.has c.args.store.now) (g.S.Store.has c.printed.new.store) (g.S.Store.faults c.args.store.now) (g.S.Store.faults c.printed.new.store))
-    (g.S.Store.has c.partial.new.store) c.in-Ok.ensures.has c.printed.ensures.firm
-    (object (g.I.Source.left c.args.input.now) (g.I.Source.left c.partial.new.input) (g.I.Source.faults c.args.input.now) (g.I.Source.faults c.partial.new.input))
+    axes_firm c.args.root.now c.printed.result (object (g.W.Store.Store.has c.args.objects.now.store) (g.W.Store.Store.has c.printed.new.objects.store) (g.W.Store.Store.faults c.args.objects.now.store) (g.W.Store.Store.faults c.printed.new.objects.store))
+    (g.W.Store.Store.has c.partial.new.store) c.in-Ok.ensures.has c.printed.ensures.firm
+    (object (g.W.Input.Source.left c.args.objects.now.input) (g.W.Input.Source.left c.printed.new.objects.input) (g.W.Input.Source.faults c.args.objects.now.input) (g.W.Input.Source.faults c.printed.new.objects.input))
 
 pub returns-in-Err-clause-firm : goal.returns-in-Err-clause-firm
-returns-in-Err-clause-firm g c = λ whole. stop_whole _ c.tell_stop.result (g.E.Sink.taken c.args.report.now) (g.E.Sink.taken c.tell_stop.new.report) (g.E.Sink.faults c.args.report.now) (g.E.Sink.faults c.tell_stop.new.report) c.in-Err.stop c.tell_stop.ensures.told whole
+returns-in-Err-clause-firm g c = λ whole. stop_whole _ c.tell_stop.result (g.W.Report.Sink.taken c.args.objects.now.report) (g.W.Report.Sink.taken c.tell_stop.new.report) (g.W.Report.Sink.faults c.args.objects.now.report) (g.W.Report.Sink.faults c.tell_stop.new.report) c.in-Err.stop c.tell_stop.ensures.told whole
+
+pub returns-in-Ok-clause-unread : goal.returns-in-Ok-clause-unread
+returns-in-Ok-clause-unread g c =
+    let has = g.W.Store.Store.has c.args.objects.now.store in
+    subst (λ i. ReadsFitly (commands.Axes c.args.root.now) (object has has 0 0) (object (g.W.Input.Source.left c.args.objects.now.input) (g.W.Input.Source.left i) (g.W.Input.Source.faults c.args.objects.now.input) (g.W.Input.Source.faults i))) (sym c.printed.ensures.input) c.in-Ok.ensures.unread

@@ -11,8 +11,8 @@ use Rattle.fd_contents.proofs.cubing.cubes.Goals as goal
 
 pub returns-in-Ok-clause-ran : goal.returns-in-Ok-clause-ran
 returns-in-Ok-clause-ran g c =
-    c.cubed.ensures.ran c.args.root.now (g.S.Store.has c.args.store.now) (g.S.Store.faults c.args.store.now)
-    (object (g.I.Source.left c.args.input.now) (g.I.Source.left c.partial.new.input) (g.I.Source.faults c.args.input.now) (g.I.Source.faults c.partial.new.input))
+    c.cubed.ensures.ran c.args.root.now (g.W.Store.Store.has c.args.objects.now.store) (g.W.Store.Store.faults c.args.objects.now.store)
+    (g.W.Input.Source.left c.args.objects.now.input) (g.W.Input.Source.faults c.args.objects.now.input)
     (record {
       asked = c.in-Ok.ensures.asked;
       same = c.in-Ok.ensures.has;
@@ -24,11 +24,11 @@ returns-in-Ok-clause-ran g c =
 
 pub returns-in-Err-clause-ran : goal.returns-in-Err-clause-ran
 returns-in-Err-clause-ran g c =
-    stopped_ran c.args.root.now (g.S.Store.has c.args.store.now) (g.S.Store.has c.tell_stop.new.store) (g.S.Store.faults c.args.store.now) (g.S.Store.faults c.tell_stop.new.store)
-    (object (g.I.Source.left c.args.input.now) (g.I.Source.left c.partial.new.input) (g.I.Source.faults c.args.input.now) (g.I.Source.faults c.partial.new.input))
-    (object (g.K.Sink.taken c.args.output.now) (g.K.Sink.taken c.args.output.now) (g.K.Sink.faults c.args.output.now) (g.K.Sink.faults c.args.output.now))
-    (object (g.E.Sink.taken c.args.report.now) (g.E.Sink.taken c.tell_stop.new.report) (g.E.Sink.faults c.args.report.now) (g.E.Sink.faults c.tell_stop.new.report)) c.tell_stop.result
-    (subst (λ o. WhereTold (g.S.Store.has c.args.store.now) o IsLookedThrough) (sym c.tell_stop.ensures.has) (looked_unmoved (g.S.Store.has c.args.store.now) (g.S.Store.has c.partial.new.store) c.in-Err.ensures.has)) c.in-Err.ensures.unread refl
+    stopped_ran c.args.root.now (g.W.Store.Store.has c.args.objects.now.store) (g.W.Store.Store.has c.tell_stop.new.store) (g.W.Store.Store.faults c.args.objects.now.store) (g.W.Store.Store.faults c.tell_stop.new.store)
+    (object (g.W.Input.Source.left c.args.objects.now.input) (g.W.Input.Source.left c.partial.new.input) (g.W.Input.Source.faults c.args.objects.now.input) (g.W.Input.Source.faults c.partial.new.input))
+    (object (g.W.Output.Sink.taken c.args.objects.now.output) (g.W.Output.Sink.taken c.args.objects.now.output) (g.W.Output.Sink.faults c.args.objects.now.output) (g.W.Output.Sink.faults c.args.objects.now.output))
+    (object (g.W.Report.Sink.taken c.args.objects.now.report) (g.W.Report.Sink.taken c.tell_stop.new.report) (g.W.Report.Sink.faults c.args.objects.now.report) (g.W.Report.Sink.faults c.tell_stop.new.report)) c.tell_stop.result
+    (subst (λ o. WhereTold (g.W.Store.Store.has c.args.objects.now.store) o IsLookedThrough) (sym c.tell_stop.ensures.has) (looked_unmoved (g.W.Store.Store.has c.args.objects.now.store) (g.W.Store.Store.has c.partial.new.store) c.in-Err.ensures.has)) c.in-Err.ensures.unread refl
     c.in-Err.stop c.tell_stop.ensures.told c.in-Err.ensures.early
-    (λ octets h d e. both_at (g.S.Store.has c.args.store.now) (g.I.Source.left c.args.input.now) (λ octets h. Refuses c.in-Err.stop (λ cause. asked_in h octets ≡ Err cause)) c.in-Err.ensures.refused octets h d e)
-    c.in-Err.ensures.input (later_disk c.in-Err.stop (g.S.Store.faults c.args.store.now) (g.S.Store.faults c.partial.new.store) (g.S.Store.faults c.tell_stop.new.store) c.in-Err.ensures.later c.tell_stop.ensures.noted) c.in-Err.ensures.calm_err refl
+    (λ octets h d e. both_at (g.W.Store.Store.has c.args.objects.now.store) (g.W.Input.Source.left c.args.objects.now.input) (λ octets h. Refuses c.in-Err.stop (λ cause. asked_in h octets ≡ Err cause)) c.in-Err.ensures.refused octets h d e)
+    c.in-Err.ensures.input (later_disk c.in-Err.stop (g.W.Store.Store.faults c.args.objects.now.store) (g.W.Store.Store.faults c.partial.new.store) (g.W.Store.Store.faults c.tell_stop.new.store) c.in-Err.ensures.later c.tell_stop.ensures.noted) c.in-Err.ensures.calm_err refl

@@ -4,6 +4,7 @@ use Rattle.fd_ahead.specs.Places.{AreIn}
 use Rattle.fd_request.specs.Expansion.{expand}
 use Rattle.fd_words.specs.declared.command.Command.TheVariants.{RetrieveOver}
 use Rattle.fd_outcome.specs.Asking.{Answer}
+use Rattle.fd_outcome.specs.Objects.{object}
 use Rattle.fd_outcome.specs.Layered.{laid_answers}
 use Rattle.fd_retrieve.specs.Commands.{Begins}
 use Rattle.fd_answering.specs.Located.{AreAt}
@@ -28,13 +29,14 @@ answer_located-requires-clause-within g c κs within =
     c.locate_over-located.ensures.located
 
 pub returns-clause-ran : goal.returns-clause-ran
-returns-clause-ran g c = λ root before faults input begins.
+returns-clause-ran g c = λ root before faults left reads begins.
+    let input = object left (g.W.Input.Source.left c.args.objects.now.input) reads (g.W.Input.Source.faults c.args.objects.now.input) in
     let os = c.args.ready.opened.items in
     let ks = c.args.ready.request in
     let ps = c.args.ready.places.items in
     let ls = c.args.layers.now in
-    c.answer_located.ensures.ran root (Some ls) before faults input (laid_answers (table_in os) (laid_with ls ks ps))
-    (subst (λ l. Begins (RetrieveOver root ls c.args.workers) before (g.S.Store.has c.args.store.now) faults (g.S.Store.faults c.args.store.now) input l (laid_answers (table_in os) (laid_with ls ks ps))) (sym c.deref-3.ensures.value) begins)
+    c.answer_located.ensures.ran root (Some ls) before faults left reads (laid_answers (table_in os) (laid_with ls ks ps))
+    (subst (λ l. Begins (RetrieveOver root ls c.args.workers) before (g.W.Store.Store.has c.args.objects.now.store) faults (g.W.Store.Store.faults c.args.objects.now.store) input l (laid_answers (table_in os) (laid_with ls ks ps))) (sym c.deref-3.ensures.value) begins)
     (IfOk-weaker c.locate_over-located.result (λ v. AreNearest c.deref.result.now c.deref-2.result.now (c.len.result + 1) c.count.result v.items) (λ v. (xs : List Answer) → laid_answers (table_in os) (laid_with ls ks ps) ≡ Some xs → AreAt c.deref-3.result.now (expand ks) xs v.items)
     (λ v near xs e. subst (λ l. AreAt l (expand ks) xs v.items) (sym c.deref-3.ensures.value)
     (nearest_at os (length ls) (expand ks) ps c.count.result v.items xs c.count.ensures c.requires.chains

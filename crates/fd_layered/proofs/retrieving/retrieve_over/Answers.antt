@@ -1,7 +1,9 @@
 use Rattle.std.proofs.Common.{Some, IfSome, subst, sym}
 use Rattle.fd_disk.specs.Folders.{WhereTold}
+use Rattle.fd_words.specs.declared.command.Command.TheVariants.{RetrieveOver}
 use Rattle.fd_outcome.specs.Ends.{AmongLaid}
 use Rattle.fd_outcome.specs.Layered.{laid_of}
+use Rattle.fd_outcome.specs.Noticing.{ReadsFitly}
 use Rattle.fd_outcome.specs.Objects.{object}
 use Rattle.fd_outcome.specs.Store.{IsLookedThrough}
 use Rattle.fd_outcome.proofs.Exits.{never_whole}
@@ -16,9 +18,9 @@ use Rattle.fd_layered.proofs.retrieving.retrieve_over.Goals as goal
 
 pub returns-in-Ok-clause-ran : goal.returns-in-Ok-clause-ran
 returns-in-Ok-clause-ran g c =
-    c.answered.ensures.ran c.args.root.now (g.S.Store.has c.args.store.now) (g.S.Store.faults c.args.store.now) (object (g.I.Source.left c.args.input.now) (g.I.Source.left c.prepared.new.input) (g.I.Source.faults c.args.input.now) (g.I.Source.faults c.prepared.new.input))
+    c.answered.ensures.ran c.args.root.now (g.W.Store.Store.has c.args.objects.now.store) (g.W.Store.Store.faults c.args.objects.now.store) (g.W.Input.Source.left c.args.objects.now.input) (g.W.Input.Source.faults c.args.objects.now.input)
     (record {
-      ready = over_told c.args.root.now c.args.layers.now c.args.workers (g.S.Store.has c.args.store.now) (g.I.Source.left c.args.input.now) c.in-Ok.ready.request c.in-Ok.ready.places.items c.in-Ok.ready.opened.items c.in-Ok.ensures.chains c.in-Ok.ensures.prepared;
+      ready = over_told c.args.root.now c.args.layers.now c.args.workers (g.W.Store.Store.has c.args.objects.now.store) (g.W.Input.Source.left c.args.objects.now.input) c.in-Ok.ready.request c.in-Ok.ready.places.items c.in-Ok.ready.opened.items c.in-Ok.ensures.chains c.in-Ok.ensures.prepared;
       looks = c.in-Ok.ensures.looks;
       later = c.in-Ok.ensures.later;
       calm = c.in-Ok.ensures.calm;
@@ -28,18 +30,18 @@ returns-in-Ok-clause-ran g c =
 pub returns-in-Err-clause-ran : goal.returns-in-Err-clause-ran
 returns-in-Err-clause-ran g c =
     stopped c.args.root.now (Some c.args.layers.now) c.args.workers (λ h octets. IsRefused (laid_of h c.args.layers.now octets)) (λ h octets. AmongLaid (laid_of h c.args.layers.now octets)) (over_refuses c.args.root.now c.args.layers.now c.args.workers) (λ h names octets name among. among)
-    (g.S.Store.has c.args.store.now) (g.S.Store.has c.tell_stop.new.store) (g.S.Store.faults c.args.store.now) (g.S.Store.faults c.tell_stop.new.store)
-    (object (g.I.Source.left c.args.input.now) (g.I.Source.left c.prepared.new.input) (g.I.Source.faults c.args.input.now) (g.I.Source.faults c.prepared.new.input)) (g.K.Sink.taken c.args.output.now) (g.K.Sink.faults c.args.output.now)
-    (object (g.E.Sink.taken c.args.report.now) (g.E.Sink.taken c.tell_stop.new.report) (g.E.Sink.faults c.args.report.now) (g.E.Sink.faults c.tell_stop.new.report)) c.tell_stop.result
-    (subst (λ o. WhereTold (g.S.Store.has c.args.store.now) o IsLookedThrough) (sym c.tell_stop.ensures.has) c.in-Err.ensures.looks) c.in-Err.stop c.tell_stop.ensures.told c.in-Err.ensures.says c.in-Err.ensures.input
-    (later_disk c.in-Err.stop (g.S.Store.faults c.args.store.now) (g.S.Store.faults c.prepared.new.store) (g.S.Store.faults c.tell_stop.new.store) c.in-Err.ensures.later c.tell_stop.ensures.noted) c.in-Err.ensures.calm_err
+    (g.W.Store.Store.has c.args.objects.now.store) (g.W.Store.Store.has c.tell_stop.new.store) (g.W.Store.Store.faults c.args.objects.now.store) (g.W.Store.Store.faults c.tell_stop.new.store)
+    (object (g.W.Input.Source.left c.args.objects.now.input) (g.W.Input.Source.left c.prepared.new.input) (g.W.Input.Source.faults c.args.objects.now.input) (g.W.Input.Source.faults c.prepared.new.input)) (g.W.Output.Sink.taken c.args.objects.now.output) (g.W.Output.Sink.faults c.args.objects.now.output)
+    (object (g.W.Report.Sink.taken c.args.objects.now.report) (g.W.Report.Sink.taken c.tell_stop.new.report) (g.W.Report.Sink.faults c.args.objects.now.report) (g.W.Report.Sink.faults c.tell_stop.new.report)) c.tell_stop.result
+    (subst (λ o. WhereTold (g.W.Store.Store.has c.args.objects.now.store) o IsLookedThrough) (sym c.tell_stop.ensures.has) c.in-Err.ensures.looks) c.in-Err.stop c.tell_stop.ensures.told c.in-Err.ensures.says c.in-Err.ensures.input
+    (later_disk c.in-Err.stop (g.W.Store.Store.faults c.args.objects.now.store) (g.W.Store.Store.faults c.prepared.new.store) (g.W.Store.Store.faults c.tell_stop.new.store) c.in-Err.ensures.later c.tell_stop.ensures.noted) c.in-Err.ensures.calm_err
 
 pub returns-in-Ok-clause-notices : goal.returns-in-Ok-clause-notices
 returns-in-Ok-clause-notices g c =
-    over_notices c.args.root.now c.args.layers.now c.args.workers c.answered.result (object (g.S.Store.has c.args.store.now) (g.S.Store.has c.answered.new.store) (g.S.Store.faults c.args.store.now) (g.S.Store.faults c.answered.new.store))
-    (object (g.I.Source.left c.args.input.now) (g.I.Source.left c.prepared.new.input) (g.I.Source.faults c.args.input.now) (g.I.Source.faults c.prepared.new.input))
-    (object (g.K.Sink.taken c.args.output.now) (g.K.Sink.taken c.answered.new.output) (g.K.Sink.faults c.args.output.now) (g.K.Sink.faults c.answered.new.output))
-    (object (g.E.Sink.taken c.args.report.now) (g.E.Sink.taken c.answered.new.report) (g.E.Sink.faults c.args.report.now) (g.E.Sink.faults c.answered.new.report))
+    over_notices c.args.root.now c.args.layers.now c.args.workers c.answered.result (object (g.W.Store.Store.has c.args.objects.now.store) (g.W.Store.Store.has c.answered.new.objects.store) (g.W.Store.Store.faults c.args.objects.now.store) (g.W.Store.Store.faults c.answered.new.objects.store))
+    (object (g.W.Input.Source.left c.args.objects.now.input) (g.W.Input.Source.left c.answered.new.objects.input) (g.W.Input.Source.faults c.args.objects.now.input) (g.W.Input.Source.faults c.answered.new.objects.input))
+    (object (g.W.Output.Sink.taken c.args.objects.now.output) (g.W.Output.Sink.taken c.answered.new.objects.output) (g.W.Output.Sink.faults c.args.objects.now.output) (g.W.Output.Sink.faults c.answered.new.objects.output))
+    (object (g.W.Report.Sink.taken c.args.objects.now.report) (g.W.Report.Sink.taken c.answered.new.objects.report) (g.W.Report.Sink.faults c.args.objects.now.report) (g.W.Report.Sink.faults c.answered.new.objects.report))
     c.in-Ok.ready.request c.in-Ok.ready.places.items c.in-Ok.ready.opened.items c.in-Ok.ensures.chains c.in-Ok.ensures.prepared c.answered.ensures.each
 
 pub returns-in-Err-clause-notices : goal.returns-in-Err-clause-notices
@@ -47,10 +49,15 @@ returns-in-Err-clause-notices g c = λ whole. never_whole _ c.tell_stop.result (
 
 pub returns-in-Ok-clause-firm : goal.returns-in-Ok-clause-firm
 returns-in-Ok-clause-firm g c =
-    over_firm c.args.root.now c.args.layers.now c.args.workers c.answered.result (object (g.S.Store.has c.args.store.now) (g.S.Store.has c.answered.new.store) (g.S.Store.faults c.args.store.now) (g.S.Store.faults c.answered.new.store))
-    (object (g.I.Source.left c.args.input.now) (g.I.Source.left c.prepared.new.input) (g.I.Source.faults c.args.input.now) (g.I.Source.faults c.prepared.new.input))
+    over_firm c.args.root.now c.args.layers.now c.args.workers c.answered.result (object (g.W.Store.Store.has c.args.objects.now.store) (g.W.Store.Store.has c.answered.new.objects.store) (g.W.Store.Store.faults c.args.objects.now.store) (g.W.Store.Store.faults c.answered.new.objects.store))
+    (object (g.W.Input.Source.left c.args.objects.now.input) (g.W.Input.Source.left c.answered.new.objects.input) (g.W.Input.Source.faults c.args.objects.now.input) (g.W.Input.Source.faults c.answered.new.objects.input))
     c.in-Ok.ready.request c.in-Ok.ready.places.items c.in-Ok.ready.opened.items c.in-Ok.ensures.chains c.in-Ok.ensures.prepared
     (subst (λ o. IfSome o (λ i. AreFirmOf i (datasets_in c.in-Ok.ready.places.items))) (sym c.answered.ensures.has) c.in-Ok.ensures.firm)
 
 pub returns-in-Err-clause-firm : goal.returns-in-Err-clause-firm
 returns-in-Err-clause-firm g c = λ whole. never_whole _ c.tell_stop.result (stop_not_whole c.in-Err.stop c.tell_stop.result _ _ _ _ c.tell_stop.ensures.told) whole
+
+pub returns-in-Ok-clause-unread : goal.returns-in-Ok-clause-unread
+returns-in-Ok-clause-unread g c =
+    let has = g.W.Store.Store.has c.args.objects.now.store in
+    subst (λ i. ReadsFitly (RetrieveOver c.args.root.now c.args.layers.now c.args.workers) (object has has 0 0) (object (g.W.Input.Source.left c.args.objects.now.input) (g.W.Input.Source.left i) (g.W.Input.Source.faults c.args.objects.now.input) (g.W.Input.Source.faults i))) (sym c.answered.ensures.input) c.in-Ok.ensures.unread

@@ -11,28 +11,36 @@ use Rattle.fd_reclaim.proofs.Exits.{ended, halted, later_disk, wipe_acts}
 use Rattle.fd_reclaim.proofs.commands.wipe.Goals as goal
 
 pub returns-in-Ok-clause-ran : goal.returns-in-Ok-clause-ran
-returns-in-Ok-clause-ran g c = λ i j a k.
+returns-in-Ok-clause-ran g c =
+    let i = g.W.Input.Source.left c.args.objects.now.input in
+    let j = g.W.Input.Source.faults c.args.objects.now.input in
+    let a = g.W.Output.Sink.taken c.args.objects.now.output in
+    let k = g.W.Output.Sink.faults c.args.objects.now.output in
     let text = c.as_str-text.result.now in
-    let before = g.S.Store.has c.args.store.now in
-    let now = g.S.Store.has c.wiped.new.store in
-    let m = g.S.Store.faults c.args.store.now in
-    let n = g.S.Store.faults c.wiped.new.store in
-    let report = object (g.E.Sink.taken c.args.report.now) (g.E.Sink.taken c.tell_wiped.new.report) (g.E.Sink.faults c.args.report.now) (g.E.Sink.faults c.tell_wiped.new.report) in
+    let before = g.W.Store.Store.has c.args.objects.now.store in
+    let now = g.W.Store.Store.has c.wiped.new.store in
+    let m = g.W.Store.Store.faults c.args.objects.now.store in
+    let n = g.W.Store.Store.faults c.wiped.new.store in
+    let report = object (g.W.Report.Sink.taken c.args.objects.now.report) (g.W.Report.Sink.taken c.tell_wiped.new.report) (g.W.Report.Sink.faults c.args.objects.now.report) (g.W.Report.Sink.faults c.tell_wiped.new.report) in
     subst (λ d. Ran (commands.Wipe c.args.root.now d) c.tell_wiped.result (object before now m n) (object i i j j) (object a a k k) report) c.as_str-text.ensures
     (ended (commands.Wipe c.args.root.now text) text (λ h. reclaimed (rules_of h.schema) (wipe_told text (folder_at h text))) (WipeDone text) (WipeUnderWay text) (wipe_acts c.args.root.now text) before now m n i j a k report c.tell_wiped.result
     (wiped_line c.in-Ok.count) c.in-Ok.ensures.ok c.in-Ok.ensures.done c.tell_wiped.ensures)
 
 pub returns-in-Err-clause-ran : goal.returns-in-Err-clause-ran
-returns-in-Err-clause-ran g c = λ i j a k.
+returns-in-Err-clause-ran g c =
+    let i = g.W.Input.Source.left c.args.objects.now.input in
+    let j = g.W.Input.Source.faults c.args.objects.now.input in
+    let a = g.W.Output.Sink.taken c.args.objects.now.output in
+    let k = g.W.Output.Sink.faults c.args.objects.now.output in
     let text = c.as_str-text.result.now in
-    let before = g.S.Store.has c.args.store.now in
-    let mid = g.S.Store.has c.wiped.new.store in
-    let now = g.S.Store.has c.tell_halt.new.store in
-    let m = g.S.Store.faults c.args.store.now in
-    let n = g.S.Store.faults c.tell_halt.new.store in
-    let report = object (g.E.Sink.taken c.args.report.now) (g.E.Sink.taken c.tell_halt.new.report) (g.E.Sink.faults c.args.report.now) (g.E.Sink.faults c.tell_halt.new.report) in
+    let before = g.W.Store.Store.has c.args.objects.now.store in
+    let mid = g.W.Store.Store.has c.wiped.new.store in
+    let now = g.W.Store.Store.has c.tell_halt.new.store in
+    let m = g.W.Store.Store.faults c.args.objects.now.store in
+    let n = g.W.Store.Store.faults c.tell_halt.new.store in
+    let report = object (g.W.Report.Sink.taken c.args.objects.now.report) (g.W.Report.Sink.taken c.tell_halt.new.report) (g.W.Report.Sink.faults c.args.objects.now.report) (g.W.Report.Sink.faults c.tell_halt.new.report) in
     subst (λ d. Ran (commands.Wipe c.args.root.now d) c.tell_halt.result (object before now m n) (object i i j j) (object a a k k) report) c.as_str-text.ensures
     (halted (commands.Wipe c.args.root.now text) text (λ h. reclaimed (rules_of h.schema) (wipe_told text (folder_at h text))) (WipeDone text) (WipeUnderWay text) (wipe_acts c.args.root.now text) before now m n i j a k report c.tell_halt.result
     c.in-Err.halt c.tell_halt.ensures.told c.in-Err.ensures.refused
     (subst (λ o. WhereTold before o (InDataset text (LeavesHalted c.in-Err.halt (WipeUnderWay text)))) (sym c.tell_halt.ensures.has) c.in-Err.ensures.left)
-    (later_disk c.in-Err.halt m (g.S.Store.faults c.wiped.new.store) n c.in-Err.ensures.later c.tell_halt.ensures.noted))
+    (later_disk c.in-Err.halt m (g.W.Store.Store.faults c.wiped.new.store) n c.in-Err.ensures.later c.tell_halt.ensures.noted))

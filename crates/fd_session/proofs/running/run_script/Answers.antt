@@ -1,12 +1,14 @@
 use Rattle.std.proofs.Common.{refl, subst}
 use Rattle.fd_play.specs.Plays.{HoldsSame, IsUnopened, LeavesUnplayed}
 use Rattle.std.specs.Prelude.{IfSome}
+use Rattle.fd_outcome.specs.Objects.{object}
 use Rattle.fd_session.proofs.Ending.{idle_ran, run_ran}
 use Rattle.fd_session.proofs.Halting.{accepted, counted_since, kept_held, later_disk, played_since, told_since, unopened_halts}
 use Rattle.fd_session.proofs.running.run_script.Goals as goal
 
 pub returns-in-Ok-clause-ran : goal.returns-in-Ok-clause-ran
-returns-in-Ok-clause-ran g c = λ before faults input begun.
+returns-in-Ok-clause-ran g c = λ before faults left reads begun.
+    let input = object left (g.W.Input.Source.left c.args.objects.now.input) reads (g.W.Input.Source.faults c.args.objects.now.input) in
     let script = c.args.read.now.script in
     let messages = c.args.read.now.messages in
     run_ran _ _ _ input _ _ c.args.schema.now messages script c.in-Ok.transcript.before c.in-Ok.transcript.lanes c.tell_session-status.ensures
@@ -15,7 +17,8 @@ returns-in-Ok-clause-ran g c = λ before faults input begun.
     (played_since c.args.schema.now messages script c.in-Ok.transcript.before c.in-Ok.transcript.lanes _ _ _ _ begun.same c.note_all.ensures.has (rw c.as_slice-messages.ensures at c.in-Ok.ensures.played))
 
 pub returns-in-Err-clause-ran : goal.returns-in-Err-clause-ran
-returns-in-Err-clause-ran g c = λ before faults input begun.
+returns-in-Err-clause-ran g c = λ before faults left reads begun.
+    let input = object left (g.W.Input.Source.left c.args.objects.now.input) reads (g.W.Input.Source.faults c.args.objects.now.input) in
     let script = c.args.read.now.script in
     idle_ran _ _ _ _ _ _ refl refl (kept_held _ input c.args.schema.now script c.args.read.now.messages (told_since HoldsSame _ _ _ _ begun.same c.tell_unopened.ensures.has c.in-Err.ensures.idle)
     (told_since (LeavesUnplayed script.dataset) _ _ _ _ begun.same c.tell_unopened.ensures.has c.in-Err.ensures.left) begun.rules_are

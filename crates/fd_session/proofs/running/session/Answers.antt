@@ -10,7 +10,7 @@ pub session_by-requires-clause-rules : goal.session_by-requires-clause-rules
 session_by-requires-clause-rules g c κs within = subst (λ o. IfSome o (λ h. rules_of h.schema ≡ Ok c.in-Ok.schema)) (sym c.stored_schema.ensures.has) c.in-Ok.ensures.ok
 
 pub returns-in-Ok-clause-ran : goal.returns-in-Ok-clause-ran
-returns-in-Ok-clause-ran g c = c.session_by.ensures.ran (g.S.Store.has c.args.store.now) (g.S.Store.faults c.args.store.now) c.stored_schema.ensures.has c.stored_schema.ensures.later
+returns-in-Ok-clause-ran g c = c.session_by.ensures.ran (g.W.Store.Store.has c.args.objects.now.store) (g.W.Store.Store.faults c.args.objects.now.store) c.stored_schema.ensures.has c.stored_schema.ensures.later
 
 pub returns-in-Err-Disk-clause-ran : goal.returns-in-Err-Disk-clause-ran
 returns-in-Err-Disk-clause-ran g c =
@@ -23,22 +23,22 @@ returns-in-Err-Missing-clause-ran g c =
 
 pub returns-in-Err-At-clause-ran : goal.returns-in-Err-At-clause-ran
 returns-in-Err-At-clause-ran g c =
-    idle_ran _ _ _ _ _ _ refl refl (kept _ _ c.stored_schema.ensures.has) (schema_halts _ _ _ _ _ refl _ _ _ _ (g.S.Store.has c.args.store.now) g.row.F.Denot _ _ (rw c.in-Err-At.field-0-is at c.in-Err-At.ensures.err) c.tell_schema.ensures.some c.tell_schema.ensures.told)
+    idle_ran _ _ _ _ _ _ refl refl (kept _ _ c.stored_schema.ensures.has) (schema_halts _ _ _ _ _ refl _ _ _ _ (g.W.Store.Store.has c.args.objects.now.store) g.row.W-StoreFault.Denot _ _ (rw c.in-Err-At.field-0-is at c.in-Err-At.ensures.err) c.tell_schema.ensures.some c.tell_schema.ensures.told)
 
 pub returns-in-Err-NoMemory-clause-ran : goal.returns-in-Err-NoMemory-clause-ran
 returns-in-Err-NoMemory-clause-ran g c = idle_ran _ _ _ _ _ _ refl refl (kept _ _ c.stored_schema.ensures.has) (Starves c.tell_no_memory.ensures)
 
 pub returns-in-Ok-clause-unread : goal.returns-in-Ok-clause-unread
-returns-in-Ok-clause-unread g c = reads_ruled _ c.in-Ok.schema (g.S.Store.has c.args.store.now) c.in-Ok.ensures.ok
+returns-in-Ok-clause-unread g c = reads_ruled _ c.in-Ok.schema (g.W.Store.Store.has c.args.objects.now.store) c.in-Ok.ensures.ok
 
 pub returns-in-Err-Disk-clause-unread : goal.returns-in-Err-Disk-clause-unread
-returns-in-Err-Disk-clause-unread g c = reads_none _ (g.S.Store.has c.args.store.now) (record { same = refl; calm = refl })
+returns-in-Err-Disk-clause-unread g c = reads_none _ (g.W.Store.Store.has c.args.objects.now.store) (record { same = refl; calm = refl })
 
 pub returns-in-Err-Missing-clause-unread : goal.returns-in-Err-Missing-clause-unread
-returns-in-Err-Missing-clause-unread g c = reads_none _ (g.S.Store.has c.args.store.now) (record { same = refl; calm = refl })
+returns-in-Err-Missing-clause-unread g c = reads_none _ (g.W.Store.Store.has c.args.objects.now.store) (record { same = refl; calm = refl })
 
 pub returns-in-Err-At-clause-unread : goal.returns-in-Err-At-clause-unread
-returns-in-Err-At-clause-unread g c = reads_none _ (g.S.Store.has c.args.store.now) (record { same = refl; calm = refl })
+returns-in-Err-At-clause-unread g c = reads_none _ (g.W.Store.Store.has c.args.objects.now.store) (record { same = refl; calm = refl })
 
 pub returns-in-Err-NoMemory-clause-unread : goal.returns-in-Err-NoMemory-clause-unread
-returns-in-Err-NoMemory-clause-unread g c = reads_none _ (g.S.Store.has c.args.store.now) (record { same = refl; calm = refl })
+returns-in-Err-NoMemory-clause-unread g c = reads_none _ (g.W.Store.Store.has c.args.objects.now.store) (record { same = refl; calm = refl })

@@ -7,7 +7,7 @@ use Rattle.fd_session.proofs.running.session_by.Goals as goal
 
 pub returns-in-Ok-clause-ran : goal.returns-in-Ok-clause-ran
 returns-in-Ok-clause-ran g c = λ before faults same later.
-    c.session_of.ensures.ran before faults _ (record {
+    c.session_of.ensures.ran before faults (g.W.Input.Source.left c.args.objects.now.input) (g.W.Input.Source.faults c.args.objects.now.input) (record {
       same = same;
       later = later;
       rules_are = subst (λ o. IfSome o (λ h. rules_of h.schema ≡ Ok c.args.schema.now)) same c.requires.rules;
