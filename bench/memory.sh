@@ -17,7 +17,7 @@ top=$(cd "$(dirname "$0")/.." && pwd)
 if [ -n "${NUMBERS:-}" ]; then
   wrong=0
   for number in $NUMBERS; do
-    told=$(cd "$top/crates/fd_program" && rt try --test --fail-alloc "$number" 2>&1 || true)
+    told=$(cd "$top/crates/fd_command_tests" && rt try --test --fail-alloc "$number" 2>&1 || true)
     counts=$(awk '/^test .* \.\.\. ok/ { passed++ } /^test .* FAILED$/ { failed++ } /left: NoMemory|error: NoMemory/ { refused++ }
       END { print passed + 0, failed + 0, refused + 0 }' <<< "$told")
     read -r passed failed refused <<< "$counts"

@@ -1,23 +1,17 @@
-//! The program `fdb`: a field database for GRIB 2. Its whole work is the call `fdb` of the module `top`, which is
+//! The program `fdb`: a field database for GRIB 2. Its whole work is the call `fdb` of `fd_top`, which is
 //! given its words, its store, its input and its outputs; `main` makes the real ones.
 #![tactic(auto)]
 
 ghost use Rattle.std.specs.{Prelude.{◌≡◌, false, IfOk, List, ℕ, drop, map}, String.{string_bytes}};
 ghost use Rattle.fd_words.specs.Texts.{texts};
 
-mod exit;
-mod running;
-#[cfg(test)]
-mod tests;
-mod top;
-
-use exit::{ended, ran};
 use fd_bytes::NoMemory;
 use fd_disk::{Renew, Store};
 use fd_disk_real::RealStore;
 use fd_io::{Gate, StdSink, StdSource};
 use fd_objects::{Kinds, Objects};
 use fd_outcome::tell_no_memory;
+use fd_top::{ended, ran};
 use std::alloc::Global;
 use std::env;
 use std::io::{Error, ErrorKind};
