@@ -200,13 +200,13 @@ module _ (os : List Open) (left : ℕ) (o : Open) (t : List ℕ) (lt : left < le
 
   pub noted_more : (name : List ℕ) (a b : Option ℕ) → name ≡ o.name → b ≡ cond (bytes_eq name t) (Some left) a → IsNumberFrom os (left + 1) t a → IsNumberFrom os left t b
   noted_more name a b named notes from = elim (is_or_not (bytes_eq name t)) [
-    | inl yes ↦ subst (IsNumberFrom os left t) (sym (notes ∙ ap (λ c. cond c (Some left) a) yes)) (here_noted ((bytes_eq-Decides t o.name).1 (sym ((bytes_eq-Decides name t).0 yes) ∙ named)))
-    | inr no ↦ subst (IsNumberFrom os left t) (sym (notes ∙ ap (λ c. cond c (Some left) a) no)) (behind (apart no) a from)
+    | inl same ↦ subst (IsNumberFrom os left t) (sym (notes ∙ ap (λ c. cond c (Some left) a) same)) (here_noted ((bytes_eq-Decides t o.name).1 (sym ((bytes_eq-Decides name t).0 same) ∙ named)))
+    | inr other ↦ subst (IsNumberFrom os left t) (sym (notes ∙ ap (λ c. cond c (Some left) a) other)) (behind (apart other) a from)
   ]
     where
       apart : bytes_eq name t ≡ false → bytes_eq t o.name ≡ false
-      apart no = elim (is_or_not (bytes_eq t o.name)) [
-        | inl same ↦ absurd (cc (sym ((bytes_eq-Decides name t).1 (named ∙ sym ((bytes_eq-Decides t o.name).0 same))) ∙ no))
+      apart other = elim (is_or_not (bytes_eq t o.name)) [
+        | inl same ↦ absurd (cc (sym ((bytes_eq-Decides name t).1 (named ∙ sym ((bytes_eq-Decides t o.name).0 same))) ∙ other))
         | inr differs ↦ differs
       ]
 

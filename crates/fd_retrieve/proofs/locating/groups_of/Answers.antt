@@ -1,5 +1,5 @@
 use Rattle.std.proofs.Common.{◌≡◌, ◌∙◌, ◌<◌, ℕ, length, get_or, sym, subst, arith}
-use Rattle.std.specs.Prelude.{IfSome}
+use Rattle.std.specs.Prelude.{IfSome, Option}
 use Rattle.fd_retrieve.specs.Located.{AreGroups}
 use Rattle.fd_retrieve.proofs.LocatingLemmas.{groups_more, groups_none}
 use Rattle.fd_retrieve.proofs.locating.groups_of.Goals as goal
@@ -11,7 +11,11 @@ loop-i-init c = record {
 }
 
 pub put_key-requires : goal.put_key-requires
-put_key-requires c = subst (λ (m : ℕ). IfSome (get_or c.args.numbers.now c.loop-i.i _) (λ n. n < m)) (sym c.loop-i.invariant.long) (c.requires c.loop-i.i _ (omega (arith, c.loop-i-test.true)))
+put_key-requires c =
+    let lt : c.loop-i.i < length c.args.numbers.now = omega (arith, c.loop-i-test.true) in
+    let each : (d : Option ℕ) → IfSome (get_or c.args.numbers.now c.loop-i.i d) (λ n. n < length c.loop-i.groups.items) =
+    λ (d : Option ℕ). subst (λ (m : ℕ). IfSome (get_or c.args.numbers.now c.loop-i.i d) (λ n. n < m)) (sym c.loop-i.invariant.long) (c.requires c.loop-i.i d lt) in
+    each _
 
 pub loop-i-preserved : goal.loop-i-preserved
 loop-i-preserved c =

@@ -44,4 +44,4 @@ returns-in-Err-Damaged-clause-damaged g c =
     let o = c.index-opened-number.result in
     let lt : c.args.number < length c.args.opened.now = omega (arith, c.requires.number) in
     let at = at_get c.args.opened.now c.args.number o lt c.index-opened-number.is in
-    damaged_in c.args.opened.now c.args.number o c.snapshot.result.now _ c.in-Err-Damaged.damage lt at c.snapshot.ensures (rw c.in-Err-Damaged.field-0-is at c.in-Err-Damaged.ensures.damaged)
+    rw c.in-Err-Damaged.field-0-is (damaged_in c.args.opened.now c.args.number o c.snapshot.result.now _ c.in-Err-Damaged.damage lt at c.snapshot.ensures (rw c.in-Err-Damaged.field-0-is at c.in-Err-Damaged.ensures.damaged))
