@@ -1,2 +1,2 @@
-mod Ran
+mod Commands
 mod Serving

@@ -16,7 +16,7 @@ use Rattle.fd_archive.proofs.Outlasting.{starved_outlasts}
 use Rattle.fd_contents.proofs.CubesDone.{starved_cubes}
 use Rattle.fd_session.proofs.Commands.{starved_session}
 use Rattle.fd_top.specs.Served.{CommandRan, Served}
-use Rattle.fd_top.proofs.Ran.{starved_firm, starved_notices, starved_recorded, starved_spares, starved_unread}
+use Rattle.fd_top.proofs.Commands.{starved_firm, starved_notices, starved_recorded, starved_spares, starved_unread}
 
 -- ---- where a command ran
 

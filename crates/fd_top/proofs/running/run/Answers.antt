@@ -1,4 +1,4 @@
-use Rattle.fd_top.proofs.Ran.{counted, created, cubed, did_by, plain, played, tried}
+use Rattle.fd_top.proofs.Commands.{counted, created, cubed, did_by, plain, played, tried}
 use Rattle.fd_top.proofs.running.run.Goals as goal
 
 pub returns-in-Pick-clause-did : goal.returns-in-Pick-clause-did
