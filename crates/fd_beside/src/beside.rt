@@ -106,8 +106,8 @@ fn let_go_all<P: Item>(alloc: Global, items: &mut [P]) {
     }
 }
 
-/// Makes the items ready, by as many threads as there are jobs, then changes each job in a thread of its own, all of which look at the
-/// items, and lets go of these.
+/// Makes the items ready, by twice as many threads as there are jobs, where there are several, so that the last ends with the others; then
+/// changes each job in a thread of its own, all of which look at the items, and lets go of these.
 pub fn serve<R: Threads + Sync, P: Item + Send + Sync, J: Send, F: Fn(&[P], usize, &mut J) + Sync>(
     rt: &R,
     alloc: Global,
@@ -118,7 +118,8 @@ pub fn serve<R: Threads + Sync, P: Item + Send + Sync, J: Send, F: Fn(&[P], usiz
     requires accepts { AcceptsAll F.Fn each.now items.old jobs.old }
     ensures changed { AreShown F.Fn each.now items.old jobs.old jobs.new }
 {
-    prepare_all(rt, jobs.len(), items);
+    let threads = if jobs.len() > 1 { jobs.len().saturating_mul(2) } else { 1 };
+    prepare_all(rt, threads, items);
     change_all_shown(rt, each, &*items, jobs);
     let_go_all(alloc, items);
 }

@@ -12,7 +12,7 @@ use crate::opened::Opened;
 use crate::parts::take_placed;
 use crate::pieces::{new_piece, read_piece};
 use crate::rounds::Rounds;
-use crate::sheets::{Sheet, Unsplit, find_digests};
+use crate::sheets::{Sheet, Unsplit};
 use fd_bytes::{Bytes, NoMemory};
 use fd_io::Source;
 use fd_key::Given;
@@ -111,7 +111,7 @@ impl Model for Reader {
 
     ghost view = { λ r. record { split = r.splitter; rest = r.opened; count = r.fields } };
 
-    ghost invariant = { λ r. (r.splitter.fed ≡ r.total) × (r.total ≤ 68719476736) × (vec_len r.piece ≡ 262144) × (16 * r.fields + (length r.splitter.rest + 16 * length r.opened) ≤ r.total) × (0 < length r.opened → 1 ≤ r.splitter.given) };
+    ghost invariant = { λ r. (r.splitter.fed ≡ r.total) × (r.total ≤ 68719476736) × (vec_len r.piece ≡ 1048576) × (16 * r.fields + (length r.splitter.rest + 16 * length r.opened) ≤ r.total) × (0 < length r.opened → 1 ≤ r.splitter.given) };
 }
 
 impl Reader {
@@ -265,7 +265,7 @@ impl Reader {
     }
 }
 
-/// Reads fields with their places, which so many threads look for, and, for one worker, their digests. It stops behind 2,048 fields or 4 MiB, also where
+/// Reads fields with their places, which so many threads look for. It stops behind 8,192 fields or 8 MiB, also where
 /// others of the same message are still to come, and where a field has no place, or its dataset isn't one of these: so where a read
 /// fails, each field that was read before has a place in one of these datasets. (What is lent for writing comes last, as a closure wants it.)
 pub fn read_on<X, I: Source<X>, R: Threads + Sync>(
@@ -285,6 +285,5 @@ pub fn read_on<X, I: Source<X>, R: Threads + Sync>(
     let mut sheets = Vec::new(alloc);
     reader.rounds.hand_on();
     let end = reader.fill(rt, alloc, input, schema, given, workers, names, &mut sheets);
-    find_digests(rt, workers, sheets.as_mut_slice());
     Batch { sheets, end }
 }

@@ -6,13 +6,13 @@ const MESSAGES: u32 = 64;
 const OCTETS: u64 = 134_217_728;
 
 /// How many messages are read ahead, and by how many octets that ends before.
-const AHEAD: u32 = 2048;
+const AHEAD: u32 = 8192;
 
-const AHEAD_OCTETS: u64 = 4_194_304;
+const AHEAD_OCTETS: u64 = 8_388_608;
 
 /// How many messages a part of them has, where several threads look for the places of one part while the next is split off. Their start
 /// takes as long as a thread needs for some thirty small messages.
-const PART: u32 = 512;
+const PART: u32 = 2048;
 
 /// The round of the next message: its number, from 1, and how many messages and octets it has; how many were counted since the
 /// last ones were handed on; and how many messages its part has, and may have.

@@ -292,34 +292,3 @@ pub(crate) fn look_up_all<R: Threads + Sync>(
         { look_up(alloc, schema, given, sheet) },
     );
 }
-
-// Finds the digest of a sheet's bytes.
-fn find_digest(sheet: &mut Sheet)
-    ensures { sheet.new ≡ sheet.old }
-{
-    sheet.bytes.find_digest();
-}
-
-// Finds the digests of sheets. Nothing else of them changes.
-fn find_all<R: Threads + Sync>(rt: &R, sheets: &mut [Sheet])
-    ensures same { sheets.new ≡ sheets.old }
-{
-    thread::for_each_mut(
-        rt,
-        sheets,
-        1,
-        &|_i: usize, sheet: &mut Sheet|
-            ensures { sheet.new ≡ sheet.old }
-        { find_digest(sheet) },
-    );
-}
-
-/// Finds the digests of sheets where one worker stores them, which waits for the disk. Several find them before they store.
-/// Nothing else of the sheets changes.
-pub(crate) fn find_digests<R: Threads + Sync>(rt: &R, workers: usize, sheets: &mut [Sheet])
-    ensures same { sheets.new ≡ sheets.old }
-{
-    if workers == 1 {
-        find_all(rt, sheets);
-    }
-}
