@@ -18,44 +18,44 @@ const LONG: Part = Part::Field(&[
     (173, 0xF2),
 ]);
 
-/// It, and 3,000 generated messages behind it.
+/// It, and 9,000 generated messages behind it.
 const MANY: &[Part] = &[
     LONG,
     Part::Length(179),
     Part::Length(99_996),
     Part::Text("7777"),
-    Part::Generated(0, 3000),
+    Part::Generated(0, 9000),
 ];
 
-/// The eighth round of the first and of the second worker waits until both have come so far; and that of the third and the ninth read of
+/// The eighth round of the first and of the second worker waits until both have come so far; and that of the third and the 26th read of
 /// the input, before which came more than is read ahead, wait for one another.
 const MEETING: &[Hold] = &[
     hold!(1, 8, 8),
     hold!(2, 8, 8),
-    hold!(3, 8, 9),
-    hold!(0, 9, 8),
+    hold!(3, 8, 26),
+    hold!(0, 26, 8),
 ];
 
 const STORED: Row =
-    row!(ROW, words: &["archive", "s", "--with=class=od,expver=0001"], input: MANY, report: "archived 3001 datasets 2 junk 0\n");
+    row!(ROW, words: &["archive", "s", "--with=class=od,expver=0001"], input: MANY, report: "archived 9001 datasets 2 junk 0\n");
 
 /// A request of the long message, and one of the last ones of the others.
 const FOUND: Row =
     row!(ROW, words: &["retrieve", "s", "--workers=4"], input: &[Part::Text("retrieve,class=od,expver=0001,centre=99,date=20240101,time=00,type=1,levtype=100,param=0.0.0,step=0,levelist=100000")], output: &[LONG, Part::Length(179), Part::Length(99_996), Part::Text("7777")], report: "found 1 missed 0\n");
 
-/// The batches of both datasets, of which one worker fills one.
+/// The batches of both datasets, of which one worker fills five.
 const BY_ONE: Row =
-    row!(ROW, words: &["stats", "s"], output: &[Part::Text("class=od,expver=0001,centre=98 entries 2 fields 3000 keys 3000 bytes 645000\nclass=od,expver=0001,centre=99 entries 1 fields 1 keys 1 bytes 100032\n")]);
+    row!(ROW, words: &["stats", "s"], output: &[Part::Text("class=od,expver=0001,centre=98 entries 6 fields 9000 keys 9000 bytes 1935000\nclass=od,expver=0001,centre=99 entries 1 fields 1 keys 1 bytes 100032\n")]);
 
-/// The batches where four workers have a share each.
+/// The batches where four workers have a share each, and fill one.
 const BY_FOUR: Row =
-    row!(BY_ONE, output: &[Part::Text("class=od,expver=0001,centre=98 entries 4 fields 3000 keys 3000 bytes 645000\nclass=od,expver=0001,centre=99 entries 1 fields 1 keys 1 bytes 100032\n")]);
+    row!(BY_ONE, output: &[Part::Text("class=od,expver=0001,centre=98 entries 8 fields 9000 keys 9000 bytes 1935000\nclass=od,expver=0001,centre=99 entries 1 fields 1 keys 1 bytes 100032\n")]);
 
 /// The same messages, and behind them one that has no key.
 const REFUSED: Row =
-    row!(STORED, input: &[LONG, Part::Length(179), Part::Length(99_996), Part::Text("7777"), Part::Generated(0, 3000), Part::Field(&[(117, 2)])], report: "refused key 3002 Product 2\n", status: 3);
+    row!(STORED, input: &[LONG, Part::Length(179), Part::Length(99_996), Part::Text("7777"), Part::Generated(0, 9000), Part::Field(&[(117, 2)])], report: "refused key 9002 Product 2\n", status: 3);
 
-const LARGE: Case = case!(piece: 65_536, size: 1_048_576, calls: 16_384);
+const LARGE: Case = case!(piece: 65_536, size: 1_048_576, calls: 65_536);
 
 const WORKERS: &[&str] = &["archive", "s", "--with=class=od,expver=0001", "--workers=4"];
 
@@ -65,7 +65,7 @@ const ARCHIVING: &[Case] = &[
     case_of!(LARGE, rows: &[BY_CENTRE, row!(REFUSED, words: WORKERS), BY_FOUR, FOUND]),
 ];
 
-/// One worker and four store 3,001 messages of two datasets, of which one is long, also in front of one that is refused.
+/// One worker and four store 9,001 messages of two datasets, of which one is long, also in front of one that is refused.
 #[test]
 fn stores_many(rt: HostRuntime) {
     assert_eq!(rt; first_wrong(&rt, rt.alloc(), ARCHIVING), None);
