@@ -265,7 +265,7 @@ impl Reader {
     }
 }
 
-/// Reads fields with their places, which so many threads look for. It stops behind 8,192 fields or 4 MiB, also where
+/// Reads fields with their places, which so many threads look for. It stops behind 8,192 fields or 8 MiB, also where
 /// others of the same message are still to come, and where a field has no place, or its dataset isn't one of these: so where a read
 /// fails, each field that was read before has a place in one of these datasets. (What is lent for writing comes last, as a closure wants it.)
 pub fn read_on<X, I: Source<X>, R: Threads + Sync>(

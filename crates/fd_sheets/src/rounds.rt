@@ -8,7 +8,7 @@ const OCTETS: u64 = 134_217_728;
 /// How many messages are read ahead, and by how many octets that ends before.
 const AHEAD: u32 = 8192;
 
-const AHEAD_OCTETS: u64 = 4_194_304;
+const AHEAD_OCTETS: u64 = 8_388_608;
 
 /// How many messages a part of them has, where several threads look for the places of one part while the next is split off. Their start
 /// takes as long as a thread needs for some thirty small messages.

@@ -93,16 +93,16 @@ const LONG_REST: Part = Part::Repeated(&[0], 99_813);
 const END: Part = Part::Text("7777");
 
 /// The first round of the third worker, and the first read behind the longest messages, wait for one another.
-const BEGINNING: &[Hold] = &[hold!(3, 1, 81), hold!(0, 81, 1)];
+const BEGINNING: &[Hold] = &[hold!(3, 1, 145), hold!(0, 145, 1)];
 
 const LENGTHY: &[Case] = &[Case {
-    size: 8_388_608,
+    size: 16_777_216,
     rows: &[
         BY_CENTRE,
-        // Five of the longest, of one key, of which the last four are as many octets as are read ahead; then two of the other
+        // Nine of the longest, of one key, of which the last eight are as many octets as are read ahead; then two of the other
         // dataset, before the last of which the longest are stored, so that their buffers are kept.
-        row!(STORED, words: WORKERS, input: &[LONGEST, LONGEST_REST, END, LONGEST, LONGEST_REST, END, LONGEST, LONGEST_REST, END, LONGEST, LONGEST_REST, END, LONGEST, LONGEST_REST, END, LONG, LONG_REST, END, LAST_LONG, LONG_REST, END], report: "archived 7 datasets 2 junk 0\n", holds: BEGINNING),
-        row!(BY_ONE, output: &[Part::Text("class=od,expver=0001,centre=98 entries 1 fields 1 keys 1 bytes 5243040\nclass=od,expver=0001,centre=99 entries 2 fields 2 keys 2 bytes 200064\n")]),
+        row!(STORED, words: WORKERS, input: &[LONGEST, LONGEST_REST, END, LONGEST, LONGEST_REST, END, LONGEST, LONGEST_REST, END, LONGEST, LONGEST_REST, END, LONGEST, LONGEST_REST, END, LONGEST, LONGEST_REST, END, LONGEST, LONGEST_REST, END, LONGEST, LONGEST_REST, END, LONGEST, LONGEST_REST, END, LONG, LONG_REST, END, LAST_LONG, LONG_REST, END], report: "archived 11 datasets 2 junk 0\n", holds: BEGINNING),
+        row!(BY_ONE, output: &[Part::Text("class=od,expver=0001,centre=98 entries 1 fields 1 keys 1 bytes 9437472\nclass=od,expver=0001,centre=99 entries 2 fields 2 keys 2 bytes 200064\n")]),
         row!(FOUND, input: &[Part::Text("retrieve,class=od,expver=0001,centre=99,date=20240101,time=00,type=1,levtype=100,param=0.0.0,step=6,levelist=100000")], output: &[LAST_LONG, LONG_REST, END]),
     ],
     ..LARGE
