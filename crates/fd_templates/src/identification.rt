@@ -47,10 +47,8 @@ impl Ident {
         // What was written is read again.
         ensures again { identification_of (identification_octets self.now) ≡ self.now }
     {
-        let ident = *self;
-        reads_again(ident);
-        let section = section(ident);
-        out.extend_from_slice(&section)?;
+        reads_again(*self);
+        out.extend_from_slice(&section(*self))?;
         Ok(())
     }
 }
