@@ -60,15 +60,13 @@ impl LatLon {
         Ok(numbers(message.grid()))
     }
 
-    /// Appends a section 3 of 72 octets with these numbers, its source of grid definition 0 and no optional list. After
-    /// `NoMemory` nothing has changed.
+    /// Appends a section 3 of 72 octets, of which these numbers are read again, its source of grid definition 0 and no optional
+    /// list. After `NoMemory` nothing has changed.
     pub fn write(&self, out: &mut Vec<u8>) -> Result<(), NoMemory>
         requires { Fits self.now }
         ensures ok { OnOk result (out.new.items ≡ out.old.items ++ grid_octets self.now) }
         ensures err { OnErr result (out.new.items ≡ out.old.items) }
-        // It is a section of this number and length.
         ensures section { IsSection 3 72 (grid_octets self.now) }
-        // What was written is read again.
         ensures again { grid_is (grid_octets self.now) ≡ Ok self.now }
     {
         reads_again(*self);

@@ -54,15 +54,13 @@ impl Product {
         Ok(numbers(message.product()))
     }
 
-    /// Appends a section 4 of 34 octets with these numbers. The coordinate values themselves are not written. After
-    /// `NoMemory` nothing has changed.
+    /// Appends a section 4 of 34 octets, of which these numbers are read again. The coordinate values themselves are not
+    /// written. After `NoMemory` nothing has changed.
     pub fn write(&self, out: &mut Vec<u8>) -> Result<(), NoMemory>
         requires { Fits self.now }
         ensures ok { OnOk result (out.new.items ≡ out.old.items ++ product_octets self.now) }
         ensures err { OnErr result (out.new.items ≡ out.old.items) }
-        // It is a section of this number and length.
         ensures section { IsSection 4 34 (product_octets self.now) }
-        // What was written is read again.
         ensures again { product_is (product_octets self.now) ≡ Ok self.now }
     {
         let alone = AnyProduct {

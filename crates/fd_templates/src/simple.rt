@@ -46,14 +46,12 @@ impl Simple {
         })
     }
 
-    /// Appends a section 5 of 21 octets with these numbers. After `NoMemory` nothing has changed.
+    /// Appends a section 5 of 21 octets, of which these numbers are read again. After `NoMemory` nothing has changed.
     pub fn write(&self, out: &mut Vec<u8>) -> Result<(), NoMemory>
         requires { Fits self.now }
         ensures ok { OnOk result (out.new.items ≡ out.old.items ++ simple_octets self.now) }
         ensures err { OnErr result (out.new.items ≡ out.old.items) }
-        // It is a section of this number and length.
         ensures section { IsSection 5 21 (simple_octets self.now) }
-        // What was written is read again.
         ensures again { simple_is (simple_octets self.now) ≡ Ok self.now }
     {
         reads_again(*self);
