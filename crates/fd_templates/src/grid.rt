@@ -51,7 +51,7 @@ pub struct LatLon {
 impl LatLon {
     /// The numbers of a message's section 3. `Other` comes exactly where the template isn't 0, and else `BadLength`
     /// exactly where the section has fewer than 72 octets. What follows these is not read. They fit their octets.
-    #[tactic(auto, using(crate::proofs::Whole::whole_grid))]
+    #[tactic(auto, using(crate::proofs::WholeLaws::whole_grid))]
     pub fn read(message: &Message) -> Result<LatLon, TemplateFault>
         ensures numbers { result ≡ grid_is (sections_of message.now).grid }
         ensures fits { IfOk result Fits }

@@ -45,7 +45,7 @@ pub struct Product {
 impl Product {
     /// The numbers of a message's section 4. `Other` comes exactly where the template isn't 0, and else `BadLength`
     /// exactly where the section has fewer than 34 octets. What follows these is not read. They fit their octets.
-    #[tactic(auto, using(crate::proofs::Whole::whole_product))]
+    #[tactic(auto, using(crate::proofs::WholeLaws::whole_product))]
     pub fn read(message: &Message) -> Result<Product, TemplateFault>
         ensures numbers { result ≡ product_is (sections_of message.now).product }
         ensures fits { IfOk result Fits }

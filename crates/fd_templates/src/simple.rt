@@ -29,7 +29,7 @@ pub struct Simple {
 impl Simple {
     /// The numbers of a message's section 5. `Other` comes exactly where the template isn't 0, and else `BadLength`
     /// exactly where the section has fewer than 21 octets. What follows these is not read. They fit their octets.
-    #[tactic(auto, using(crate::proofs::Whole::whole_simple))]
+    #[tactic(auto, using(crate::proofs::WholeLaws::whole_simple))]
     pub fn read(message: &Message) -> Result<Simple, TemplateFault>
         ensures numbers { result ≡ simple_is (sections_of message.now).representation }
         ensures fits { IfOk result Fits }

@@ -13,7 +13,7 @@ use Rattle.fd_templates.specs.Simple.{simple_is, simple_of}
 
 -- these numbers, where there is no fault
 abbrev pub where_whole : {A : Type 0} → A → Result (Unit {0}) TemplateFault → Result A TemplateFault
-where_whole a (Ok _) = Ok a
+where_whole a (Ok done) = Ok a
 where_whole a (Err fault) = Err fault
 
 choice : {A : Type 0} (zero short : Bool) (n t : ℕ) (a : A)
