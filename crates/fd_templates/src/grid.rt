@@ -56,12 +56,12 @@ impl LatLon {
         ensures numbers { result ≡ grid_is (sections_of message.now).grid }
         ensures fits { IfOk result Fits }
     {
-        check_whole(message.grid(), 13, 72)?;
-        Ok(numbers(message.grid()))
+        let section = message.grid();
+        check_whole(section, 13, 72)?;
+        Ok(numbers(section))
     }
 
-    /// Appends a section 3 of 72 octets, of which these numbers are read again, its source of grid definition 0 and no optional
-    /// list. After `NoMemory` nothing has changed.
+    /// Appends a section 3 of 72 octets, of source 0 and without a list, that reads as these numbers. After `NoMemory` nothing has changed.
     pub fn write(&self, out: &mut Vec<u8>) -> Result<(), NoMemory>
         requires { Fits self.now }
         ensures ok { OnOk result (out.new.items ≡ out.old.items ++ grid_octets self.now) }

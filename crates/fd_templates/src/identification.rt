@@ -38,7 +38,7 @@ impl Ident {
         numbers(message.identification())
     }
 
-    /// Appends a section 1 of 21 octets, of which these numbers are read again. After `NoMemory` nothing has changed.
+    /// Appends a section 1 of 21 octets, that reads as these numbers. After `NoMemory` nothing has changed.
     pub fn write(&self, out: &mut Vec<u8>) -> Result<(), NoMemory>
         ensures ok { OnOk result (out.new.items ≡ out.old.items ++ identification_octets self.now) }
         ensures err { OnErr result (out.new.items ≡ out.old.items) }

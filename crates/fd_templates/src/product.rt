@@ -50,12 +50,12 @@ impl Product {
         ensures numbers { result ≡ product_is (sections_of message.now).product }
         ensures fits { IfOk result Fits }
     {
-        check_whole(message.product(), 8, 34)?;
-        Ok(numbers(message.product()))
+        let section = message.product();
+        check_whole(section, 8, 34)?;
+        Ok(numbers(section))
     }
 
-    /// Appends a section 4 of 34 octets, of which these numbers are read again. The coordinate values themselves are not
-    /// written. After `NoMemory` nothing has changed.
+    /// Appends a section 4 of 34 octets, without coordinate values, that reads as these numbers. After `NoMemory` nothing has changed.
     pub fn write(&self, out: &mut Vec<u8>) -> Result<(), NoMemory>
         requires { Fits self.now }
         ensures ok { OnOk result (out.new.items ≡ out.old.items ++ product_octets self.now) }

@@ -46,7 +46,7 @@ impl Simple {
         })
     }
 
-    /// Appends a section 5 of 21 octets, of which these numbers are read again. After `NoMemory` nothing has changed.
+    /// Appends a section 5 of 21 octets, that reads as these numbers. After `NoMemory` nothing has changed.
     pub fn write(&self, out: &mut Vec<u8>) -> Result<(), NoMemory>
         requires { Fits self.now }
         ensures ok { OnOk result (out.new.items ≡ out.old.items ++ simple_octets self.now) }

@@ -1,5 +1,5 @@
 // A section that has the numbers of its template.
-ghost use Rattle.std.specs.Prelude.{◌≡◌, ◌≤◌, ◌+◌, length};
+ghost use Rattle.std.specs.Prelude.{◌≡◌, ◌≤◌, ◌+◌, length, OnOk};
 ghost use Rattle.fd_templates.specs.Whole.{whole};
 
 use crate::fault::TemplateFault;
@@ -10,7 +10,8 @@ use crate::octets::read_u16;
 pub fn check_whole(section: &[u8], first: usize, least: usize) -> Result<(), TemplateFault>
     requires from_one { 1 ≤ first }
     requires within { first + 1 ≤ length section.now }
-    ensures { result ≡ whole first least section.now }
+    ensures whole { result ≡ whole first least section.now }
+    ensures long { OnOk result (least ≤ length section.now) }
 {
     let template = read_u16(section, first);
     if template != 0 {
