@@ -2,9 +2,6 @@
 use Rattle.std.proofs.Common.{◌≡◌, ℕ, Bool, true, false, cond, eqb, ltb, List, length, Result, Ok, Err, refl}
 use Rattle.fd_templates.specs.declared.fault.TemplateFault.{TemplateFault}
 use Rattle.fd_templates.specs.declared.fault.TemplateFault.TheVariants.{Other, BadLength}
-use Rattle.fd_templates.specs.declared.grid.LatLon.{LatLon}
-use Rattle.fd_templates.specs.declared.product.Product.{Product}
-use Rattle.fd_templates.specs.declared.simple.Simple.{Simple}
 use Rattle.fd_templates.specs.Octets.{number}
 use Rattle.fd_templates.specs.Whole.{whole}
 use Rattle.fd_templates.specs.Grid.{grid_is, grid_of}
