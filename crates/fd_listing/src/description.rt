@@ -31,21 +31,10 @@ fn push_message(out: &mut String, number: u64, indicator: &[u8]) -> Result<(), N
 fn ident_numbers(ident: &Ident) -> [Option<i64>; 13]
     ensures { result ≡ ident_numbers ident.now }
 {
-    [
-        plain(u32::from(ident.centre)),
-        plain(u32::from(ident.sub_centre)),
-        plain(u32::from(ident.master_tables_version)),
-        plain(u32::from(ident.local_tables_version)),
-        plain(u32::from(ident.reference_time_significance)),
-        plain(u32::from(ident.year)),
-        plain(u32::from(ident.month)),
-        plain(u32::from(ident.day)),
-        plain(u32::from(ident.hour)),
-        plain(u32::from(ident.minute)),
-        plain(u32::from(ident.second)),
-        plain(u32::from(ident.production_status)),
-        plain(u32::from(ident.data_type)),
-    ]
+    plain_all!(
+        ident: centre, sub_centre, master_tables_version, local_tables_version, reference_time_significance,
+        year, month, day, hour, minute, second, production_status, data_type
+    )
 }
 
 /// The line of section 1.

@@ -1,6 +1,13 @@
 //! What messages hold, as lines of text.
 #![tactic(auto)]
 
+/// These numbers of one octet or two, none of which is missing.
+macro_rules! plain_all {
+    ($numbers:ident: $($name:ident),+) => {
+        [$(plain(u32::from($numbers.$name))),+]
+    };
+}
+
 mod description;
 mod fault;
 mod lines;

@@ -40,11 +40,7 @@ fn product_numbers(product: &Product) -> [Option<i64>; 15]
 fn ensemble_numbers(ensemble: &Ensemble) -> [Option<i64>; 3]
     ensures { result ≡ ensemble_numbers ensemble.now }
 {
-    [
-        plain(u32::from(ensemble.kind)),
-        plain(u32::from(ensemble.number)),
-        plain(u32::from(ensemble.size)),
-    ]
+    plain_all!(ensemble: kind, number, size)
 }
 
 /// Appends the numbers of an ensemble member, if there are any.

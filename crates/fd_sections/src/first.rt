@@ -45,20 +45,7 @@ fn first_at(stream: &[u8]) -> Result<Found<'_>, Bad>
     if have < 16 {
         return Ok(Found::Partial { have, want: 16 });
     }
-    let edition = octet(stream, 8);
-    if edition != 2 {
-        return Err(Bad::Edition(edition));
-    }
-    let said = total_length(stream);
-    if said > MAX_LENGTH {
-        return Err(Bad::TooLong { len: said });
-    }
-    if said < 16 {
-        return Err(Bad::Short {
-            section: 0,
-            len: said,
-        });
-    }
+    let said = long_of!(stream);
     if have < said {
         return Ok(Found::Partial { have, want: said });
     }

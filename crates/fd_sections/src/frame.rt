@@ -28,20 +28,7 @@ fn frame_at(stream: &[u8]) -> Result<FoundFrame<'_>, Bad>
     if have < 16 {
         return Ok(FoundFrame::Begun { have });
     }
-    let edition = octet(stream, 8);
-    if edition != 2 {
-        return Err(Bad::Edition(edition));
-    }
-    let said = total_length(stream);
-    if said > MAX_LENGTH {
-        return Err(Bad::TooLong { len: said });
-    }
-    if said < 16 {
-        return Err(Bad::Short {
-            section: 0,
-            len: said,
-        });
-    }
+    let said = long_of!(stream);
     if have < said {
         return Ok(FoundFrame::Begun { have });
     }

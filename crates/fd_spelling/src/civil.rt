@@ -59,9 +59,7 @@ pub fn date_text(alloc: Global, year: u32, month: u32, day: u32) -> Result<Strin
     ensures short { IfOk result (λ s. length (string_bytes s) ≤ 8) }
     ensures value { IfOk result (λ s. IsTrue (is_value (string_bytes s))) }
 {
-    let mut out = String::with_capacity(alloc, 8)?;
-    push_date(&mut out, year, month, day)?;
-    Ok(out)
+    text_of!(alloc, 8, push_date, year, month, day)
 }
 
 /// Appends `HHMM`, and `SS` behind it where the seconds aren't 0.
@@ -84,9 +82,7 @@ pub fn time_text(alloc: Global, hour: u32, minute: u32, second: u32) -> Result<S
     ensures short { IfOk result (λ s. length (string_bytes s) ≤ 6) }
     ensures value { IfOk result (λ s. IsTrue (is_value (string_bytes s))) }
 {
-    let mut out = String::with_capacity(alloc, 6)?;
-    push_time(&mut out, hour, minute, second)?;
-    Ok(out)
+    text_of!(alloc, 6, push_time, hour, minute, second)
 }
 
 /// The date whose year, month and day these digits write.
@@ -95,15 +91,9 @@ fn date_in(alloc: Global, year: &[u8], month: &[u8], day: &[u8]) -> Result<Strin
     ensures text { GivesText result (date_in year.now month.now day.now) }
     ensures value { IfOk result (λ s. IsTrue (is_value (string_bytes s))) }
 {
-    let Some(y) = number_up_to(year, 9999) else {
-        return Err(ValueFault::BadValue);
-    };
-    let Some(m) = number_up_to(month, 12) else {
-        return Err(ValueFault::BadValue);
-    };
-    let Some(d) = number_up_to(day, 31) else {
-        return Err(ValueFault::BadValue);
-    };
+    let y = within!(year, 9999);
+    let m = within!(month, 12);
+    let d = within!(day, 31);
     if !is_date(y, m, d) {
         return Err(ValueFault::BadValue);
     }
@@ -136,15 +126,9 @@ fn time_in(
     ensures text { GivesText result (time_in hours.now minutes.now seconds.now) }
     ensures value { IfOk result (λ s. IsTrue (is_value (string_bytes s))) }
 {
-    let Some(h) = number_up_to(hours, 23) else {
-        return Err(ValueFault::BadValue);
-    };
-    let Some(m) = number_up_to(minutes, 59) else {
-        return Err(ValueFault::BadValue);
-    };
-    let Some(s) = number_up_to(seconds, 59) else {
-        return Err(ValueFault::BadValue);
-    };
+    let h = within!(hours, 23);
+    let m = within!(minutes, 59);
+    let s = within!(seconds, 59);
     Ok(time_text(alloc, h, m, s)?)
 }
 

@@ -30,9 +30,7 @@ pub fn levtype_text(alloc: Global, first: u8, second: u8) -> Result<String, NoMe
     ensures short { IfOk result (λ s. length (string_bytes s) ≤ 32) }
     ensures value { IfOk result (λ s. IsTrue (is_value (string_bytes s))) }
 {
-    let mut out = String::with_capacity(alloc, 7)?;
-    push_levtype(&mut out, first, second)?;
-    Ok(out)
+    text_of!(alloc, 7, push_levtype, first, second)
 }
 
 /// The types that two texts write, in their one spelling.
@@ -41,12 +39,8 @@ fn types_in(alloc: Global, first: &[u8], second: &[u8]) -> Result<String, ValueF
     ensures text { GivesText result (types_in first.now second.now) }
     ensures value { IfOk result (λ s. IsTrue (is_value (string_bytes s))) }
 {
-    let Some(first) = number_up_to(first, 255) else {
-        return Err(ValueFault::BadValue);
-    };
-    let Some(second) = number_up_to(second, 255) else {
-        return Err(ValueFault::BadValue);
-    };
+    let first = within!(first, 255);
+    let second = within!(second, 255);
     Ok(levtype_text(alloc, first as u8, second as u8)?)
 }
 

@@ -1,6 +1,25 @@
 //! Values and their spellings: what the texts of a key's names are, each in its one spelling, in the manner of MARS.
 #![tactic(auto)]
 
+/// The number that these digits write, up to this one, or else the answer that they are no value.
+macro_rules! within {
+    ($digits:expr, $most:expr) => {
+        match number_up_to($digits, $most) {
+            Some(number) => number,
+            None => return Err(ValueFault::BadValue),
+        }
+    };
+}
+
+/// A text for which memory is asked, and what a function appends to it.
+macro_rules! text_of {
+    ($alloc:expr, $room:expr, $push:ident, $($given:expr),+) => {{
+        let mut out = String::with_capacity($alloc, $room)?;
+        $push(&mut out, $($given),+)?;
+        Ok(out)
+    }};
+}
+
 mod civil;
 mod fault;
 mod levels;

@@ -28,31 +28,29 @@ pub enum Meaning {
     Other,
 }
 
+/// The meaning behind the name that a text is, or another.
+macro_rules! named {
+    ($text:expr, $($name:expr => $meaning:ident),+; $other:ident) => {
+        $(if $text == $name { Meaning::$meaning } else)+ { Meaning::$other }
+    };
+}
+
 /// What a name in lower case stands for.
 pub fn meaning_of(name: &str) -> Meaning
     ensures { result ≡ meaning_of name.now }
 {
-    if name == "centre" {
-        Meaning::Centre
-    } else if name == "date" {
-        Meaning::Date
-    } else if name == "time" {
-        Meaning::Time
-    } else if name == "type" {
-        Meaning::ProcessedType
-    } else if name == "param" {
-        Meaning::Param
-    } else if name == "levtype" {
-        Meaning::Levtype
-    } else if name == "levelist" {
-        Meaning::Levelist
-    } else if name == "step" {
-        Meaning::Step
-    } else if name == "number" {
-        Meaning::Number
-    } else if name == "stat" {
-        Meaning::Stat
-    } else {
-        Meaning::Other
-    }
+    named!(
+        name,
+        "centre" => Centre,
+        "date" => Date,
+        "time" => Time,
+        "type" => ProcessedType,
+        "param" => Param,
+        "levtype" => Levtype,
+        "levelist" => Levelist,
+        "step" => Step,
+        "number" => Number,
+        "stat" => Stat;
+        Other
+    )
 }

@@ -77,9 +77,7 @@ pub fn step_text(alloc: Global, negative: bool, number: u64, unit: u8) -> Result
     ensures short { IfOk result (λ s. length (string_bytes s) ≤ 24) }
     ensures value { IfOk result (λ s. IsTrue (is_value (string_bytes s))) }
 {
-    let mut out = String::with_capacity(alloc, 24)?;
-    push_step(&mut out, negative, number, unit)?;
-    Ok(out)
+    text_of!(alloc, 24, push_step, negative, number, unit)
 }
 
 /// The unit that stands behind a number.

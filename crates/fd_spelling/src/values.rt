@@ -19,9 +19,7 @@ pub fn number_text(alloc: Global, number: u32) -> Result<String, NoMemory>
     ensures short { IfOk result (λ s. length (string_bytes s) ≤ 10) }
     ensures value { IfOk result (λ s. IsTrue (is_value (string_bytes s))) }
 {
-    let mut out = String::with_capacity(alloc, 10)?;
-    push_number(&mut out, number)?;
-    Ok(out)
+    text_of!(alloc, 10, push_number, number)
 }
 
 /// A number up to this one, without leading zeros.
@@ -29,9 +27,7 @@ fn number_spelling(alloc: Global, text: &[u8], most: u32) -> Result<String, Valu
     ensures text { GivesText result (option_map decimal (number_up_to most text.now)) }
     ensures value { IfOk result (λ s. IsTrue (is_value (string_bytes s))) }
 {
-    let Some(number) = number_up_to(text, most) else {
-        return Err(ValueFault::BadValue);
-    };
+    let number = within!(text, most);
     Ok(number_text(alloc, number)?)
 }
 
@@ -60,9 +56,7 @@ pub fn param_text(alloc: Global, d: u8, c: u8, n: u8) -> Result<String, NoMemory
     ensures short { IfOk result (λ s. length (string_bytes s) ≤ 32) }
     ensures value { IfOk result (λ s. IsTrue (is_value (string_bytes s))) }
 {
-    let mut out = String::with_capacity(alloc, 11)?;
-    push_param(&mut out, d, c, n)?;
-    Ok(out)
+    text_of!(alloc, 11, push_param, d, c, n)
 }
 
 /// Three numbers up to 255 with points between them.

@@ -1,4 +1,5 @@
 pub mod Octets
+pub mod Whole
 pub mod Identification
 pub mod Grid
 pub mod Product

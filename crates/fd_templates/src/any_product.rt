@@ -32,10 +32,9 @@ pub fn product_template(message: &Message) -> u16
 impl AnyProduct {
     /// The numbers of a message's section 4. `Template` has `Other` exactly where the template is none of 0, 1, 8 and 11, and
     /// else `BadLength` exactly where the section has fewer than 34, 37, 46 + 12n or 49 + 12n octets, with n ranges, also where it
-    /// lacks the octet that says n. What follows these is not read.
+    /// lacks the octet that says n. What follows these is not read. They fit their octets.
     pub fn read(alloc: Global, message: &Message) -> Result<AnyProduct, AnyFault>
         ensures numbers { GivesAny result (any_product_is (sections_of message.now).product) }
-        // They fit their octets.
         ensures fits { IfOk result (λ p. Fits p.base) }
     {
         read_section(alloc, message.product())
@@ -53,16 +52,14 @@ impl AnyProduct {
         }
     }
 
-    /// Appends a section 4 with these numbers, of 34, 37, 46 + 12n or 49 + 12n octets, with n ranges. The coordinate values
-    /// themselves are not written. After `NoMemory` nothing has changed.
+    /// Appends a section 4 of 34, 37, 46 + 12n or 49 + 12n octets, with n ranges, of which these numbers are read again. The
+    /// coordinate values themselves are not written. After `NoMemory` nothing has changed.
     #[tactic(auto, using(crate::proofs::Growing::cut_back))]
     pub fn write(&self, out: &mut Vec<u8>) -> Result<(), NoMemory>
         requires { Fits self.now.base }
         ensures ok { OnOk result (out.new.items ≡ out.old.items ++ any_octets self.now) }
         ensures err { OnErr result (out.new.items ≡ out.old.items) }
-        // It is a section of this number and length.
         ensures section { IsSection 4 (34 + length (added_octets self.now)) (any_octets self.now) }
-        // What was written is read again.
         ensures again { any_product_is (any_octets self.now) ≡ Ok self.now }
     {
         self.reads_again();

@@ -5,8 +5,9 @@ ghost use Rattle.fd_templates.specs.{Grid.{grid_is, grid_of, grid_octets, header
 use crate::fault::TemplateFault;
 use crate::octets::{
     i8_or_ones, i32_octets, i32_or_ones, read_i8_or_missing, read_i32, read_i32_or_missing,
-    read_u8, read_u16, read_u32, read_u32_or_missing, u32_or_ones,
+    read_u8, read_u32, read_u32_or_missing, u32_or_ones,
 };
+use crate::whole::check_whole;
 use fd_bytes::NoMemory;
 use fd_sections::Message;
 
@@ -49,50 +50,29 @@ pub struct LatLon {
 
 impl LatLon {
     /// The numbers of a message's section 3. `Other` comes exactly where the template isn't 0, and else `BadLength`
-    /// exactly where the section has fewer than 72 octets. What follows these is not read.
+    /// exactly where the section has fewer than 72 octets. What follows these is not read. They fit their octets.
+    #[tactic(auto, using(crate::proofs::WholeLaws::whole_grid))]
     pub fn read(message: &Message) -> Result<LatLon, TemplateFault>
         ensures numbers { result ≡ grid_is (sections_of message.now).grid }
-        // They fit their octets.
         ensures fits { IfOk result Fits }
     {
-        read_section(message.grid())
+        let section = message.grid();
+        check_whole(section, 13, 72)?;
+        Ok(numbers(section))
     }
 
-    /// Appends a section 3 of 72 octets with these numbers, its source of grid definition 0 and no optional list. After
-    /// `NoMemory` nothing has changed.
+    /// Appends a section 3 of 72 octets, of source 0 and without a list, that reads as these numbers. After `NoMemory` nothing has changed.
     pub fn write(&self, out: &mut Vec<u8>) -> Result<(), NoMemory>
         requires { Fits self.now }
         ensures ok { OnOk result (out.new.items ≡ out.old.items ++ grid_octets self.now) }
         ensures err { OnErr result (out.new.items ≡ out.old.items) }
-        // It is a section of this number and length.
         ensures section { IsSection 3 72 (grid_octets self.now) }
-        // What was written is read again.
         ensures again { grid_is (grid_octets self.now) ≡ Ok self.now }
     {
-        let grid = *self;
-        reads_again(grid);
-        let section = section(grid);
-        out.extend_from_slice(&section)?;
+        reads_again(*self);
+        out.extend_from_slice(&section(*self))?;
         Ok(())
     }
-}
-
-#[tactic(auto, unfolding(crate::specs::Grid::grid_is))]
-fn read_section(section: &[u8]) -> Result<LatLon, TemplateFault>
-    requires { 14 ≤ length section.now }
-    ensures numbers { result ≡ grid_is section.now }
-    ensures fits { IfOk result Fits }
-{
-    let template = read_u16(section, 13);
-    if template != 0 {
-        return Err(TemplateFault::Other(template));
-    }
-    if section.len() < 72 {
-        return Err(TemplateFault::BadLength {
-            said: section.len() as u64,
-        });
-    }
-    Ok(numbers(section))
 }
 
 fn numbers(section: &[u8]) -> LatLon

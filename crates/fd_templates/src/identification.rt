@@ -38,19 +38,15 @@ impl Ident {
         numbers(message.identification())
     }
 
-    /// Appends a section 1 of 21 octets with these numbers. After `NoMemory` nothing has changed.
+    /// Appends a section 1 of 21 octets, that reads as these numbers. After `NoMemory` nothing has changed.
     pub fn write(&self, out: &mut Vec<u8>) -> Result<(), NoMemory>
         ensures ok { OnOk result (out.new.items ≡ out.old.items ++ identification_octets self.now) }
         ensures err { OnErr result (out.new.items ≡ out.old.items) }
-        // It is a section of this number and length.
         ensures section { IsSection 1 21 (identification_octets self.now) }
-        // What was written is read again.
         ensures again { identification_of (identification_octets self.now) ≡ self.now }
     {
-        let ident = *self;
-        reads_again(ident);
-        let section = section(ident);
-        out.extend_from_slice(&section)?;
+        reads_again(*self);
+        out.extend_from_slice(&section(*self))?;
         Ok(())
     }
 }

@@ -12,6 +12,7 @@ mod interval;
 mod octets;
 mod product;
 mod simple;
+mod whole;
 
 pub use any_product::{AnyProduct, product_template};
 pub use ensemble::Ensemble;

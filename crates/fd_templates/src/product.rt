@@ -1,12 +1,14 @@
 ghost use Rattle.std.specs.Prelude.{◌≡◌, ◌≤◌, ◌++◌, length, OnOk, OnErr, IfOk, Ok};
 ghost use Rattle.fd_sections.specs.{Message.{IsSection}, Parts.{sections_of}};
-ghost use Rattle.fd_templates.specs.Product.{product_is, product_of, product_octets, header_octets, process_octets, time_octets, surface_octets, Fits};
+ghost use Rattle.fd_templates.specs.Product.{product_is, product_of, product_octets, process_octets, time_octets, surface_octets, Fits};
 
+use crate::any_product::AnyProduct;
 use crate::fault::TemplateFault;
 use crate::octets::{
     i8_or_ones, i32_octets, i32_or_ones, read_i8_or_missing, read_i32, read_i32_or_missing,
     read_u8, read_u16,
 };
+use crate::whole::check_whole;
 use fd_bytes::NoMemory;
 use fd_sections::Message;
 
@@ -42,50 +44,33 @@ pub struct Product {
 
 impl Product {
     /// The numbers of a message's section 4. `Other` comes exactly where the template isn't 0, and else `BadLength`
-    /// exactly where the section has fewer than 34 octets. What follows these is not read.
+    /// exactly where the section has fewer than 34 octets. What follows these is not read. They fit their octets.
+    #[tactic(auto, using(crate::proofs::WholeLaws::whole_product))]
     pub fn read(message: &Message) -> Result<Product, TemplateFault>
         ensures numbers { result ≡ product_is (sections_of message.now).product }
-        // They fit their octets.
         ensures fits { IfOk result Fits }
     {
-        read_section(message.product())
+        let section = message.product();
+        check_whole(section, 8, 34)?;
+        Ok(numbers(section))
     }
 
-    /// Appends a section 4 of 34 octets with these numbers. The coordinate values themselves are not written. After
-    /// `NoMemory` nothing has changed.
+    /// Appends a section 4 of 34 octets, without coordinate values, that reads as these numbers. After `NoMemory` nothing has changed.
     pub fn write(&self, out: &mut Vec<u8>) -> Result<(), NoMemory>
         requires { Fits self.now }
         ensures ok { OnOk result (out.new.items ≡ out.old.items ++ product_octets self.now) }
         ensures err { OnErr result (out.new.items ≡ out.old.items) }
-        // It is a section of this number and length.
         ensures section { IsSection 4 34 (product_octets self.now) }
-        // What was written is read again.
         ensures again { product_is (product_octets self.now) ≡ Ok self.now }
     {
-        let product = *self;
-        reads_again(product);
-        let section = section(product);
-        out.extend_from_slice(&section)?;
-        Ok(())
+        let alone = AnyProduct {
+            base: *self,
+            ensemble: None,
+            interval: None,
+        };
+        reads_again(*self);
+        alone.write(out)
     }
-}
-
-#[tactic(auto, unfolding(crate::specs::Product::product_is))]
-fn read_section(section: &[u8]) -> Result<Product, TemplateFault>
-    requires { 9 ≤ length section.now }
-    ensures numbers { result ≡ product_is section.now }
-    ensures fits { IfOk result Fits }
-{
-    let template = read_u16(section, 8);
-    if template != 0 {
-        return Err(TemplateFault::Other(template));
-    }
-    if section.len() < 34 {
-        return Err(TemplateFault::BadLength {
-            said: section.len() as u64,
-        });
-    }
-    Ok(numbers(section))
 }
 
 pub(crate) fn numbers(section: &[u8]) -> Product
@@ -111,14 +96,6 @@ pub(crate) fn numbers(section: &[u8]) -> Product
         second_surface_factor: read_i8_or_missing(section, 30),
         second_surface_value: read_i32_or_missing(section, 31),
     }
-}
-
-/// What stands before the template.
-fn header(product: Product) -> [u8; 9]
-    ensures { result ≡ header_octets product }
-{
-    let coordinates = product.coordinates.to_be_bytes();
-    [0, 0, 0, 34, 4, coordinates[0], coordinates[1], 0, 0]
 }
 
 /// The quantity, and what made it.
@@ -176,20 +153,6 @@ pub(crate) fn surfaces(product: Product) -> [u8; 12]
         second[2],
         second[3],
     ]
-}
-
-/// The section with these numbers.
-#[tactic(auto, unfolding(crate::specs::Octets::octets_of, crate::specs::Octets::signed_octets, crate::specs::Octets::signed_or_ones, crate::specs::Product::header_octets, crate::specs::Product::process_octets, crate::specs::Product::time_octets, crate::specs::Product::surface_octets))]
-fn section(product: Product) -> [u8; 34]
-    requires { Fits product }
-    ensures { result ≡ product_octets product }
-{
-    let mut section = [0; 34];
-    section[..9].copy_from_slice(&header(product));
-    section[9..14].copy_from_slice(&process(product));
-    section[14..22].copy_from_slice(&time(product));
-    section[22..].copy_from_slice(&surfaces(product));
-    section
 }
 
 /// The section that is written for these numbers has these numbers.

@@ -1,9 +1,10 @@
-ghost use Rattle.std.specs.Prelude.{◌≡◌, ◌≤◌, ◌++◌, length, OnOk, OnErr, IfOk, Ok};
+ghost use Rattle.std.specs.Prelude.{◌≡◌, ◌++◌, OnOk, OnErr, IfOk, Ok};
 ghost use Rattle.fd_sections.specs.{Message.{IsSection}, Parts.{sections_of}};
-ghost use Rattle.fd_templates.specs.Simple.{simple_is, simple_of, simple_octets, header_octets, packing_octets, Fits};
+ghost use Rattle.fd_templates.specs.Simple.{simple_is, simple_octets, header_octets, packing_octets, Fits};
 
 use crate::fault::TemplateFault;
-use crate::octets::{i16_octets, read_i16, read_u8, read_u16, read_u32};
+use crate::octets::{i16_octets, read_i16, read_u8, read_u32};
+use crate::whole::check_whole;
 use fd_bytes::NoMemory;
 use fd_sections::Message;
 
@@ -27,63 +28,35 @@ pub struct Simple {
 
 impl Simple {
     /// The numbers of a message's section 5. `Other` comes exactly where the template isn't 0, and else `BadLength`
-    /// exactly where the section has fewer than 21 octets. What follows these is not read.
+    /// exactly where the section has fewer than 21 octets. What follows these is not read. They fit their octets.
+    #[tactic(auto, using(crate::proofs::WholeLaws::whole_simple))]
     pub fn read(message: &Message) -> Result<Simple, TemplateFault>
         ensures numbers { result ≡ simple_is (sections_of message.now).representation }
-        // They fit their octets.
         ensures fits { IfOk result Fits }
     {
-        read_section(message.representation())
+        let section = message.representation();
+        check_whole(section, 10, 21)?;
+        Ok(Simple {
+            coded: read_u32(section, 6),
+            reference: read_u32(section, 12),
+            binary_scale: read_i16(section, 16),
+            decimal_scale: read_i16(section, 18),
+            bits: read_u8(section, 20),
+            original_type: read_u8(section, 21),
+        })
     }
 
-    /// Appends a section 5 of 21 octets with these numbers. After `NoMemory` nothing has changed.
+    /// Appends a section 5 of 21 octets, that reads as these numbers. After `NoMemory` nothing has changed.
     pub fn write(&self, out: &mut Vec<u8>) -> Result<(), NoMemory>
         requires { Fits self.now }
         ensures ok { OnOk result (out.new.items ≡ out.old.items ++ simple_octets self.now) }
         ensures err { OnErr result (out.new.items ≡ out.old.items) }
-        // It is a section of this number and length.
         ensures section { IsSection 5 21 (simple_octets self.now) }
-        // What was written is read again.
         ensures again { simple_is (simple_octets self.now) ≡ Ok self.now }
     {
-        let simple = *self;
-        reads_again(simple);
-        let section = section(simple);
-        out.extend_from_slice(&section)?;
+        reads_again(*self);
+        out.extend_from_slice(&section(*self))?;
         Ok(())
-    }
-}
-
-#[tactic(auto, unfolding(crate::specs::Simple::simple_is))]
-fn read_section(section: &[u8]) -> Result<Simple, TemplateFault>
-    requires { 11 ≤ length section.now }
-    ensures numbers { result ≡ simple_is section.now }
-    ensures fits { IfOk result Fits }
-{
-    let template = read_u16(section, 10);
-    if template != 0 {
-        return Err(TemplateFault::Other(template));
-    }
-    if section.len() < 21 {
-        return Err(TemplateFault::BadLength {
-            said: section.len() as u64,
-        });
-    }
-    Ok(numbers(section))
-}
-
-fn numbers(section: &[u8]) -> Simple
-    requires { 21 ≤ length section.now }
-    ensures numbers { result ≡ simple_of section.now }
-    ensures fits { Fits result }
-{
-    Simple {
-        coded: read_u32(section, 6),
-        reference: read_u32(section, 12),
-        binary_scale: read_i16(section, 16),
-        decimal_scale: read_i16(section, 18),
-        bits: read_u8(section, 20),
-        original_type: read_u8(section, 21),
     }
 }
 
