@@ -9,7 +9,7 @@ use Rattle.std.proofs.lemmas.List.{length-map}
 use Rattle.fd_spelling.specs.Names.{is_name, is_name_byte, lower}
 use Rattle.fd_tokens.specs.Tokens.{Piece, Part, parts, tokens}
 use Rattle.fd_tokens.proofs.Places.{Ends, AllEnd, PartEnds, PartsEnd, tokens_end, parts_end}
-use Rattle.fd_schema.specs.Grammar.{spelled}
+use Rattle.fd_spelling.specs.Texts.{spelled}
 use Rattle.fd_request.specs.declared.fault.Refusal.{Refusal}
 use Rattle.fd_request.specs.declared.fault.Refusal.TheVariants as refusals
 use Rattle.fd_request.specs.Reading.{Fails}

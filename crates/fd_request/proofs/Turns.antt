@@ -12,7 +12,7 @@ use Rattle.std.proofs.lemmas.Bool.{and_parts, and_from}
 use Rattle.std.proofs.lemmas.List.{at_drop_more, at_drop_all, map_push, append-nil}
 use Rattle.fd_spelling.specs.Names.{is_value}
 use Rattle.fd_tokens.specs.Tokens.{Part}
-use Rattle.fd_schema.specs.Seen.{texts}
+use Rattle.fd_spelling.specs.Texts.{texts}
 use Rattle.fd_request.specs.declared.word.Word as code_word
 use Rattle.fd_request.specs.declared.keyword.Keyword as code_keyword
 use Rattle.fd_request.specs.declared.fault.Refusal.{Refusal}

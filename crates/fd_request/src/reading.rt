@@ -2,7 +2,7 @@
 ghost use Rattle.std.specs.Prelude.{◌≡◌, ◌<◌, ◌≤◌, ◌+◌, [], ◌∷◌, ℕ, IsTrue, true, false, IfOk, option_map, Option, length, drop, string_bytes};
 ghost use Rattle.fd_spelling.specs.Names.{is_name, is_value, lower};
 ghost use Rattle.fd_tokens.specs.Tokens.{view, views, parts, tokens};
-ghost use Rattle.fd_schema.specs.Seen.{texts};
+ghost use Rattle.fd_spelling.specs.Texts.{texts};
 ghost use Rattle.fd_request.specs.{Ranges.{range_of}, Grammar.{marks, each_of, verb_of, value_of, value_in, values_of, range_or, word_texts, behind_words, led, has_name, behind_name, name_of, keyword_of, keyword_in, request_in, keywords_of}, Seen.{seen_word, seen_words}, Values.{seen_values, AreValues}, Keywords.{seen_keyword, seen_keywords, differ_after}, Reading.{Gives}};
 
 use crate::fault::{Refusal, RequestKind};
@@ -14,7 +14,7 @@ use crate::word::{
 };
 use fd_bytes::NoMemory;
 use fd_key::is_name;
-use fd_schema::{name_end, name_text, spelled};
+use fd_spelling::{name_end, name_text, spelled};
 use fd_tokens::{Token, part_from, tokens_of};
 use std::alloc::Global;
 

@@ -1,31 +1,17 @@
 // The items of a level.
-ghost use Rattle.std.specs.{Prelude.{◌≡◌, ◌≤◌, IsTrue, length, string_bytes}, List.{prefix_len}};
-ghost use Rattle.fd_spelling.specs.Names.{is_name, is_name_byte};
+ghost use Rattle.std.specs.Prelude.{◌≡◌, ◌≤◌, length, string_bytes};
 ghost use Rattle.fd_tokens.specs.Tokens.{view, views};
 ghost use Rattle.fd_schema.specs.{Rules.{has_name}, Grammar.{name_of, want_of, item_of, items_of, level_of, is_bracket, bracket_place, behind, front}, Seen.{seen_items, seen_item, seen_want}, Reading.{Gives}};
 
 use crate::fault::{Refusal, Wrong};
 use crate::rule::{Item, Level, Version, Want};
-use crate::values::{absent, ascii_text, values};
-use fd_key::{is_name, is_name_byte};
+use crate::values::{absent, values};
+use fd_spelling::{is_name, name_end, name_text};
 use fd_tokens::{Token, is_token, part_from};
 use std::alloc::Global;
 
 /// The most names of a rule.
 const NAMES: usize = 32;
-
-/// How many bytes of a name stand at the front.
-pub fn name_end(text: &[u8]) -> usize
-    ensures value { result ≡ prefix_len is_name_byte text.now }
-    ensures within { result ≤ length text.now }
-{
-    for (i, b) in text.iter().enumerate() {
-        if !is_name_byte(*b) {
-            return i;
-        }
-    }
-    text.len()
-}
 
 /// Tells that a rule has the name.
 pub(crate) fn has_name(items: &[Item], name: &str) -> bool
@@ -37,17 +23,6 @@ pub(crate) fn has_name(items: &[Item], name: &str) -> bool
         }
     }
     false
-}
-
-/// A name as a text.
-pub fn name_text(name: &[u8]) -> &str
-    requires { IsTrue (is_name name.now) }
-    ensures { result.now ≡ name.now }
-{
-    match ascii_text(name) {
-        Some(text) => text,
-        None => "",
-    }
 }
 
 /// The name that a token is, in a rule that has these items before it.

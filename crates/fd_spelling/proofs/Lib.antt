@@ -1,5 +1,6 @@
 pub mod Digits
 pub mod AsciiLaws
+pub mod AsciiTexts
 pub mod Zeros
 pub mod PieceLaws
 mod Rows
