@@ -1,8 +1,8 @@
 -- Requests whole.
 use Rattle.std.proofs.Common.{◌≡◌, ℕ, ◌<◌, ◌≤◌, Bool, true, false, cond, ltb, List, length, Option, Some, None, Result, Ok, Err, codes, refl, ap, subst, ◌∙◌, sym, arith}
 use Rattle.std.proofs.lemmas.Bool.{cond-true, cond-false, lt-ltb, le-ltb}
-use Rattle.fd_request.specs.declared.fault.Refusal.{Refusal}
-use Rattle.fd_request.specs.declared.fault.Refusal.TheVariants as refusals
+use Rattle.fd_tokens.specs.declared.refusal.Refusal.{Refusal}
+use Rattle.fd_tokens.specs.declared.refusal.Refusal.TheVariants as refusals
 use Rattle.fd_request.specs.declared.fault.RequestKind.{RequestKind}
 use Rattle.fd_request.specs.declared.fault.RequestFault.{RequestFault}
 use Rattle.fd_request.specs.declared.fault.RequestFault.TheVariants as faults
@@ -72,17 +72,17 @@ large_limits end ks large = go (too_many 1 ks)
         length_go true = cond-false (ltb end 65536) (wrong end (KeyTooLong (longest_key (expand ks)))) (wrong 65536 TooLong) (le-ltb end 65536 (omega arith))
         length_go false = refl
 
-goes_on : (e : Refusal) (r : Result (List Keyword) Fault) (f : List Keyword → Result (List Keyword) Fault) → Fails e r → Fails e (r >>= f)
+goes_on : (e : Refusal RequestKind) (r : Result (List Keyword) Fault) (f : List Keyword → Result (List Keyword) Fault) → Fails e r → Fails e (r >>= f)
 goes_on refusals.NoMemory r f h = tt
 goes_on (refusals.At at kind) r f h = ap (λ (x : Result (List Keyword) Fault). x >>= f) h
 
-pub reading_place : (e : Refusal) (verb text : List ℕ) → Fails e (keywords_of verb text) → IsPlace (length text) e
+pub reading_place : (e : Refusal RequestKind) (verb text : List ℕ) → Fails e (keywords_of verb text) → IsPlace (length text) e
 reading_place e verb text h = fails_within (length text) e (keywords_of verb text) h (places_within verb text)
 
-pub limit_place : (e : Refusal) (end : ℕ) (ks : List Keyword) → Fails e (within_limits end ks) → IsPlace end e
+pub limit_place : (e : Refusal RequestKind) (end : ℕ) (ks : List Keyword) → Fails e (within_limits end ks) → IsPlace end e
 limit_place e end ks h = fails_within end e (within_limits end ks) h (limits_are end ks)
 
-pub reading_refused : (text : List ℕ) (e : Refusal) (fault : RequestFault) → Fails e (keywords_of (codes "retrieve") text) → IsFaultOf (length text) e fault → GivesKeywords (Err fault) (request_of text)
+pub reading_refused : (text : List ℕ) (e : Refusal RequestKind) (fault : RequestFault) → Fails e (keywords_of (codes "retrieve") text) → IsFaultOf (length text) e fault → GivesKeywords (Err fault) (request_of text)
 unfolding request_of
 reading_refused text e fault h is = is (keywords_of (codes "retrieve") text >>= λ ks. within_limits (length text) ks) (goes_on e (keywords_of (codes "retrieve") text) (λ ks. within_limits (length text) ks) h)
 
@@ -93,7 +93,7 @@ size_refused text ks fault large h is =
     ∙ ap (λ (x : Result (List Keyword) Fault). too_long (x >>= λ ks. within_limits (length text) ks)) h ∙ large_limits (length text) ks large in
     subst (λ (r : Result (List Keyword) Fault). GivesKeywords (Err fault) r) (sym all) is
 
-pub limit_refused : (text : List ℕ) (ks : List Keyword) (e : Refusal) (fault : RequestFault) → keywords_of (codes "retrieve") text ≡ Ok ks → Fails e (within_limits (length text) ks) → IsFaultOf (length text) e fault → GivesKeywords (Err fault) (request_of text)
+pub limit_refused : (text : List ℕ) (ks : List Keyword) (e : Refusal RequestKind) (fault : RequestFault) → keywords_of (codes "retrieve") text ≡ Ok ks → Fails e (within_limits (length text) ks) → IsFaultOf (length text) e fault → GivesKeywords (Err fault) (request_of text)
 unfolding request_of
 limit_refused text ks e fault h f is =
     let goes = ap (λ (x : Result (List Keyword) Fault). x >>= λ ks. within_limits (length text) ks) (sym h) in
@@ -107,7 +107,7 @@ request_is text ks le h f =
 
 -- ---- partial requests
 
-pub partial_refused : (text : List ℕ) (e : Refusal) (fault : RequestFault) → Fails e (keywords_of (codes "list") text) → IsFaultOf (length text) e fault → GivesKeywords (Err fault) (partial_of text)
+pub partial_refused : (text : List ℕ) (e : Refusal RequestKind) (fault : RequestFault) → Fails e (keywords_of (codes "list") text) → IsFaultOf (length text) e fault → GivesKeywords (Err fault) (partial_of text)
 unfolding partial_of
 partial_refused text e fault h is = is (keywords_of (codes "list") text) h
 

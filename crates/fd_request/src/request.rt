@@ -1,12 +1,13 @@
 ghost use Rattle.std.specs.Prelude.{◌≡◌, ◌<◌, ◌≤◌, [], Some, IfOk, true, length, slice_get};
 ghost use Rattle.fd_request.specs.{Expansion.{expand}, Grammar.{wrong, TooLong}, Limits.{request_of}, Keywords.{seen_keywords, differ_after}, Reading.{GivesKeywords}, Requests.{IsPlace, IsFaultOf}, Spelled.{IsSpelled}};
 
-use crate::fault::{Refusal, RequestFault, RequestKind};
+use crate::fault::{RequestFault, RequestKind};
 use crate::keyword::Keyword;
 use crate::limits::count_of;
 use crate::reading::keywords_of;
 use fd_bytes::NoMemory;
 use fd_key::Key;
+use fd_tokens::Refusal;
 use std::alloc::Global;
 use std::marker::Model;
 
@@ -42,7 +43,7 @@ pub(crate) fn too_long() -> RequestFault
 }
 
 /// The fault that a refusal is in a text of this size.
-pub(crate) fn refused(size: usize, refusal: Refusal) -> RequestFault
+pub(crate) fn refused(size: usize, refusal: Refusal<RequestKind>) -> RequestFault
     requires { IsPlace size refusal }
     ensures { IsFaultOf size refusal result }
 {

@@ -3,7 +3,7 @@ ghost use Rattle.fd_key.specs.Pairs.{key_text};
 ghost use Rattle.fd_schema.specs.{Rules.{IsShort, place_from}, Grammar.{marks, written, version_behind, version_of, rules_in, schema_of}, Seen.{seen_rules}, Printed.{schema_text}, Reading.{Gives, GivesSchema, GivesPlace, Names, line_of, seen_place, seen_wrong}};
 ghost use Rattle.fd_tokens.specs.Tokens.{view, views};
 
-use crate::fault::{PlaceFault, Refusal, SchemaFault, SchemaKind, Wrong};
+use crate::fault::{PlaceFault, SchemaFault, SchemaKind, Wrong};
 use crate::grammar::rules_of;
 use crate::place::{Place, has_place, place_of};
 use crate::plain::plain;
@@ -11,7 +11,7 @@ use crate::printed::text_of;
 use crate::rule::{Rule, Version};
 use fd_bytes::NoMemory;
 use fd_key::Key;
-use fd_tokens::{Token, tokens_of};
+use fd_tokens::{Refusal, Token, tokens_of};
 use std::alloc::Global;
 use std::marker::Model;
 
@@ -118,7 +118,7 @@ fn written<'a>(text: &'a [u8], token: &Token) -> &'a [u8]
 fn version_behind<'s, 't>(
     at: usize,
     tokens: &'s [Token<'t>],
-) -> Result<(Version, &'s [Token<'t>]), Refusal>
+) -> Result<(Version, &'s [Token<'t>]), Refusal<Wrong>>
     ensures { Gives (λ v. (v.0, views v.1.now)) result (version_behind at (views tokens.now)) }
 {
     match tokens {
@@ -138,7 +138,7 @@ fn version_behind<'s, 't>(
 fn version_of<'s, 't>(
     text: &[u8],
     tokens: &'s [Token<'t>],
-) -> Result<(Version, &'s [Token<'t>]), Refusal>
+) -> Result<(Version, &'s [Token<'t>]), Refusal<Wrong>>
     ensures { Gives (λ v. (v.0, views v.1.now)) result (version_of text.now (views tokens.now)) }
 {
     match tokens {
@@ -155,7 +155,7 @@ fn version_of<'s, 't>(
 
 /// The rules of a text that isn't too long, which may be none, or the first place that is wrong.
 #[tactic(auto, unfolding(crate::specs::Grammar::rules_in))]
-fn rules_in(alloc: Global, text: &[u8]) -> Result<Vec<Rule>, Refusal>
+fn rules_in(alloc: Global, text: &[u8]) -> Result<Vec<Rule>, Refusal<Wrong>>
     ensures rules { Gives (λ v. seen_rules v.items) result (rules_in text.now) }
     ensures few { IfOk result (λ v. length v.items ≤ 256) }
 {
@@ -173,7 +173,7 @@ fn rules_in(alloc: Global, text: &[u8]) -> Result<Vec<Rule>, Refusal>
 
 /// The rules of a text that isn't too long, or the first place that is wrong.
 #[tactic(auto, unfolding(crate::specs::Grammar::schema_of))]
-fn some_rules(alloc: Global, text: &[u8]) -> Result<Vec<Rule>, Refusal>
+fn some_rules(alloc: Global, text: &[u8]) -> Result<Vec<Rule>, Refusal<Wrong>>
     requires { length text.now ≤ 65536 }
     ensures rules { Gives (λ v. seen_rules v.items) result (schema_of text.now) }
     ensures few { IfOk result (λ v. length v.items ≤ 256) }

@@ -4,16 +4,16 @@ ghost use Rattle.fd_spelling.specs.{Names.{is_value}, Texts.{texts}};
 ghost use Rattle.fd_tokens.specs.Tokens.{view, views};
 ghost use Rattle.fd_schema.specs.{Grammar.{absent, begins_value, spelled_in, plain_value, value_of, values_of}, Reading.{Gives, Fails}};
 
-use crate::fault::{Refusal, Wrong};
+use crate::fault::Wrong;
 use crate::place::has_meaning;
 use crate::rule::Version;
 use fd_bytes::NoMemory;
 use fd_spelling::{ascii_text, is_value, is_value_byte, spelled};
-use fd_tokens::{Token, part_from};
+use fd_tokens::{Refusal, Token, part_from};
 use std::alloc::Global;
 
 /// Where something is wanted, this stands: a byte, or the end of the text, which is a token without bytes.
-pub(crate) fn absent(stop: &Token) -> Refusal
+pub(crate) fn absent(stop: &Token) -> Refusal<Wrong>
     ensures { Fails {Y = ℕ} result (absent (view stop.now)) }
 {
     if stop.text.is_empty() {
@@ -77,7 +77,7 @@ fn value(
     name: &str,
     stop: &Token,
     tokens: &[Token],
-) -> Result<String, Refusal>
+) -> Result<String, Refusal<Wrong>>
     ensures { Gives string_bytes result (value_of version name.now (view stop.now) (views tokens.now)) }
 {
     let [first, others @ ..] = tokens else {
@@ -102,7 +102,7 @@ pub(crate) fn values<'s, 't>(
     name: &str,
     stop: &'s Token<'t>,
     tokens: &'s [Token<'t>],
-) -> Result<Vec<String>, Refusal>
+) -> Result<Vec<String>, Refusal<Wrong>>
     ensures { Gives (λ v. texts v.items) result (values_of version name.now (view stop.now) (views tokens.now)) }
 {
     let mut values = Vec::new(alloc);
