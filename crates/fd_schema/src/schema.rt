@@ -43,15 +43,15 @@ impl Model for Schema {
     ghost invariant = { λ s. (length s.rules.items ≤ 256) × IsSchema (seen_rules s.rules.items) };
 }
 
-/// What stands before a place.
-fn before(text: &[u8], at: usize) -> &[u8]
-    ensures { result.now ≡ take at text.now }
+/// What stands before a place, and from it on.
+fn cut_at(text: &[u8], at: usize) -> (&[u8], &[u8])
+    ensures before { result.0.now ≡ take at text.now }
+    ensures behind { result.1.now ≡ drop at text.now }
 {
     if at < text.len() {
-        let (front, _) = text.split_at(at);
-        front
+        text.split_at(at)
     } else {
-        text
+        (text, b"".as_slice())
     }
 }
 
@@ -67,7 +67,8 @@ fn line_of(text: &[u8], at: usize) -> u32
     requires { length text.now ≤ 65536 }
     ensures { result ≡ line_of text.now at }
 {
-    1 + line_feeds(before(text, at)) as u32
+    let (before, _) = cut_at(text, at);
+    1 + line_feeds(before) as u32
 }
 
 /// The byte at a place, or 0.
@@ -95,23 +96,13 @@ fn kind_of(wrong: Wrong, byte: u8) -> SchemaKind
     }
 }
 
-/// What stands from a place on.
-fn from(text: &[u8], at: usize) -> &[u8]
-    ensures { result.now ≡ drop at text.now }
-{
-    if at < text.len() {
-        let (_, behind) = text.split_at(at);
-        behind
-    } else {
-        b""
-    }
-}
-
 /// A token as it is written in the text.
 fn written<'a>(text: &'a [u8], token: &Token) -> &'a [u8]
     ensures { result.now ≡ written text.now (view token.now) }
 {
-    before(from(text, token.at), token.text.len())
+    let (_, behind) = cut_at(text, token.at);
+    let (written, _) = cut_at(behind, token.text.len());
+    written
 }
 
 /// The version behind the word `version`, which stands at this place, and the tokens behind it.
