@@ -8,7 +8,7 @@ use Rattle.fd_spelling.specs.Names.{is_name, is_name_byte, is_value}
 use Rattle.fd_spelling.specs.Canonical.{canonical}
 use Rattle.fd_spelling.specs.Texts.{is_ascii, spelled}
 use Rattle.fd_spelling.proofs.AsciiLaws.{value_is_ascii}
-use Rattle.fd_spelling.proofs.Spelled.{spelled_again}
+use Rattle.fd_spelling.proofs.Spellings.{spelled_again}
 use Rattle.fd_schema.specs.declared.rule.Level.{Level}
 use Rattle.fd_schema.specs.declared.rule.Level.TheVariants.{Dataset, Index, Datum}
 use Rattle.fd_schema.specs.declared.rule.Version.{Version}

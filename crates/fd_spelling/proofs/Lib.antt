@@ -13,4 +13,4 @@ pub mod Shorter
 pub mod ShortTexts
 pub mod StatLaws
 pub mod AgainStats
-pub mod Spelled
+pub mod Spellings
