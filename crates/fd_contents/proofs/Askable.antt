@@ -2,7 +2,7 @@
 use Rattle.std.proofs.Common.{◌≡◌, ◌∙◌, ◌≤◌, ℕ, Bool, true, false, true≢false, ◌||◌, cond, List, [], ◌∷◌, length, Some, None, is_some, refl, sym, ap, subst, nat_lt, inl, inr}
 use Rattle.std.specs.Prelude.{option_map, slice_get, ◌+◌, drop, map, Ok, Err, Result, IfOk, Vec, String}
 use Rattle.std.specs.declared.alloc.Global.{Global}
-use Rattle.fd_schema.specs.Seen.{texts}
+use Rattle.fd_spelling.specs.Texts.{texts}
 use Rattle.std.specs.List.Sorted.{IsPermutation}
 use Rattle.std.specs.List.{All}
 use Rattle.std.proofs.lemmas.Bool.{cond-false, le-ltb}

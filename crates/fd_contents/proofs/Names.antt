@@ -11,7 +11,7 @@ use Rattle.std.proofs.lemmas.Cmp.{nat_list_cmp_total}
 use Rattle.std.proofs.lemmas.Slice.Eq.{bytes_eq-Decides}
 use Rattle.fd_disk.specs.Folders.{Holdings}
 use Rattle.fd_disk.proofs.NameLemmas.{is_or_not}
-use Rattle.fd_schema.specs.Seen.{texts}
+use Rattle.fd_spelling.specs.Texts.{texts}
 use Rattle.fd_outcome.specs.Asking.{is_among}
 use Rattle.fd_outcome.specs.Rows.{order}
 use Rattle.fd_outcome.specs.Store.{AreNames}

@@ -1,7 +1,7 @@
 // The keys of all datasets that a partial request asks for.
 ghost use Rattle.std.specs.Prelude.{◌≡◌, ◌≤◌, [], ◌∷◌, List, ℕ, false, IfOk, IfErr, IfSome, OnOk, length};
 ghost use Rattle.fd_disk.specs.Folders.{Holdings, WhereTold, folder_at};
-ghost use Rattle.fd_schema.specs.Seen.{texts};
+ghost use Rattle.fd_spelling.specs.Texts.{texts};
 ghost use Rattle.fd_segment.specs.Causes.{OnDamaged};
 ghost use Rattle.fd_recovery.specs.Recovered.{IsUndamaged};
 ghost use Rattle.fd_inventory.specs.Indexes.{IsAmongBad};

@@ -1,7 +1,7 @@
 // What is told of the keys that were found: their cubes as lines, or why there are none.
 ghost use Rattle.std.specs.{Prelude.{◌≡◌, ◌≤◌, ◌≢◌, IfOk, MatchOption, None, Some, length}, List.{All, AllPairs}};
 ghost use Rattle.fd_request.specs.Grammar.{is_range_word};
-ghost use Rattle.fd_schema.specs.Seen.{texts};
+ghost use Rattle.fd_spelling.specs.Texts.{texts};
 ghost use Rattle.fd_cubes.specs.Cubes.{IsAskable};
 ghost use Rattle.fd_outcome.specs.Causes as causes;
 ghost use Rattle.fd_outcome.specs.{Causes.{telling}, Cubing.{first_ranged, is_ranged, keys_refusal}, Told.{ToldOrNoMemory}};

@@ -10,7 +10,7 @@ use Rattle.std.proofs.lemmas.List.Elements.{recursion_from_All, All-from_recursi
 use Rattle.std.proofs.lemmas.List.Sorted.{IsPermutation-trans, IsPermutation-append_right, IsPermutation-append_comm, All-permutation, length_permutation}
 use Rattle.fd_request.proofs.Products.{length-expand}
 use Rattle.fd_key.specs.Pairs.{Pair, key_text}
-use Rattle.fd_schema.specs.Seen.{texts}
+use Rattle.fd_spelling.specs.Texts.{texts}
 use Rattle.fd_request.specs.Expansion.{Keyword, expand}
 use Rattle.fd_cubes.specs.declared.axis.Axis as code_axis
 use Rattle.fd_cubes.specs.declared.grid.Grid as code_grid

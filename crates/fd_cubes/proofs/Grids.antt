@@ -10,7 +10,7 @@ use Rattle.fd_request.specs.Expansion.{Keyword, each_before, expand}
 use Rattle.fd_request.specs.Keywords.{differ_after}
 use Rattle.fd_cubes.specs.declared.axis.Axis as code_axis
 use Rattle.fd_cubes.specs.declared.grid.Grid as code_grid
-use Rattle.fd_schema.specs.Seen.{texts}
+use Rattle.fd_spelling.specs.Texts.{texts}
 use Rattle.fd_cubes.specs.Cubes.{IsPlain, IsAskable, alone, cube_text, keys_of}
 use Rattle.fd_cubes.specs.Axes.{AreSorted, IsFilled, with_values, values_at, SameBut, width, seen_axis, seen_axes}
 use Rattle.fd_cubes.specs.Grids.{seen_grid, seen_grids, IsGrid, Joins, Takes, Regroups}

@@ -5,7 +5,7 @@ use Rattle.std.specs.declared.alloc.Global.{Global}
 use Rattle.std.proofs.lemmas.List.{map_more, length-map, length-take, at_drop_more, at_drop_all, get_or-map}
 use Rattle.std.proofs.lemmas.Bool.{eq-eqb, ne_eqb, cond-true}
 use Rattle.std.proofs.lemmas.Bool.Decides.{nat_tests}
-use Rattle.fd_schema.specs.Seen.{texts}
+use Rattle.fd_spelling.specs.Texts.{texts}
 use Rattle.fd_key.specs.Pairs.{Pair}
 use Rattle.fd_request.specs.Expansion.{Keyword}
 use Rattle.fd_cubes.specs.declared.axis.Axis as code_axis

@@ -9,7 +9,7 @@ use Rattle.std.specs.Ordering.{is_ge, is_lt}
 use Rattle.std.specs.declared.alloc.Global.{Global}
 use Rattle.std.proofs.lemmas.Bool.{cases_eq, cases_lt}
 use Rattle.std.proofs.lemmas.List.{get_or_append_left, get_or-append_right, get_or-map, length-map}
-use Rattle.fd_schema.specs.Seen.{texts}
+use Rattle.fd_spelling.specs.Texts.{texts}
 use Rattle.fd_request.specs.Expansion.{Keyword}
 use Rattle.fd_cubes.specs.Axes.{AreSorted, values_at, with_values}
 use Rattle.fd_cubes.specs.Cubes.{order}

@@ -7,7 +7,7 @@ use Rattle.std.specs.Ordering.{nat_cmp}
 use Rattle.std.specs.Cmp.Lexicographic.{slice_cmp}
 use Rattle.fd_spelling.specs.Names.{is_name, is_value}
 use Rattle.fd_key.specs.Pairs.{Pair, key_text}
-use Rattle.fd_schema.specs.Grammar.{spelled}
+use Rattle.fd_spelling.specs.Texts.{spelled}
 use Rattle.fd_request.specs.Expansion.{Keyword, expand}
 use Rattle.fd_request.specs.Grammar.{is_range_word}
 use Rattle.fd_request.specs.Keywords.{differ_after}

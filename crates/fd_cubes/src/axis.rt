@@ -1,6 +1,6 @@
 // Names with their values.
 ghost use Rattle.std.specs.{Prelude.{◌≡◌, ◌-◌, ◌^◌, ◌++◌, ◌∷◌, ◌↔◌, [], IsTrue, IfOk, OnOk, min}, List.Sorted.{IsPermutation}};
-ghost use Rattle.fd_schema.specs.Seen.{texts};
+ghost use Rattle.fd_spelling.specs.Texts.{texts};
 ghost use Rattle.fd_cubes.specs.Axes.{AreSorted, SameBut, seen_axis, seen_axes, values_at, width};
 
 use fd_bytes::NoMemory;

@@ -1,5 +1,5 @@
 ghost use Rattle.std.specs.{Prelude.{◌≡◌, ◌≤◌, ◌++◌, ◌∷◌, IfOk, OnOk, Ok, List, length, string_bytes}, List.{All}};
-ghost use Rattle.fd_schema.specs.Seen.{texts};
+ghost use Rattle.fd_spelling.specs.Texts.{texts};
 ghost use Rattle.fd_request.specs.{Expansion.{expand}, Limits.{request_of}};
 ghost use Rattle.fd_cubes.specs.{Cubes.{cube_text, more_values, values_text}, Axes.{IsFilled, seen_axes}};
 

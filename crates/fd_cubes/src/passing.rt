@@ -1,6 +1,6 @@
 // The cubes that differ in the values of one name, joined.
 ghost use Rattle.std.specs.{Prelude.{◌≡◌, ◌<◌, ◌++◌, ◌∷◌, [], IfOk, IfSome, IsTrue, List, None, OnOk, Some, cond, false, if◌then◌else◌, length, slice_get, string_bytes, ℕ}, List.{All}, List.Sorted.{IsPermutation}, Str.{bytes_eq}};
-ghost use Rattle.fd_schema.specs.Seen.{texts};
+ghost use Rattle.fd_spelling.specs.Texts.{texts};
 ghost use Rattle.fd_cubes.specs.declared.grid.Grid as code_grid;
 ghost use Rattle.fd_cubes.specs.{Axes.{code, seen_axes, values_code, with_values}, Grids.{IsGrid, IsNoting, IsSettled, NoneTakes, PassesTo, Puts, Takes, noted, rest_of}};
 

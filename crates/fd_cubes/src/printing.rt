@@ -1,6 +1,6 @@
 // Cubes as lines.
 ghost use Rattle.std.specs.{Prelude.{IfOk, map}, List.Sorted.{IsPermutation}};
-ghost use Rattle.fd_schema.specs.Seen.{texts};
+ghost use Rattle.fd_spelling.specs.Texts.{texts};
 ghost use Rattle.fd_cubes.specs.{Axes.{AreSorted}, Cubes.{cube_text}};
 
 use crate::cube::Cube;

@@ -9,7 +9,7 @@ use Rattle.fd_key.specs.Pairs as keys
 use Rattle.fd_key.specs.Pairs.{key_text, text_of}
 use Rattle.fd_key.specs.Given.{pieces_of}
 use Rattle.fd_spelling.specs.Numerals.{cut, ◌>>=◌}
-use Rattle.fd_schema.specs.Grammar.{is_ascii}
+use Rattle.fd_spelling.specs.Texts.{is_ascii}
 use Rattle.fd_request.specs.Expansion.{Keyword}
 use Rattle.fd_outcome.specs.Asking.{is_among}
 use Rattle.fd_outcome.specs.Rows.{Row, Stored, axes_text, axis_lines, if_new, if_pair, if_short, index_lines, indexes, matches, names_in, of_index, order, put, put_by, put_matching, put_names, put_value, row_of, row_order, rows, rows_from, rows_of_batch, stored, stored_at, values_in, with_piece, with_pieces, with_text}

@@ -14,8 +14,8 @@ use Rattle.fd_spelling.specs.Names.{is_name}
 use Rattle.fd_spelling.specs.Numerals.{cut, ◌>>=◌}
 use Rattle.fd_spelling.proofs.AsciiLaws.{value_is_ascii}
 use Rattle.fd_spelling.proofs.PieceLaws.{cut_lengths}
-use Rattle.fd_spelling.proofs.Spelled.{spelled_again}
-use Rattle.fd_schema.specs.Grammar.{is_ascii}
+use Rattle.fd_spelling.proofs.Spellings.{spelled_again}
+use Rattle.fd_spelling.specs.Texts.{is_ascii}
 use Rattle.fd_request.specs.Expansion.{Keyword}
 use Rattle.fd_request.specs.Grammar.{has_name}
 use Rattle.fd_request.specs.Keywords.{differ_after}

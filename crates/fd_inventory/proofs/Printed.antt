@@ -6,7 +6,7 @@ use Rattle.fd_io.specs.Streams.{Takes}
 use Rattle.fd_listing.specs.Lines.{line}
 use Rattle.fd_listing.specs.Sinks.{TakesAllBut}
 use Rattle.fd_listing.proofs.Taking.{all_taken, one_more}
-use Rattle.fd_schema.specs.Seen.{texts}
+use Rattle.fd_spelling.specs.Texts.{texts}
 use Rattle.fd_inventory.specs.Written.{text_lines}
 
 no_lines : text_lines [] ≡ []

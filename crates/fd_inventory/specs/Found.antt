@@ -6,7 +6,7 @@ use Rattle.std.specs.declared.alloc.Global.{Global}
 use Rattle.fd_spelling.specs.Names.{is_name, is_value}
 use Rattle.fd_key.specs.Pairs as keys
 use Rattle.fd_key.specs.Pairs.{key_text}
-use Rattle.fd_schema.specs.Grammar.{spelled}
+use Rattle.fd_spelling.specs.Texts.{spelled}
 use Rattle.fd_request.specs.Keywords.{differ_after}
 use Rattle.fd_cubes.specs.Cubes.{alone}
 use Rattle.fd_inventory.specs.Shown.{Kept, kept, shown}

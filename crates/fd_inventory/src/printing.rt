@@ -2,7 +2,7 @@
 ghost use Rattle.std.specs.Prelude.{◌≡◌, ◌++◌, OnErr, OnOk, string_bytes};
 ghost use Rattle.fd_io.specs.Streams.{Takes, TakesFront};
 ghost use Rattle.fd_listing.specs.{Lines.{line}, Sinks.{HasSinkCause}};
-ghost use Rattle.fd_schema.specs.Seen as schemas;
+ghost use Rattle.fd_spelling.specs.Texts as spellings;
 ghost use Rattle.fd_inventory.specs.Written.{text_lines};
 
 use fd_bytes::NoMemory;
@@ -27,8 +27,8 @@ pub fn write_lines<X, K: Sink<X>>(
     texts: &[String],
     sink: &mut K,
 ) -> Result<(), TextFault<X>>
-    ensures took { OnOk result (Takes (K.taken sink.old) (K.taken sink.new) (text_lines (schemas.texts texts.now))) }
-    ensures front { OnErr result (TakesFront (K.taken sink.old) (K.taken sink.new) (text_lines (schemas.texts texts.now))) }
+    ensures took { OnOk result (Takes (K.taken sink.old) (K.taken sink.new) (text_lines (spellings.texts texts.now))) }
+    ensures front { OnErr result (TakesFront (K.taken sink.old) (K.taken sink.new) (text_lines (spellings.texts texts.now))) }
     ensures cause { HasSinkCause result (K.faults sink.old) (K.faults sink.new) }
 {
     let mut lines = String::new(alloc);

@@ -6,8 +6,7 @@ ghost use Rattle.fd_inventory.specs.Keys.{IsStored};
 
 use fd_bytes::NoMemory;
 use fd_key::{Key, ValueFault, canonical, is_name};
-use fd_schema::ascii_text;
-use fd_spelling::comma_piece;
+use fd_spelling::{ascii_text, comma_piece};
 use std::alloc::Global;
 
 /// A key that a partial request may ask for: the texts of its index and its datum, and the pairs of all three levels.

@@ -16,7 +16,7 @@ use Rattle.fd_key.specs.Pairs.{text_of, key_text}
 use Rattle.fd_entries.specs.declared.batch.Pair.{Pair}
 use Rattle.fd_entries.specs.declared.table.Entry.{Entry}
 use Rattle.fd_entries.specs.Batches.{or_older, newest, has_key}
-use Rattle.fd_schema.specs.Grammar.{is_ascii}
+use Rattle.fd_spelling.specs.Texts.{is_ascii}
 use Rattle.fd_request.specs.Expansion.{Keyword}
 use Rattle.fd_listing.specs.Lines.{blank, line}
 

@@ -9,9 +9,10 @@ use Rattle.std.proofs.lemmas.List.{length-map}
 use Rattle.fd_spelling.specs.Names.{is_name, is_name_byte, lower}
 use Rattle.fd_tokens.specs.Tokens.{Piece, Part, parts, tokens}
 use Rattle.fd_tokens.proofs.Places.{Ends, AllEnd, PartEnds, PartsEnd, tokens_end, parts_end}
-use Rattle.fd_schema.specs.Grammar.{spelled}
-use Rattle.fd_request.specs.declared.fault.Refusal.{Refusal}
-use Rattle.fd_request.specs.declared.fault.Refusal.TheVariants as refusals
+use Rattle.fd_spelling.specs.Texts.{spelled}
+use Rattle.fd_request.specs.declared.fault.RequestKind.{RequestKind}
+use Rattle.fd_tokens.specs.declared.refusal.Refusal.{Refusal}
+use Rattle.fd_tokens.specs.declared.refusal.Refusal.TheVariants as refusals
 use Rattle.fd_request.specs.Reading.{Fails}
 use Rattle.fd_request.specs.Requests.{IsPlace}
 use Rattle.fd_request.specs.Expansion.{Keyword}
@@ -208,6 +209,6 @@ places_within verb text =
 
 -- ---- refusals
 
-pub fails_within : {A : Type 0} (n : ℕ) (e : Refusal) (r : Result A Fault) → Fails e r → Within n r → IsPlace n e
+pub fails_within : {A : Type 0} (n : ℕ) (e : Refusal RequestKind) (r : Result A Fault) → Fails e r → Within n r → IsPlace n e
 fails_within n refusals.NoMemory r h w = tt
 fails_within {A} n (refusals.At at kind) r h w = let P : Result A Fault → Type 0 = λ x. Within n x in subst P h w

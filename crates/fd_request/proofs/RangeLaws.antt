@@ -16,7 +16,7 @@ use Rattle.fd_spelling.specs.Civil.{date_text, time_text}
 use Rattle.fd_spelling.proofs.Digits.{numerals}
 use Rattle.fd_spelling.specs.Names.{is_value}
 use Rattle.fd_spelling.proofs.ValueLaws.{date_is_value, time_is_value}
-use Rattle.fd_schema.specs.Seen.{texts}
+use Rattle.fd_spelling.specs.Texts.{texts}
 use Rattle.fd_request.specs.declared.range.Range as code_range
 use Rattle.fd_request.specs.Ranges.{End, Number, Hour, OnDay, place, same_kind, distance, distance_if, later, text_behind, values_from}
 use Rattle.fd_request.specs.Limits.{longest_text}

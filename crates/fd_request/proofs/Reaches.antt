@@ -13,7 +13,7 @@ use Rattle.fd_spelling.specs.declared.meaning.Meaning.TheVariants as meanings
 use Rattle.fd_spelling.specs.Names.{meaning_of}
 use Rattle.fd_spelling.specs.Numerals.{number_up_to, ◌>>=◌}
 use Rattle.fd_spelling.specs.Civil.{month_days, is_date}
-use Rattle.fd_schema.specs.Grammar.{spelled}
+use Rattle.fd_spelling.specs.Texts.{spelled}
 use Rattle.fd_request.specs.Ranges.{Day, End, Number, Hour, OnDay, next_day, later, whole, signed_whole, hour_of, day_if, day_of, end_in, end_of, place, distance, text_behind, values_from, above_zero, step_of, between}
 use Rattle.fd_request.specs.Behind.{end_behind}
 use Rattle.fd_request.specs.Reached.{IsRange}

@@ -1,13 +1,13 @@
 -- Requests whole.
 use Rattle.std.proofs.Common.{◌≡◌, ℕ, ◌<◌, ◌≤◌, Bool, true, false, cond, ltb, List, length, Option, Some, None, Result, Ok, Err, codes, refl, ap, subst, ◌∙◌, sym, arith}
-use Rattle.std.proofs.lemmas.Bool.{cond-true, cond-false, lt-ltb, le-ltb}
-use Rattle.fd_request.specs.declared.fault.Refusal.{Refusal}
-use Rattle.fd_request.specs.declared.fault.Refusal.TheVariants as refusals
+use Rattle.std.proofs.lemmas.Bool.{cond-true, cond-false, lt-ltb, le-ltb, ltb-true, ltb-false}
+use Rattle.fd_tokens.specs.declared.refusal.Refusal.{Refusal}
+use Rattle.fd_tokens.specs.declared.refusal.Refusal.TheVariants as refusals
 use Rattle.fd_request.specs.declared.fault.RequestKind.{RequestKind}
 use Rattle.fd_request.specs.declared.fault.RequestFault.{RequestFault}
 use Rattle.fd_request.specs.declared.fault.RequestFault.TheVariants as faults
 use Rattle.fd_request.specs.Expansion.{Keyword, expand}
-use Rattle.fd_request.specs.Grammar.{Fault, ◌>>=◌, wrong, TooLong, TooMany, KeyTooLong, keywords_of}
+use Rattle.fd_request.specs.Grammar.{Wrong, Fault, ◌>>=◌, wrong, TooLong, TooMany, KeyTooLong, keywords_of}
 use Rattle.fd_request.specs.Limits.{too_many, longest_key, within_count, within_limits, too_long, within_size, request_of, partial_of}
 use Rattle.fd_request.specs.Reading.{Fails, GivesKeywords, seen_kind}
 use Rattle.fd_request.specs.Requests.{IsFaultOf, IsPlace}
@@ -72,28 +72,39 @@ large_limits end ks large = go (too_many 1 ks)
         length_go true = cond-false (ltb end 65536) (wrong end (KeyTooLong (longest_key (expand ks)))) (wrong 65536 TooLong) (le-ltb end 65536 (omega arith))
         length_go false = refl
 
-goes_on : (e : Refusal) (r : Result (List Keyword) Fault) (f : List Keyword → Result (List Keyword) Fault) → Fails e r → Fails e (r >>= f)
+goes_on : (e : Refusal RequestKind) (r : Result (List Keyword) Fault) (f : List Keyword → Result (List Keyword) Fault) → Fails e r → Fails e (r >>= f)
 goes_on refusals.NoMemory r f h = tt
 goes_on (refusals.At at kind) r f h = ap (λ (x : Result (List Keyword) Fault). x >>= f) h
 
-pub reading_place : (e : Refusal) (verb text : List ℕ) → Fails e (keywords_of verb text) → IsPlace (length text) e
+pub reading_place : (e : Refusal RequestKind) (verb text : List ℕ) → Fails e (keywords_of verb text) → IsPlace (length text) e
 reading_place e verb text h = fails_within (length text) e (keywords_of verb text) h (places_within verb text)
 
-pub limit_place : (e : Refusal) (end : ℕ) (ks : List Keyword) → Fails e (within_limits end ks) → IsPlace end e
+pub limit_place : (e : Refusal RequestKind) (end : ℕ) (ks : List Keyword) → Fails e (within_limits end ks) → IsPlace end e
 limit_place e end ks h = fails_within end e (within_limits end ks) h (limits_are end ks)
 
-pub reading_refused : (text : List ℕ) (e : Refusal) (fault : RequestFault) → Fails e (keywords_of (codes "retrieve") text) → IsFaultOf (length text) e fault → GivesKeywords (Err fault) (request_of text)
-unfolding request_of
-reading_refused text e fault h is = is (keywords_of (codes "retrieve") text >>= λ ks. within_limits (length text) ks) (goes_on e (keywords_of (codes "retrieve") text) (λ ks. within_limits (length text) ks) h)
+-- what is refused before the limits
+still : (n : ℕ) (read : Result (List Keyword) Fault) (at : ℕ) (kind : Wrong) → within_size n read ≡ wrong at kind → within_size n (read >>= λ ks. within_limits n ks) ≡ wrong at kind
+still n (Err f) at kind h = h
+still n (Ok ks) at kind h = by (ltb 65536 n) refl
+  where
+    by : (b : Bool) → ltb 65536 n ≡ b → within_size n (within_limits n ks) ≡ wrong at kind
+    by true e =
+        let lt = ltb-true 65536 n e in
+        large_size n (within_limits n ks) lt ∙ large_limits n ks lt ∙ sym (large_size n (Ok ks) lt) ∙ h
+    by false e =
+        let k : Ok ks ≡ wrong at kind = sym (small_size n (Ok ks) (ltb-false 65536 n e)) ∙ h in
+        absurd (cc k)
 
-pub size_refused : (text : List ℕ) (ks : List Keyword) (fault : RequestFault) → 65536 < length text → keywords_of (codes "retrieve") text ≡ Ok ks → GivesKeywords (Err fault) (wrong 65536 TooLong) → GivesKeywords (Err fault) (request_of text)
+pub keywords_refused : (text : List ℕ) (fault : RequestFault) → GivesKeywords (Err fault) (within_size (length text) (keywords_of (codes "retrieve") text)) → GivesKeywords (Err fault) (request_of text)
 unfolding request_of
-size_refused text ks fault large h is =
-    let all = large_size (length text) (keywords_of (codes "retrieve") text >>= λ ks. within_limits (length text) ks) large
-    ∙ ap (λ (x : Result (List Keyword) Fault). too_long (x >>= λ ks. within_limits (length text) ks)) h ∙ large_limits (length text) ks large in
-    subst (λ (r : Result (List Keyword) Fault). GivesKeywords (Err fault) r) (sym all) is
+keywords_refused text (faults.At at kind) h = still (length text) (keywords_of (codes "retrieve") text) at (seen_kind kind) h
+keywords_refused text faults.NoMemory h = tt
 
-pub limit_refused : (text : List ℕ) (ks : List Keyword) (e : Refusal) (fault : RequestFault) → keywords_of (codes "retrieve") text ≡ Ok ks → Fails e (within_limits (length text) ks) → IsFaultOf (length text) e fault → GivesKeywords (Err fault) (request_of text)
+pub size_refused : (size : ℕ) (read : Result (List Keyword) Fault) (ks : List Keyword) (fault : RequestFault) → 65536 < size → read ≡ Ok ks → GivesKeywords (Err fault) (wrong 65536 TooLong) → GivesKeywords (Err fault) (within_size size read)
+size_refused size read ks fault large h is =
+    subst (λ (r : Result (List Keyword) Fault). GivesKeywords (Err fault) r) (sym (large_size size read large ∙ ap too_long h)) is
+
+pub limit_refused : (text : List ℕ) (ks : List Keyword) (e : Refusal RequestKind) (fault : RequestFault) → keywords_of (codes "retrieve") text ≡ Ok ks → Fails e (within_limits (length text) ks) → IsFaultOf (length text) e fault → GivesKeywords (Err fault) (request_of text)
 unfolding request_of
 limit_refused text ks e fault h f is =
     let goes = ap (λ (x : Result (List Keyword) Fault). x >>= λ ks. within_limits (length text) ks) (sym h) in
@@ -107,14 +118,9 @@ request_is text ks le h f =
 
 -- ---- partial requests
 
-pub partial_refused : (text : List ℕ) (e : Refusal) (fault : RequestFault) → Fails e (keywords_of (codes "list") text) → IsFaultOf (length text) e fault → GivesKeywords (Err fault) (partial_of text)
+pub partial_refused : (text : List ℕ) (fault : RequestFault) → GivesKeywords (Err fault) (within_size (length text) (keywords_of (codes "list") text)) → GivesKeywords (Err fault) (partial_of text)
 unfolding partial_of
-partial_refused text e fault h is = is (keywords_of (codes "list") text) h
-
-pub partial_too_long : (text : List ℕ) (ks : List Keyword) (fault : RequestFault) → 65536 < length text → keywords_of (codes "list") text ≡ Ok ks → GivesKeywords (Err fault) (wrong 65536 TooLong) → GivesKeywords (Err fault) (partial_of text)
-unfolding partial_of
-partial_too_long text ks fault large h is =
-    subst (λ (r : Result (List Keyword) Fault). GivesKeywords (Err fault) r) (sym (large_size (length text) (keywords_of (codes "list") text) large ∙ ap too_long h)) is
+partial_refused text fault h = h
 
 pub partial_is : (text : List ℕ) (ks : List Keyword) → length text ≤ 65536 → keywords_of (codes "list") text ≡ Ok ks → partial_of text ≡ Ok ks
 unfolding partial_of

@@ -12,11 +12,12 @@ use Rattle.std.proofs.lemmas.Bool.{and_parts, and_from}
 use Rattle.std.proofs.lemmas.List.{at_drop_more, at_drop_all, map_push, append-nil}
 use Rattle.fd_spelling.specs.Names.{is_value}
 use Rattle.fd_tokens.specs.Tokens.{Part}
-use Rattle.fd_schema.specs.Seen.{texts}
+use Rattle.fd_spelling.specs.Texts.{texts}
 use Rattle.fd_request.specs.declared.word.Word as code_word
 use Rattle.fd_request.specs.declared.keyword.Keyword as code_keyword
-use Rattle.fd_request.specs.declared.fault.Refusal.{Refusal}
-use Rattle.fd_request.specs.declared.fault.Refusal.TheVariants as refusals
+use Rattle.fd_request.specs.declared.fault.RequestKind.{RequestKind}
+use Rattle.fd_tokens.specs.declared.refusal.Refusal.{Refusal}
+use Rattle.fd_tokens.specs.declared.refusal.Refusal.TheVariants as refusals
 use Rattle.fd_request.specs.Expansion.{Keyword}
 use Rattle.fd_request.specs.Grammar.{Fault, each_of, value_of, value_in, keyword_in, has_name, verb_of, behind_verb, request_in}
 use Rattle.fd_request.specs.Seen.{seen_word, seen_words}
@@ -27,7 +28,7 @@ pub goes : {A B : Type 0} (read : List A → B → Result A Fault) (before : Lis
 unfolding each_of
 goes read before p ps x e = rw e refl
 
-pub stops : {A B : Type 0} (read : List A → B → Result A Fault) (before : List A) (p : B) (ps : List B) (e : Refusal) → Fails e (read before p) → Fails e (each_of read before (p ∷ ps))
+pub stops : {A B : Type 0} (read : List A → B → Result A Fault) (before : List A) (p : B) (ps : List B) (e : Refusal RequestKind) → Fails e (read before p) → Fails e (each_of read before (p ∷ ps))
 unfolding each_of
 stops read before p ps (refusals.At at kind) h = rw h refl
 stops read before p ps refusals.NoMemory h = tt
@@ -42,7 +43,7 @@ next_word : (name : List ℕ) (vs : List (List ℕ)) (ws : List code_word.Word) 
     → each_of (value_in name) vs (seen_words (drop i ws)) ≡ each_of (value_in name) vs (seen_word (get_or ws i d) ∷ seen_words (drop (i + 1) ws))
 next_word name vs ws i d lt = at_drop_more (λ (us : List code_word.Word). each_of (value_in name) vs (seen_words us)) ws i d lt
 
-pub value_stops : (name : List ℕ) (vs : List (List ℕ)) (ws : List code_word.Word) (i : ℕ) (d : code_word.Word) (e : Refusal) (total : Result (List (List ℕ)) Fault) → i < length ws
+pub value_stops : (name : List ℕ) (vs : List (List ℕ)) (ws : List code_word.Word) (i : ℕ) (d : code_word.Word) (e : Refusal RequestKind) (total : Result (List (List ℕ)) Fault) → i < length ws
     → each_of (value_in name) vs (seen_words (drop i ws)) ≡ total → Fails e (value_of name (seen_word (get_or ws i d))) → Fails e total
 value_stops name vs ws i d e total lt so_far h =
     let w = get_or ws i d in
@@ -73,7 +74,7 @@ one_more_value vs new v pushed h k =
 
 -- ---- keywords
 
-pub keyword_stops : (ks : List Keyword) (p : Part) (ps qs : List Part) (e : Refusal) (total : Result (List Keyword) Fault) → qs ≡ p ∷ ps → each_of keyword_in ks qs ≡ total → Fails e (keyword_in ks p) → Fails e total
+pub keyword_stops : (ks : List Keyword) (p : Part) (ps qs : List Part) (e : Refusal RequestKind) (total : Result (List Keyword) Fault) → qs ≡ p ∷ ps → each_of keyword_in ks qs ≡ total → Fails e (keyword_in ks p) → Fails e total
 keyword_stops ks p ps qs e total is so_far h =
     subst (λ (r : Result (List Keyword) Fault). Fails e r) (ap (each_of keyword_in ks) (sym is) ∙ so_far) (stops keyword_in ks p ps e h)
 
@@ -119,7 +120,7 @@ names_more s n name ks new k updates same pushed names q =
 
 -- ---- requests
 
-pub verb_stops : (verb : List ℕ) (p : Part) (ps qs : List Part) (e : Refusal) → qs ≡ p ∷ ps → Fails e (verb_of verb p.stop p.tokens) → Fails e (request_in verb qs)
+pub verb_stops : (verb : List ℕ) (p : Part) (ps qs : List Part) (e : Refusal RequestKind) → qs ≡ p ∷ ps → Fails e (verb_of verb p.stop p.tokens) → Fails e (request_in verb qs)
 unfolding request_in
 verb_stops verb p ps qs (refusals.At at kind) is h = rw (is, h) refl
 verb_stops verb p ps qs refusals.NoMemory is h = tt

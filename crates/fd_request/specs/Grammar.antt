@@ -7,7 +7,7 @@ use Rattle.std.specs.List.{list_any, prefix_len}
 use Rattle.std.specs.Str.{bytes_eq}
 use Rattle.fd_spelling.specs.Names.{is_name, is_name_byte, lower}
 use Rattle.fd_tokens.specs.Tokens.{Piece, Part, onto, parts, tokens}
-use Rattle.fd_schema.specs.Grammar.{spelled}
+use Rattle.fd_spelling.specs.Texts.{spelled}
 use Rattle.fd_request.specs.Expansion.{Keyword}
 use Rattle.fd_request.specs.Ranges.{is_to, is_by, range_of}
 

@@ -11,7 +11,7 @@ use Rattle.fd_spelling.specs.declared.meaning.Meaning.TheVariants.{Centre, Date,
 use Rattle.fd_spelling.specs.Names.{meaning_of}
 use Rattle.fd_spelling.specs.Numerals.{is_numeral, number_up_to, ◌>>=◌}
 use Rattle.fd_spelling.specs.Civil.{month_days, is_date, date_text, time_text}
-use Rattle.fd_schema.specs.Grammar.{spelled}
+use Rattle.fd_spelling.specs.Texts.{spelled}
 
 -- a day of the Gregorian calendar
 pub record Day : Type 0 where

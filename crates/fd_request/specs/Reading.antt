@@ -4,8 +4,8 @@ use Rattle.fd_request.specs.declared.fault.RequestKind.{RequestKind}
 use Rattle.fd_request.specs.declared.fault.RequestKind.TheVariants as kinds
 use Rattle.fd_request.specs.declared.fault.RequestFault.{RequestFault}
 use Rattle.fd_request.specs.declared.fault.RequestFault.TheVariants as faults
-use Rattle.fd_request.specs.declared.fault.Refusal.{Refusal}
-use Rattle.fd_request.specs.declared.fault.Refusal.TheVariants as refusals
+use Rattle.fd_tokens.specs.declared.refusal.Refusal.{Refusal}
+use Rattle.fd_tokens.specs.declared.refusal.Refusal.TheVariants as refusals
 use Rattle.fd_request.specs.Expansion.{Keyword}
 use Rattle.fd_request.specs.Grammar.{Wrong, TooLong, Verb, Pair, Repeated, Value, Range, TooMany, KeyTooLong, Fault, wrong}
 
@@ -20,12 +20,12 @@ seen_kind (kinds.TooMany count) = TooMany count
 seen_kind (kinds.KeyTooLong len) = KeyTooLong len
 
 -- What a call refused is what this reading refuses. It may also have run out of memory.
-abbrev pub Fails : {Y : Type 0} → Refusal → Result Y Fault → Type 0
+abbrev pub Fails : {Y : Type 0} → Refusal RequestKind → Result Y Fault → Type 0
 Fails refusals.NoMemory read = Unit {0}
 Fails (refusals.At at kind) read = read ≡ wrong at (seen_kind kind)
 
 -- What a call answered, seen by view, is what this reading gives.
-abbrev pub Gives : {X Y : Type 0} → (X → Y) → Result X Refusal → Result Y Fault → Type 0
+abbrev pub Gives : {X Y : Type 0} → (X → Y) → Result X (Refusal RequestKind) → Result Y Fault → Type 0
 Gives view (Ok x) read = read ≡ Ok (view x)
 Gives view (Err e) read = Fails e read
 

@@ -2,7 +2,7 @@
 use Rattle.std.specs.Prelude.{◌≡◌, ◌<◌, ℕ, true, List, length}
 use Rattle.std.specs.List.{list_all}
 use Rattle.fd_spelling.specs.Names.{is_value}
-use Rattle.fd_schema.specs.Seen.{texts}
+use Rattle.fd_spelling.specs.Texts.{texts}
 use Rattle.fd_request.specs.declared.range.Range as code_range
 use Rattle.fd_request.specs.declared.values.Values as code_values
 use Rattle.fd_request.specs.declared.values.Values.TheVariants as variants

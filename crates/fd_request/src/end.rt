@@ -6,7 +6,7 @@ ghost use Rattle.fd_request.specs.{Ranges.{whole, signed_whole, hour_of, day_if,
 use crate::day::Day;
 use fd_bytes::NoMemory;
 use fd_key::{Meaning, date_text, is_numeral, meaning_of, number_of, number_up_to, time_text};
-use fd_schema::spelled;
+use fd_spelling::spelled;
 use jiff_core::civil::Date;
 use std::alloc::Global;
 

@@ -1,8 +1,6 @@
-ghost use Rattle.std.specs.Prelude.{◌≡◌, Some};
-ghost use Rattle.fd_request.specs.declared.fault.Refusal.TheVariants as refusals;
+ghost use Rattle.std.specs.Prelude.{Some};
 ghost use Rattle.fd_request.specs.FaultTexts.{request_kind_text, request_fault_text};
 
-use fd_bytes::Starved;
 use std::error::Error;
 use std::fmt;
 
@@ -35,21 +33,6 @@ pub enum RequestFault {
     At { at: u32, kind: RequestKind },
     /// An allocation was refused.
     NoMemory,
-}
-
-/// The first place that is wrong.
-#[derive(Debug, Drop)]
-pub(crate) enum Refusal {
-    At(usize, RequestKind),
-    NoMemory,
-}
-
-impl<N: Starved> From<N> for Refusal {
-    ghost from_gives = { λ _ e. e ≡ refusals.NoMemory };
-
-    fn from(_: N) -> Refusal {
-        Refusal::NoMemory
-    }
 }
 
 impl fmt::Display for RequestKind {

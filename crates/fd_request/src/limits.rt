@@ -2,9 +2,10 @@
 ghost use Rattle.std.specs.Prelude.{◌≡◌, ◌≤◌, Some, None, IfOk, IfErr, length};
 ghost use Rattle.fd_request.specs.{Expansion.{expand}, Limits.{too_many, longest_text, longest_key, within_limits}, Keywords.{seen_keywords}, Values.{seen_values}, Reading.{Gives}};
 
-use crate::fault::{Refusal, RequestKind};
+use crate::fault::RequestKind;
 use crate::keyword::Keyword;
 use fd_bytes::NoMemory;
+use fd_tokens::Refusal;
 use std::alloc::Global;
 
 /// The most keys of a request.
@@ -55,7 +56,11 @@ impl Keyword {
 
 /// The number of keys, where there aren't too many and none is too long.
 #[tactic(auto, unfolding(crate::specs::Limits::within_limits))]
-pub(crate) fn count_of(alloc: Global, end: usize, keywords: &[Keyword]) -> Result<u32, Refusal>
+pub(crate) fn count_of(
+    alloc: Global,
+    end: usize,
+    keywords: &[Keyword],
+) -> Result<u32, Refusal<RequestKind>>
     requires { length keywords.now ≤ 65537 }
     ensures gives { Gives (λ n. seen_keywords keywords.now) result (within_limits end (seen_keywords keywords.now)) }
     ensures number { IfOk result (λ n. n ≡ length (expand (seen_keywords keywords.now))) }

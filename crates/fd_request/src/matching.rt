@@ -1,7 +1,6 @@
 // The values of keywords, asked for by their texts.
-ghost use Rattle.std.specs.{Prelude.{◌≡◌, ◌↔◌, ◌==◌, ◌&&◌, ◌+◌, ◌/◌, ◌%◌, ◌^◌, ℤ, pos, neg_ℤ, ◌≤ℤ◌, nat_lt, IsTrue, Some, option_map}, List.{list_any, Contains}, Str.{bytes_eq}, Fmt.{signed_decimal}};
+ghost use Rattle.std.specs.{Prelude.{◌≡◌, ◌↔◌, ◌==◌, ◌&&◌, ◌+◌, ◌/◌, ◌%◌, ◌^◌, ℤ, pos, neg_ℤ, ◌≤ℤ◌, nat_lt, IsTrue, Some, option_map}, List.{Contains}, Str.{bytes_eq}, Fmt.{signed_decimal}};
 ghost use Rattle.fd_spelling.specs.Civil.{date_text, time_text};
-ghost use Rattle.fd_schema.specs.Seen.{texts};
 ghost use Rattle.fd_request.specs.{Ranges.{text_behind}, Seen.{seen_end}, Values.{seen_range, seen_values}, Keywords.{seen_keyword}, Behind.{ReadsBehind}, Matching.{Admits}};
 
 use crate::end::{End, day_of, distance, hour_of};
@@ -9,6 +8,7 @@ use crate::keyword::Keyword;
 use crate::range::Range;
 use crate::values::Values;
 use fd_key::Key;
+use fd_spelling::is_one_of;
 use itoa::Buffer;
 
 /// The number that a text is.
@@ -120,25 +120,13 @@ impl Range {
     }
 }
 
-/// Tells that a text is one of these.
-fn listed(values: &[String], text: &str) -> bool
-    ensures { result ≡ list_any (bytes_eq text.now) (texts values.now) }
-{
-    for value in values {
-        if text == value.as_str() {
-            return true;
-        }
-    }
-    false
-}
-
 impl Values {
     /// Tells that a text is one of the values.
     fn has(&self, text: &str) -> bool
         ensures { IsTrue result ↔ Contains (seen_values self.now) text.now }
     {
         match self {
-            Values::Listed(values) => listed(values, text),
+            Values::Listed(values) => is_one_of(values, text),
             Values::Stepped(range) => range.has(text),
         }
     }

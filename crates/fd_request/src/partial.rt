@@ -3,8 +3,7 @@ ghost use Rattle.fd_request.specs.{Limits.{partial_of}, Reading.{GivesKeywords},
 
 use crate::fault::RequestFault;
 use crate::keyword::Keyword;
-use crate::reading::keywords_of;
-use crate::request::{BYTES, refused, too_long};
+use crate::request::keywords_within;
 use fd_key::Key;
 use std::alloc::Global;
 use std::marker::Model;
@@ -33,15 +32,12 @@ impl Partial {
     pub fn read(alloc: Global, text: &[u8]) -> Result<Partial, RequestFault>
         ensures { GivesKeywords result (partial_of text.now) }
     {
-        let keywords = match keywords_of(alloc, b"list", text) {
-            Ok(keywords) => keywords,
-            Err(refusal) => return Err(refused(text.len(), refusal)),
-        };
-        if BYTES < text.len() {
-            return Err(too_long());
+        match keywords_within(alloc, b"list", text) {
+            Ok(keywords) => Ok(Partial { keywords }),
+            Err(fault) => Err(fault),
         }
-        Ok(Partial { keywords })
     }
+
     /// Tells that a key is one of those asked for: it has each name, with one of the values that are listed for the name. A
     /// partial request without names asks for every key.
     pub fn matches(&self, key: &Key) -> bool

@@ -2,10 +2,10 @@
 ghost use Rattle.std.specs.Prelude.{◌≡◌, ◌<◌, ◌≤◌, ◌+◌, [], ◌∷◌, ℕ, IsTrue, true, false, IfOk, option_map, Option, length, drop, string_bytes};
 ghost use Rattle.fd_spelling.specs.Names.{is_name, is_value, lower};
 ghost use Rattle.fd_tokens.specs.Tokens.{view, views, parts, tokens};
-ghost use Rattle.fd_schema.specs.Seen.{texts};
+ghost use Rattle.fd_spelling.specs.Texts.{texts};
 ghost use Rattle.fd_request.specs.{Ranges.{range_of}, Grammar.{marks, each_of, verb_of, value_of, value_in, values_of, range_or, word_texts, behind_words, led, has_name, behind_name, name_of, keyword_of, keyword_in, request_in, keywords_of}, Seen.{seen_word, seen_words}, Values.{seen_values, AreValues}, Keywords.{seen_keyword, seen_keywords, differ_after}, Reading.{Gives}};
 
-use crate::fault::{Refusal, RequestKind};
+use crate::fault::RequestKind;
 use crate::found::Found;
 use crate::keyword::Keyword;
 use crate::values::{Values, range_of};
@@ -14,13 +14,13 @@ use crate::word::{
 };
 use fd_bytes::NoMemory;
 use fd_key::is_name;
-use fd_schema::{name_end, name_text, spelled};
-use fd_tokens::{Token, part_from, tokens_of};
+use fd_spelling::{name_end, name_text, spelled};
+use fd_tokens::{Refusal, Token, part_from, tokens_of};
 use std::alloc::Global;
 
 /// A value in its one spelling.
 #[tactic(auto, unfolding(crate::specs::Grammar::value_of))]
-fn value(alloc: Global, name: &str, word: &Word) -> Result<String, Refusal>
+fn value(alloc: Global, name: &str, word: &Word) -> Result<String, Refusal<RequestKind>>
     ensures gives { Gives string_bytes result (value_of name.now (seen_word word.now)) }
     ensures value { IfOk result (λ s. IsTrue (is_value (string_bytes s))) }
 {
@@ -34,7 +34,7 @@ fn value(alloc: Global, name: &str, word: &Word) -> Result<String, Refusal>
 }
 
 /// Values with slashes between them.
-fn listed(alloc: Global, name: &str, words: &[Word]) -> Result<Vec<String>, Refusal>
+fn listed(alloc: Global, name: &str, words: &[Word]) -> Result<Vec<String>, Refusal<RequestKind>>
     requires { 0 < length words.now }
     ensures gives { Gives (λ v. texts v.items) result (each_of (value_in name.now) [] (seen_words words.now)) }
     ensures values { IfOk result (λ v. AreValues (texts v.items)) }
@@ -50,7 +50,12 @@ fn listed(alloc: Global, name: &str, words: &[Word]) -> Result<Vec<String>, Refu
 }
 
 /// The values of a range.
-fn ranged(alloc: Global, name: &str, at: usize, words: &[Word]) -> Result<Values, Refusal>
+fn ranged(
+    alloc: Global,
+    name: &str,
+    at: usize,
+    words: &[Word],
+) -> Result<Values, Refusal<RequestKind>>
     ensures gives { Gives seen_values result (range_or (range_of name.now (word_texts (seen_words words.now))) at (behind_words (seen_words words.now))) }
     ensures values { IfOk result (λ v. AreValues (seen_values v)) }
 {
@@ -65,7 +70,12 @@ fn ranged(alloc: Global, name: &str, at: usize, words: &[Word]) -> Result<Values
 
 /// The values of a name, the first of which begins at this place.
 #[tactic(auto, unfolding(crate::specs::Grammar::values_of))]
-fn values(alloc: Global, name: &str, at: usize, words: &[Word]) -> Result<Values, Refusal>
+fn values(
+    alloc: Global,
+    name: &str,
+    at: usize,
+    words: &[Word],
+) -> Result<Values, Refusal<RequestKind>>
     requires { 0 < length words.now }
     ensures gives { Gives seen_values result (values_of name.now at (seen_words words.now)) }
     ensures values { IfOk result (λ v. AreValues (seen_values v)) }
@@ -87,7 +97,7 @@ fn given<'s, 't>(
     stop: &'s Token<'t>,
     first: &Token<'t>,
     others: &'s [Token<'t>],
-) -> Result<Values, Refusal>
+) -> Result<Values, Refusal<RequestKind>>
     ensures gives { Gives seen_values result (behind_name name.now (view stop.now) (view first.now ∷ views others.now)) }
     ensures values { IfOk result (λ v. AreValues (seen_values v)) }
 {
@@ -107,7 +117,7 @@ fn behind_name<'s, 't>(
     stop: &'s Token<'t>,
     rest: Option<Token<'t>>,
     tokens: &'s [Token<'t>],
-) -> Result<Values, Refusal>
+) -> Result<Values, Refusal<RequestKind>>
     ensures gives { Gives seen_values result (behind_name name.now (view stop.now) (led (option_map view rest.entry) (views tokens.now))) }
     ensures values { IfOk result (λ v. AreValues (seen_values v)) }
 {
@@ -122,7 +132,7 @@ fn behind_name<'s, 't>(
 
 /// The name that a token begins with, behind these keywords.
 #[tactic(auto, unfolding(crate::specs::Grammar::name_of))]
-fn name_of(alloc: Global, before: &Found, token: &Token) -> Result<String, Refusal>
+fn name_of(alloc: Global, before: &Found, token: &Token) -> Result<String, Refusal<RequestKind>>
     ensures gives { Gives string_bytes result (name_of (seen_keywords before.now.keywords.items) (view token.now)) }
     ensures name { IfOk result (λ s. is_name (string_bytes s) ≡ true) }
     ensures new { IfOk result (λ s. has_name (seen_keywords before.now.keywords.items) (string_bytes s) ≡ false) }
@@ -146,7 +156,7 @@ fn keyword<'s, 't>(
     before: &Found,
     stop: &'s Token<'t>,
     tokens: &'s [Token<'t>],
-) -> Result<Keyword, Refusal>
+) -> Result<Keyword, Refusal<RequestKind>>
     ensures gives { Gives seen_keyword result (keyword_of (seen_keywords before.now.keywords.items) (view stop.now) (views tokens.now)) }
     ensures new { IfOk result (λ k. has_name (seen_keywords before.now.keywords.items) (string_bytes k.name) ≡ false) }
 {
@@ -165,7 +175,7 @@ fn keywords<'s, 't>(
     stop: &'s Token<'t>,
     tokens: &'s [Token<'t>],
     first: usize,
-) -> Result<Vec<Keyword>, Refusal>
+) -> Result<Vec<Keyword>, Refusal<RequestKind>>
     requires { first ≤ length tokens.now }
     ensures gives { Gives (λ v. seen_keywords v.items) result (each_of keyword_in [] (parts 44 (view stop.now) (views (drop first tokens.now)))) }
     ensures differ { IfOk result (λ v. differ_after [] (seen_keywords v.items) ≡ true) }
@@ -188,7 +198,11 @@ fn keywords<'s, 't>(
 
 /// The place behind the verb where something stands, if anything does.
 #[tactic(auto, unfolding(crate::specs::Grammar::verb_of))]
-fn verb_of(verb: &[u8], stop: &Token, tokens: &[Token]) -> Result<Option<usize>, Refusal>
+fn verb_of(
+    verb: &[u8],
+    stop: &Token,
+    tokens: &[Token],
+) -> Result<Option<usize>, Refusal<RequestKind>>
     ensures { Gives (λ (o : Option ℕ). o) result (verb_of verb.now (view stop.now) (views tokens.now)) }
 {
     let [first, others @ ..] = tokens else {
@@ -211,7 +225,7 @@ fn request_in<'s, 't>(
     verb: &[u8],
     stop: &'s Token<'t>,
     tokens: &'s [Token<'t>],
-) -> Result<Vec<Keyword>, Refusal>
+) -> Result<Vec<Keyword>, Refusal<RequestKind>>
     ensures gives { Gives (λ v. seen_keywords v.items) result (request_in verb.now (parts 44 (view stop.now) (views tokens.now))) }
     ensures differ { IfOk result (λ v. differ_after [] (seen_keywords v.items) ≡ true) }
     ensures few { IfOk result (λ v. length v.items ≤ length tokens.now + 1) }
@@ -247,7 +261,11 @@ fn marks() -> &'static [u8]
 
 /// The keywords of a text with this verb, or the first place that is wrong.
 #[tactic(auto, unfolding(crate::specs::Grammar::keywords_of))]
-pub(crate) fn keywords_of(alloc: Global, verb: &[u8], text: &[u8]) -> Result<Vec<Keyword>, Refusal>
+pub(crate) fn keywords_of(
+    alloc: Global,
+    verb: &[u8],
+    text: &[u8],
+) -> Result<Vec<Keyword>, Refusal<RequestKind>>
     ensures gives { Gives (λ v. seen_keywords v.items) result (keywords_of verb.now text.now) }
     ensures differ { IfOk result (λ v. differ_after [] (seen_keywords v.items) ≡ true) }
     ensures few { IfOk result (λ v. length v.items ≤ length text.now + 1) }

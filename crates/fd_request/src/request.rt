@@ -1,17 +1,18 @@
-ghost use Rattle.std.specs.Prelude.{◌≡◌, ◌<◌, ◌≤◌, [], Some, IfOk, true, length, slice_get};
-ghost use Rattle.fd_request.specs.{Expansion.{expand}, Grammar.{wrong, TooLong}, Limits.{request_of}, Keywords.{seen_keywords, differ_after}, Reading.{GivesKeywords}, Requests.{IsPlace, IsFaultOf}, Spelled.{IsSpelled}};
+ghost use Rattle.std.specs.Prelude.{◌≡◌, ◌<◌, ◌≤◌, ◌+◌, [], Some, Ok, Err, IfOk, IfErr, true, length, slice_get};
+ghost use Rattle.fd_request.specs.{Expansion.{expand}, Grammar.{wrong, TooLong, keywords_of}, Limits.{request_of, within_size}, Keywords.{seen_keywords, differ_after}, Reading.{GivesKeywords}, Requests.{IsPlace, IsFaultOf}, Spelled.{IsSpelled}};
 
-use crate::fault::{Refusal, RequestFault, RequestKind};
+use crate::fault::{RequestFault, RequestKind};
 use crate::keyword::Keyword;
 use crate::limits::count_of;
 use crate::reading::keywords_of;
 use fd_bytes::NoMemory;
 use fd_key::Key;
+use fd_tokens::Refusal;
 use std::alloc::Global;
 use std::marker::Model;
 
 /// The most bytes of a request.
-pub(crate) const BYTES: usize = 65_536;
+const BYTES: usize = 65_536;
 
 /// A request: the keys of fields, in an order.
 #[derive(Debug, Drop)]
@@ -32,7 +33,7 @@ impl Model for Request {
     ghost invariant = { λ r. IsRequest r.count (seen_keywords r.keywords.items) };
 }
 
-pub(crate) fn too_long() -> RequestFault
+fn too_long() -> RequestFault
     ensures { GivesKeywords (Err result) (wrong 65536 TooLong) }
 {
     RequestFault::At {
@@ -42,7 +43,7 @@ pub(crate) fn too_long() -> RequestFault
 }
 
 /// The fault that a refusal is in a text of this size.
-pub(crate) fn refused(size: usize, refusal: Refusal) -> RequestFault
+fn refused(size: usize, refusal: Refusal<RequestKind>) -> RequestFault
     requires { IsPlace size refusal }
     ensures { IsFaultOf size refusal result }
 {
@@ -61,6 +62,28 @@ pub(crate) fn refused(size: usize, refusal: Refusal) -> RequestFault
     }
 }
 
+/// The keywords behind a verb in a text that isn't too long, or the first place that is wrong.
+pub(crate) fn keywords_within(
+    alloc: Global,
+    verb: &[u8],
+    text: &[u8],
+) -> Result<Vec<Keyword>, RequestFault>
+    ensures gives { IfOk result (λ v. keywords_of verb.now text.now ≡ Ok (seen_keywords v.items)) }
+    ensures small { IfOk result (λ v. length text.now ≤ 65536) }
+    ensures differ { IfOk result (λ v. differ_after [] (seen_keywords v.items) ≡ true) }
+    ensures few { IfOk result (λ v. length v.items ≤ length text.now + 1) }
+    ensures refused { IfErr result (λ e. GivesKeywords (Err e) (within_size (length text.now) (keywords_of verb.now text.now))) }
+{
+    let keywords = match keywords_of(alloc, verb, text) {
+        Ok(keywords) => keywords,
+        Err(refusal) => return Err(refused(text.len(), refusal)),
+    };
+    if BYTES < text.len() {
+        return Err(too_long());
+    }
+    Ok(keywords)
+}
+
 impl Request {
     /// Reads a request: `retrieve`, and for each keyword a comma, a name, `=` and values. Values are a list `v/w`, or a range
     /// `a/to/b` or `a/to/b/by/c`, whose step `c` is 1 where it is left out. Spaces, tabs and line feeds stand anywhere between
@@ -70,13 +93,10 @@ impl Request {
     pub fn read(alloc: Global, text: &[u8]) -> Result<Request, RequestFault>
         ensures { GivesKeywords result (request_of text.now) }
     {
-        let keywords = match keywords_of(alloc, b"retrieve", text) {
+        let keywords = match keywords_within(alloc, b"retrieve", text) {
             Ok(keywords) => keywords,
-            Err(refusal) => return Err(refused(text.len(), refusal)),
+            Err(fault) => return Err(fault),
         };
-        if BYTES < text.len() {
-            return Err(too_long());
-        }
         match count_of(alloc, text.len(), &keywords) {
             Ok(count) => Ok(Request { keywords, count }),
             Err(refusal) => Err(refused(text.len(), refusal)),

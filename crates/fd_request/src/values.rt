@@ -1,7 +1,7 @@
 // The values of a keyword.
 ghost use Rattle.std.specs.Prelude.{◌≡◌, ◌<◌, ◌+◌, ◌/◌, IfOk, Some, option_map, length, max, slice_get, string_bytes};
 ghost use Rattle.fd_request.specs.{Ranges.{between, range_of, values_from}, Grammar.{word_texts}, Limits.{longest_text}, Seen.{seen_words, seen_end, Fits}, Values.{seen_range, seen_values}};
-ghost use Rattle.fd_schema.specs.Seen.{texts};
+ghost use Rattle.fd_spelling.specs.Texts.{texts};
 
 use crate::end::{End, distance, end_of, step_of, text_behind};
 use crate::range::Range;

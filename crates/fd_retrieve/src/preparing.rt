@@ -2,7 +2,7 @@
 ghost use Rattle.std.specs.Prelude.{◌≡◌, ◌≤◌, [], ◌∷◌, List, ℕ, Some, Ok, false, length, IfOk, IfErr, IfSome, IsErr, OnOk};
 ghost use Rattle.fd_bytes.specs.Causes.{Rose};
 ghost use Rattle.fd_disk.specs.Folders.{WhereTold, folder_at};
-ghost use Rattle.fd_schema.specs.Seen.{texts};
+ghost use Rattle.fd_spelling.specs.Texts.{texts};
 ghost use Rattle.fd_recovery.specs.{Causes.{NotTooMany}, Crashing.{IsFirmTable}, Recovered.{IsUndamaged}};
 ghost use Rattle.fd_request.specs.Expansion.{expand};
 ghost use Rattle.fd_outcome.specs.{Asking.{asked_of, rules_of}, Ends.{AmongAsked}, Noticing.{IsUnread}, Store.{Stays}};

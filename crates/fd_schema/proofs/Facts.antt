@@ -6,15 +6,16 @@ use Rattle.std.proofs.lemmas.Bool.{cond-true, cond-false, leb-false, not-false}
 use Rattle.std.proofs.lemmas.List.{append-nil}
 use Rattle.fd_spelling.specs.Names.{is_name, is_name_byte, is_value}
 use Rattle.fd_spelling.specs.Canonical.{canonical}
+use Rattle.fd_spelling.specs.Texts.{is_ascii, spelled}
 use Rattle.fd_spelling.proofs.AsciiLaws.{value_is_ascii}
-use Rattle.fd_spelling.proofs.Spelled.{spelled_again}
+use Rattle.fd_spelling.proofs.Spellings.{spelled_again}
 use Rattle.fd_schema.specs.declared.rule.Level.{Level}
 use Rattle.fd_schema.specs.declared.rule.Level.TheVariants.{Dataset, Index, Datum}
 use Rattle.fd_schema.specs.declared.rule.Version.{Version}
 use Rattle.fd_tokens.specs.Tokens.{Piece, Part, is_token, parts}
 use Rattle.fd_tokens.proofs.Cuts.{parts_some}
 use Rattle.fd_schema.specs.Rules.{Want, Needed, Optional, OneOf, Item, has_name, has_meaning, Rule}
-use Rattle.fd_schema.specs.Grammar.{Fault, Wrong, TooLong, Byte, Name, Twice, Depth, NoneRequired, TooMany, wrong, ◌>>=◌, each_of, begins_value, is_ascii, spelled, spelled_in, plain_value, value_or, value_of, value_in, values_of, name_of, nothing_behind, want_of, item_of, item_in, items_of, inside, behind, front, level_of, opened, has_required, closed, rule_of, rules_of, version_of, rules_in, some_rule, schema_of}
+use Rattle.fd_schema.specs.Grammar.{Fault, Wrong, TooLong, Byte, Name, Twice, Depth, NoneRequired, TooMany, wrong, ◌>>=◌, each_of, begins_value, spelled_in, plain_value, value_or, value_of, value_in, values_of, name_of, nothing_behind, want_of, item_of, item_in, items_of, inside, behind, front, level_of, opened, has_required, closed, rule_of, rules_of, version_of, rules_in, some_rule, schema_of}
 
 -- ---- answers
 

@@ -1,6 +1,5 @@
 pub mod Texts
 pub mod Turns
-pub mod Ascii
 pub mod Whole
 pub mod Facts
 pub mod Laid

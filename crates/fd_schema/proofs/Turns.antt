@@ -1,8 +1,9 @@
 -- One step of each reading.
 use Rattle.std.proofs.Common.{◌≡◌, ℕ, zero, suc, ◌+◌, ◌-◌, ◌<◌, ◌≤◌, true, false, List, [], ◌∷◌, ◌++◌, length, take, drop, get_or, Result, Ok, refl, ap, subst, ◌∙◌, sym, arith}
 use Rattle.fd_tokens.specs.declared.token.Token.{Token}
-use Rattle.fd_schema.specs.declared.fault.Refusal.{Refusal}
-use Rattle.fd_schema.specs.declared.fault.Refusal.TheVariants as refusals
+use Rattle.fd_schema.specs.declared.fault.Wrong as code_wrong
+use Rattle.fd_tokens.specs.declared.refusal.Refusal.{Refusal}
+use Rattle.fd_tokens.specs.declared.refusal.Refusal.TheVariants as refusals
 use Rattle.fd_schema.specs.Reading.{Fails}
 use Rattle.std.proofs.lemmas.List.{take_rest}
 use Rattle.fd_tokens.specs.Tokens.{Piece, Part, is_token, view, views}
@@ -14,7 +15,7 @@ goes : {A : Type 0} (read : List A → Part → Result A Fault) (before : List A
 unfolding each_of
 goes read before p ps x e = rw e refl
 
-stops : {A : Type 0} (read : List A → Part → Result A Fault) (before : List A) (p : Part) (ps : List Part) (e : Refusal) → Fails e (read before p) → Fails e (each_of read before (p ∷ ps))
+stops : {A : Type 0} (read : List A → Part → Result A Fault) (before : List A) (p : Part) (ps : List Part) (e : Refusal code_wrong.Wrong) → Fails e (read before p) → Fails e (each_of read before (p ∷ ps))
 unfolding each_of
 stops read before p ps (refusals.At at kind) h = rw h refl
 stops read before p ps refusals.NoMemory h = tt
@@ -29,7 +30,7 @@ pub part_goes : {A : Type 0} (read : List A → Part → Result A Fault) (before
     → qs ≡ p ∷ ps → each_of read before qs ≡ total → read before p ≡ Ok x → each_of read (before ++ x ∷ []) ps ≡ total
 part_goes read before p ps qs x total is so_far h = sym (goes read before p ps x h) ∙ ap (each_of read before) (sym is) ∙ so_far
 
-pub part_stops : {A : Type 0} (read : List A → Part → Result A Fault) (before : List A) (p : Part) (ps qs : List Part) (e : Refusal) (total : Result (List A) Fault)
+pub part_stops : {A : Type 0} (read : List A → Part → Result A Fault) (before : List A) (p : Part) (ps qs : List Part) (e : Refusal code_wrong.Wrong) (total : Result (List A) Fault)
     → qs ≡ p ∷ ps → each_of read before qs ≡ total → Fails e (read before p) → Fails e total
 part_stops {A} read before p ps qs e total is so_far h =
     subst (λ (r : Result (List A) Fault). Fails e r) (ap (each_of read before) (sym is) ∙ so_far) (stops read before p ps e h)
@@ -74,6 +75,6 @@ pub nothing : (ts : List Token) → length ts < 1 → views ts ≡ []
 nothing [] none = refl
 nothing (t ∷ ts) none = absurd (omega arith)
 
-pub rule_stops : (e : Refusal) (n : ℕ) (version : Version) (end : Piece) (before : List Rule) (t : Piece) (ts : List Piece) → n < 256 → is_token 91 t ≡ true → Fails e (rule_of version end ts) → Fails e (rules_of (256 - n) version end before (t ∷ ts))
+pub rule_stops : (e : Refusal code_wrong.Wrong) (n : ℕ) (version : Version) (end : Piece) (before : List Rule) (t : Piece) (ts : List Piece) → n < 256 → is_token 91 t ≡ true → Fails e (rule_of version end ts) → Fails e (rules_of (256 - n) version end before (t ∷ ts))
 rule_stops (refusals.At at kind) n version end before t ts lt open_ h = rules_more n version end before t ts lt open_ ∙ ap (λ r. r >>= λ r. rules_of (256 - (n + 1)) version end (before ++ r.0 ∷ []) r.1) h
 rule_stops refusals.NoMemory n version end before t ts lt open_ h = tt

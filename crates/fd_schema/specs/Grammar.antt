@@ -5,10 +5,10 @@
 --   level  = item { "," item }
 --   item   = name | name "?" | name "=" value { "/" value }
 use Rattle.std.specs.Prelude.{◌≡◌, ℕ, zero, suc, ◌+◌, Bool, false, not, ◌&&◌, ◌||◌, List, [], ◌∷◌, ◌++◌, codes, length, take, drop, nat_lt, nat_le, ◌==◌, if◌then◌else◌, Option, Some, None, Result, Ok, Err}
-use Rattle.std.specs.List.{list_all, list_any, prefix_len}
+use Rattle.std.specs.List.{list_any, prefix_len}
 use Rattle.std.specs.Str.{bytes_eq}
 use Rattle.fd_spelling.specs.Names.{is_name, is_name_byte, is_value, is_value_byte}
-use Rattle.fd_spelling.specs.Canonical.{canonical}
+use Rattle.fd_spelling.specs.Texts.{spelled}
 use Rattle.fd_schema.specs.declared.rule.Level.{Level}
 use Rattle.fd_schema.specs.declared.rule.Level.TheVariants.{Dataset, Index, Datum}
 use Rattle.fd_schema.specs.declared.rule.Version.{Version}
@@ -63,13 +63,6 @@ each_of read before (p ∷ ps) = do
 abbrev pub begins_value : List ℕ → Bool
 begins_value [] = false
 begins_value (b ∷ bs) = is_value_byte b
-
-abbrev pub is_ascii : List ℕ → Bool
-is_ascii text = list_all (λ b. nat_lt b 128) text
-
--- the one spelling of a value, which is ASCII
-abbrev pub spelled : List ℕ → List ℕ → Option (List ℕ)
-spelled name text = if is_ascii text then canonical name text else None
 
 -- a value as it stands
 abbrev pub plain_value : List ℕ → Option (List ℕ)

@@ -2,8 +2,8 @@
 use Rattle.std.specs.Prelude.{◌≡◌, ℕ, ◌+◌, List, take, count_by, ◌==◌, slice_index, Result, Ok, Err, Option, Some, None, string_bytes}
 use Rattle.fd_schema.specs.declared.fault.Wrong as code_wrong
 use Rattle.fd_schema.specs.declared.fault.Wrong.TheVariants as wrongs
-use Rattle.fd_schema.specs.declared.fault.Refusal.{Refusal}
-use Rattle.fd_schema.specs.declared.fault.Refusal.TheVariants as refusals
+use Rattle.fd_tokens.specs.declared.refusal.Refusal.{Refusal}
+use Rattle.fd_tokens.specs.declared.refusal.Refusal.TheVariants as refusals
 use Rattle.fd_schema.specs.declared.fault.SchemaKind.{SchemaKind}
 use Rattle.fd_schema.specs.declared.fault.SchemaKind.TheVariants as kinds
 use Rattle.fd_schema.specs.declared.fault.SchemaFault.{SchemaFault}
@@ -27,11 +27,11 @@ seen_wrong wrongs.End = End
 seen_wrong wrongs.Empty = Empty
 
 -- What a call answered, seen by view, is what this reading gives. It may also have run out of memory.
-abbrev pub Fails : {Y : Type 0} → Refusal → Result Y Fault → Type 0
+abbrev pub Fails : {Y : Type 0} → Refusal code_wrong.Wrong → Result Y Fault → Type 0
 Fails refusals.NoMemory read = Unit {0}
 Fails (refusals.At at kind) read = read ≡ wrong at (seen_wrong kind)
 
-abbrev pub Gives : {X Y : Type 0} → (X → Y) → Result X Refusal → Result Y Fault → Type 0
+abbrev pub Gives : {X Y : Type 0} → (X → Y) → Result X (Refusal code_wrong.Wrong) → Result Y Fault → Type 0
 Gives view (Ok x) read = read ≡ Ok (view x)
 Gives view (Err e) read = Fails e read
 

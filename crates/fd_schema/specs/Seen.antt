@@ -1,14 +1,11 @@
 -- What the code's items and rules are.
-use Rattle.std.specs.Prelude.{ℕ, List, map, String, string_bytes}
-use Rattle.std.specs.declared.alloc.Global.{Global}
+use Rattle.std.specs.Prelude.{List, map, string_bytes}
+use Rattle.fd_spelling.specs.Texts.{texts}
 use Rattle.fd_schema.specs.declared.rule.Want as code_want
 use Rattle.fd_schema.specs.declared.rule.Want.TheVariants as wants
 use Rattle.fd_schema.specs.declared.rule.Item as code_item
 use Rattle.fd_schema.specs.declared.rule.Rule as code_rule
 use Rattle.fd_schema.specs.Rules.{Want, Needed, Optional, OneOf, Item, Rule}
-
-abbrev pub texts : List (String Global) → List (List ℕ)
-texts ss = map string_bytes ss
 
 abbrev pub seen_want : code_want.Want → Want
 seen_want wants.Needed = Needed

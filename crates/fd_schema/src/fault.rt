@@ -1,9 +1,7 @@
 ghost use Rattle.std.specs.Prelude.{◌≡◌, Some};
-ghost use Rattle.fd_schema.specs.declared.fault.Refusal.TheVariants as refusals;
 ghost use Rattle.fd_schema.specs.declared.fault.PlaceFault.TheVariants as place_faults;
 ghost use Rattle.fd_schema.specs.FaultTexts.{schema_kind_text, schema_fault_text, place_fault_text};
 
-use fd_bytes::Starved;
 use std::error::Error;
 use std::fmt;
 
@@ -65,21 +63,6 @@ pub(crate) enum Wrong {
     OtherVersion,
     End,
     Empty,
-}
-
-/// The first place that is wrong.
-#[derive(Debug, Drop)]
-pub(crate) enum Refusal {
-    At(usize, Wrong),
-    NoMemory,
-}
-
-impl<N: Starved> From<N> for Refusal {
-    ghost from_gives = { λ _ e. e ≡ refusals.NoMemory };
-
-    fn from(_: N) -> Refusal {
-        Refusal::NoMemory
-    }
 }
 
 impl From<fd_bytes::NoMemory> for PlaceFault {

@@ -3,10 +3,10 @@ ghost use Rattle.std.specs.Prelude.{◌≡◌, ◌≤◌, ◌-◌, length, IfOk}
 ghost use Rattle.fd_tokens.specs.Tokens.{view, views};
 ghost use Rattle.fd_schema.specs.{Rules.{same_level}, Grammar.{opened, closed, is_required, has_required, rule_of, rules_of}, Seen.{seen_items, seen_rules, seen_rule, seen_want}, Reading.{Gives, seen_wrong}};
 
-use crate::fault::{Refusal, Wrong};
+use crate::fault::Wrong;
 use crate::items::{behind, level_of};
 use crate::rule::{Item, Level, Rule, Version, Want};
-use fd_tokens::{Token, is_token};
+use fd_tokens::{Refusal, Token, is_token};
 use std::alloc::Global;
 
 /// The most rules of a schema.
@@ -47,7 +47,7 @@ fn has_required(level: Level, items: &[Item]) -> bool
 }
 
 /// The tokens behind the `[` of a level inside.
-fn opened<'s, 't>(end: &Token, tokens: &'s [Token<'t>]) -> Result<&'s [Token<'t>], Refusal>
+fn opened<'s, 't>(end: &Token, tokens: &'s [Token<'t>]) -> Result<&'s [Token<'t>], Refusal<Wrong>>
     ensures { Gives (λ ts. views ts.now) result (opened (view end.now) (views tokens.now)) }
 {
     match tokens {
@@ -69,7 +69,7 @@ fn closed<'s, 't>(
     items: &[Item],
     end: &Token,
     tokens: &'s [Token<'t>],
-) -> Result<&'s [Token<'t>], Refusal>
+) -> Result<&'s [Token<'t>], Refusal<Wrong>>
     ensures { Gives (λ ts. views ts.now) result (closed (seen_wrong otherwise) level (seen_items items.now) (view end.now) (views tokens.now)) }
 {
     match tokens {
@@ -93,7 +93,7 @@ fn rule_of<'s, 't>(
     version: Version,
     end: &'s Token<'t>,
     tokens: &'s [Token<'t>],
-) -> Result<(Rule, &'s [Token<'t>]), Refusal>
+) -> Result<(Rule, &'s [Token<'t>]), Refusal<Wrong>>
     ensures { Gives (λ r. (seen_rule r.0, views r.1.now)) result (rule_of version (view end.now) (views tokens.now)) }
 {
     let dataset = level_of(alloc, version, Level::Dataset, Vec::new(alloc), end, tokens)?;
@@ -114,7 +114,7 @@ pub(crate) fn rules_of<'s, 't>(
     before: Vec<Rule>,
     end: &'s Token<'t>,
     tokens: &'s [Token<'t>],
-) -> Result<Vec<Rule>, Refusal>
+) -> Result<Vec<Rule>, Refusal<Wrong>>
     requires { length before.items ≤ 256 }
     ensures rules { Gives (λ v. seen_rules v.items) result (rules_of (256 - length before.items) version (view end.now) (seen_rules before.items) (views tokens.now)) }
     ensures few { IfOk result (λ v. length v.items ≤ 256) }

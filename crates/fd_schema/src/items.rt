@@ -1,31 +1,17 @@
 // The items of a level.
-ghost use Rattle.std.specs.{Prelude.{◌≡◌, ◌≤◌, IsTrue, length, string_bytes}, List.{prefix_len}};
-ghost use Rattle.fd_spelling.specs.Names.{is_name, is_name_byte};
+ghost use Rattle.std.specs.Prelude.{◌≡◌, ◌≤◌, length, string_bytes};
 ghost use Rattle.fd_tokens.specs.Tokens.{view, views};
 ghost use Rattle.fd_schema.specs.{Rules.{has_name}, Grammar.{name_of, want_of, item_of, items_of, level_of, is_bracket, bracket_place, behind, front}, Seen.{seen_items, seen_item, seen_want}, Reading.{Gives}};
 
-use crate::fault::{Refusal, Wrong};
+use crate::fault::Wrong;
 use crate::rule::{Item, Level, Version, Want};
-use crate::values::{absent, ascii_text, values};
-use fd_key::{is_name, is_name_byte};
-use fd_tokens::{Token, is_token, part_from};
+use crate::values::{absent, values};
+use fd_spelling::{is_name, name_end, name_text};
+use fd_tokens::{Refusal, Token, is_token, part_from};
 use std::alloc::Global;
 
 /// The most names of a rule.
 const NAMES: usize = 32;
-
-/// How many bytes of a name stand at the front.
-pub fn name_end(text: &[u8]) -> usize
-    ensures value { result ≡ prefix_len is_name_byte text.now }
-    ensures within { result ≤ length text.now }
-{
-    for (i, b) in text.iter().enumerate() {
-        if !is_name_byte(*b) {
-            return i;
-        }
-    }
-    text.len()
-}
 
 /// Tells that a rule has the name.
 pub(crate) fn has_name(items: &[Item], name: &str) -> bool
@@ -39,20 +25,9 @@ pub(crate) fn has_name(items: &[Item], name: &str) -> bool
     false
 }
 
-/// A name as a text.
-pub fn name_text(name: &[u8]) -> &str
-    requires { IsTrue (is_name name.now) }
-    ensures { result.now ≡ name.now }
-{
-    match ascii_text(name) {
-        Some(text) => text,
-        None => "",
-    }
-}
-
 /// The name that a token is, in a rule that has these items before it.
 #[tactic(auto, unfolding(crate::specs::Grammar::name_of))]
-fn name_of(alloc: Global, before: &[Item], token: &Token) -> Result<String, Refusal>
+fn name_of(alloc: Global, before: &[Item], token: &Token) -> Result<String, Refusal<Wrong>>
     ensures { Gives string_bytes result (name_of (seen_items before.now) (view token.now)) }
 {
     let end = name_end(token.text);
@@ -84,7 +59,7 @@ fn want_of(
     name: &str,
     stop: &Token,
     tokens: &[Token],
-) -> Result<Want, Refusal>
+) -> Result<Want, Refusal<Wrong>>
     ensures { Gives seen_want result (want_of version name.now (view stop.now) (views tokens.now)) }
 {
     let [first, others @ ..] = tokens else {
@@ -111,7 +86,7 @@ fn item_of(
     before: &[Item],
     stop: &Token,
     tokens: &[Token],
-) -> Result<Item, Refusal>
+) -> Result<Item, Refusal<Wrong>>
     ensures { Gives seen_item result (item_of version level (seen_items before.now) (view stop.now) (views tokens.now)) }
 {
     let [first, others @ ..] = tokens else {
@@ -130,7 +105,7 @@ fn items_of<'s, 't>(
     before: Vec<Item>,
     stop: &'s Token<'t>,
     tokens: &'s [Token<'t>],
-) -> Result<Vec<Item>, Refusal>
+) -> Result<Vec<Item>, Refusal<Wrong>>
     ensures { Gives (λ v. seen_items v.items) result (items_of version level (seen_items before.items) (view stop.now) (views tokens.now)) }
 {
     let mut items = before;
@@ -194,7 +169,7 @@ pub(crate) fn level_of<'s, 't>(
     before: Vec<Item>,
     end: &'s Token<'t>,
     tokens: &'s [Token<'t>],
-) -> Result<Vec<Item>, Refusal>
+) -> Result<Vec<Item>, Refusal<Wrong>>
     ensures { Gives (λ v. seen_items v.items) result (level_of version level (seen_items before.items) (view end.now) (views tokens.now)) }
 {
     let (inside, behind) = tokens.split_at(bracket_place(tokens));

@@ -12,7 +12,5 @@ mod schema;
 mod values;
 
 pub use fault::{PlaceFault, SchemaFault, SchemaKind};
-pub use items::{name_end, name_text};
 pub use place::Place;
 pub use schema::Schema;
-pub use values::{ascii_text, spelled};

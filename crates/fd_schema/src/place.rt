@@ -1,6 +1,6 @@
 // The place of a key: the first rule that admits it, and the three texts that the rule makes of it.
-ghost use Rattle.std.specs.{Prelude.{◌≡◌, ◌≤◌, ℕ, List, IfOk, OnOk, string_bytes, length, is_some}, List.{list_all, list_any}, Str.{bytes_eq}, Option.{option_copied}};
-ghost use Rattle.fd_schema.specs.{Rules.{suits, suits_key, has_meaning, is_known, admits, file_key, joined_behind, level_text, place_from}, Seen.{seen_items, seen_want, seen_rule, seen_rules, texts}, Reading.{GivesPlace, seen_place}};
+ghost use Rattle.std.specs.{Prelude.{◌≡◌, ◌≤◌, ℕ, List, IfOk, OnOk, string_bytes, length, is_some}, List.{list_all}, Option.{option_copied}};
+ghost use Rattle.fd_schema.specs.{Rules.{suits, suits_key, has_meaning, is_known, admits, file_key, joined_behind, level_text, place_from}, Seen.{seen_items, seen_want, seen_rule, seen_rules}, Reading.{GivesPlace, seen_place}};
 
 use crate::fault::PlaceFault;
 use crate::grammar::same_level;
@@ -9,6 +9,7 @@ use crate::rule::{Item, Level, Rule, Version, Want};
 use arrayvec::ArrayString;
 use fd_bytes::NoMemory;
 use fd_key::Key;
+use fd_spelling::is_one_of;
 use std::alloc::Global;
 
 /// So many bytes have room in a new text of a level. Most such texts have fewer, so that memory is asked for once.
@@ -52,18 +53,6 @@ impl Place {
         key.push_str(self.datum.as_str());
         key
     }
-}
-
-/// Tells that one of the values is this text.
-fn is_one_of(values: &[String], text: &str) -> bool
-    ensures { result ≡ list_any (bytes_eq text.now) (texts values.now) }
-{
-    for value in values {
-        if text == value.as_str() {
-            return true;
-        }
-    }
-    false
 }
 
 /// Tells that what a rule wants of a name goes with the text that a key has for it.

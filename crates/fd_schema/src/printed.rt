@@ -1,6 +1,7 @@
 // The text of a schema.
 ghost use Rattle.std.specs.Prelude.{◌≡◌, ◌++◌, IfOk, OnOk, true, string_bytes};
-ghost use Rattle.fd_schema.specs.{Seen.{texts, seen_want, seen_item, seen_items, seen_rule, seen_rules}, Printed.{values_text, want_text, item_text, level_items_text, rule_text, rules_text, version_line, schema_text}};
+ghost use Rattle.fd_spelling.specs.Texts.{texts};
+ghost use Rattle.fd_schema.specs.{Seen.{seen_want, seen_item, seen_items, seen_rule, seen_rules}, Printed.{values_text, want_text, item_text, level_items_text, rule_text, rules_text, version_line, schema_text}};
 
 use crate::grammar::same_level;
 use crate::rule::{Item, Level, Rule, Version, Want};

@@ -3,7 +3,7 @@ ghost use Rattle.fd_key.specs.Pairs.{key_text};
 ghost use Rattle.fd_schema.specs.{Rules.{IsShort, place_from}, Grammar.{marks, written, version_behind, version_of, rules_in, schema_of}, Seen.{seen_rules}, Printed.{schema_text}, Reading.{Gives, GivesSchema, GivesPlace, Names, line_of, seen_place, seen_wrong}};
 ghost use Rattle.fd_tokens.specs.Tokens.{view, views};
 
-use crate::fault::{PlaceFault, Refusal, SchemaFault, SchemaKind, Wrong};
+use crate::fault::{PlaceFault, SchemaFault, SchemaKind, Wrong};
 use crate::grammar::rules_of;
 use crate::place::{Place, has_place, place_of};
 use crate::plain::plain;
@@ -11,7 +11,7 @@ use crate::printed::text_of;
 use crate::rule::{Rule, Version};
 use fd_bytes::NoMemory;
 use fd_key::Key;
-use fd_tokens::{Token, tokens_of};
+use fd_tokens::{Refusal, Token, tokens_of};
 use std::alloc::Global;
 use std::marker::Model;
 
@@ -43,15 +43,15 @@ impl Model for Schema {
     ghost invariant = { λ s. (length s.rules.items ≤ 256) × IsSchema (seen_rules s.rules.items) };
 }
 
-/// What stands before a place.
-fn before(text: &[u8], at: usize) -> &[u8]
-    ensures { result.now ≡ take at text.now }
+/// What stands before a place, and from it on.
+fn cut_at(text: &[u8], at: usize) -> (&[u8], &[u8])
+    ensures before { result.0.now ≡ take at text.now }
+    ensures behind { result.1.now ≡ drop at text.now }
 {
     if at < text.len() {
-        let (front, _) = text.split_at(at);
-        front
+        text.split_at(at)
     } else {
-        text
+        (text, b"".as_slice())
     }
 }
 
@@ -67,7 +67,8 @@ fn line_of(text: &[u8], at: usize) -> u32
     requires { length text.now ≤ 65536 }
     ensures { result ≡ line_of text.now at }
 {
-    1 + line_feeds(before(text, at)) as u32
+    let (before, _) = cut_at(text, at);
+    1 + line_feeds(before) as u32
 }
 
 /// The byte at a place, or 0.
@@ -95,30 +96,20 @@ fn kind_of(wrong: Wrong, byte: u8) -> SchemaKind
     }
 }
 
-/// What stands from a place on.
-fn from(text: &[u8], at: usize) -> &[u8]
-    ensures { result.now ≡ drop at text.now }
-{
-    if at < text.len() {
-        let (_, behind) = text.split_at(at);
-        behind
-    } else {
-        b""
-    }
-}
-
 /// A token as it is written in the text.
 fn written<'a>(text: &'a [u8], token: &Token) -> &'a [u8]
     ensures { result.now ≡ written text.now (view token.now) }
 {
-    before(from(text, token.at), token.text.len())
+    let (_, behind) = cut_at(text, token.at);
+    let (written, _) = cut_at(behind, token.text.len());
+    written
 }
 
 /// The version behind the word `version`, which stands at this place, and the tokens behind it.
 fn version_behind<'s, 't>(
     at: usize,
     tokens: &'s [Token<'t>],
-) -> Result<(Version, &'s [Token<'t>]), Refusal>
+) -> Result<(Version, &'s [Token<'t>]), Refusal<Wrong>>
     ensures { Gives (λ v. (v.0, views v.1.now)) result (version_behind at (views tokens.now)) }
 {
     match tokens {
@@ -138,7 +129,7 @@ fn version_behind<'s, 't>(
 fn version_of<'s, 't>(
     text: &[u8],
     tokens: &'s [Token<'t>],
-) -> Result<(Version, &'s [Token<'t>]), Refusal>
+) -> Result<(Version, &'s [Token<'t>]), Refusal<Wrong>>
     ensures { Gives (λ v. (v.0, views v.1.now)) result (version_of text.now (views tokens.now)) }
 {
     match tokens {
@@ -155,7 +146,7 @@ fn version_of<'s, 't>(
 
 /// The rules of a text that isn't too long, which may be none, or the first place that is wrong.
 #[tactic(auto, unfolding(crate::specs::Grammar::rules_in))]
-fn rules_in(alloc: Global, text: &[u8]) -> Result<Vec<Rule>, Refusal>
+fn rules_in(alloc: Global, text: &[u8]) -> Result<Vec<Rule>, Refusal<Wrong>>
     ensures rules { Gives (λ v. seen_rules v.items) result (rules_in text.now) }
     ensures few { IfOk result (λ v. length v.items ≤ 256) }
 {
@@ -173,7 +164,7 @@ fn rules_in(alloc: Global, text: &[u8]) -> Result<Vec<Rule>, Refusal>
 
 /// The rules of a text that isn't too long, or the first place that is wrong.
 #[tactic(auto, unfolding(crate::specs::Grammar::schema_of))]
-fn some_rules(alloc: Global, text: &[u8]) -> Result<Vec<Rule>, Refusal>
+fn some_rules(alloc: Global, text: &[u8]) -> Result<Vec<Rule>, Refusal<Wrong>>
     requires { length text.now ≤ 65536 }
     ensures rules { Gives (λ v. seen_rules v.items) result (schema_of text.now) }
     ensures few { IfOk result (λ v. length v.items ≤ 256) }

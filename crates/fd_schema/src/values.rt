@@ -1,19 +1,19 @@
 // The values of a restriction.
-ghost use Rattle.std.specs.Prelude.{◌≡◌, ℕ, Some, None, IfOk, IfSome, IsTrue, option_map, string_bytes, if◌then◌else◌};
-ghost use Rattle.fd_spelling.specs.Names.{is_value};
+ghost use Rattle.std.specs.Prelude.{◌≡◌, ℕ, IfOk, IsTrue, option_map, string_bytes};
+ghost use Rattle.fd_spelling.specs.{Names.{is_value}, Texts.{texts}};
 ghost use Rattle.fd_tokens.specs.Tokens.{view, views};
-ghost use Rattle.fd_schema.specs.{Grammar.{is_ascii, absent, begins_value, spelled, spelled_in, plain_value, value_of, values_of}, Seen.{texts}, Reading.{Gives, Fails}};
+ghost use Rattle.fd_schema.specs.{Grammar.{absent, begins_value, spelled_in, plain_value, value_of, values_of}, Reading.{Gives, Fails}};
 
-use crate::fault::{Refusal, Wrong};
+use crate::fault::Wrong;
 use crate::place::has_meaning;
 use crate::rule::Version;
 use fd_bytes::NoMemory;
-use fd_key::{ValueFault, canonical, is_value, is_value_byte};
-use fd_tokens::{Token, part_from};
+use fd_spelling::{ascii_text, is_value, is_value_byte, spelled};
+use fd_tokens::{Refusal, Token, part_from};
 use std::alloc::Global;
 
 /// Where something is wanted, this stands: a byte, or the end of the text, which is a token without bytes.
-pub(crate) fn absent(stop: &Token) -> Refusal
+pub(crate) fn absent(stop: &Token) -> Refusal<Wrong>
     ensures { Fails {Y = ℕ} result (absent (view stop.now)) }
 {
     if stop.text.is_empty() {
@@ -29,40 +29,6 @@ fn begins_value(text: &[u8]) -> bool
     match text {
         [] => false,
         [b, ..] => is_value_byte(*b),
-    }
-}
-
-pub(crate) fn is_ascii(text: &[u8]) -> bool
-    ensures { result ≡ is_ascii text.now }
-{
-    text.iter().all(|b| *b < 128)
-}
-
-/// Bytes that are ASCII, as a text.
-pub fn ascii_text(bytes: &[u8]) -> Option<&str>
-    ensures { option_map (λ s. s.now) result ≡ (if is_ascii bytes.now then Some bytes.now else None) }
-{
-    if !is_ascii(bytes) {
-        return None;
-    }
-    match str::from_utf8(bytes) {
-        Ok(text) => Some(text),
-        Err(_) => None,
-    }
-}
-
-/// The one spelling of a text as a value of the name, if it is one.
-pub fn spelled(alloc: Global, name: &str, text: &[u8]) -> Result<Option<String>, NoMemory>
-    ensures text { IfOk result (λ o. option_map string_bytes o ≡ spelled name.now text.now) }
-    ensures value { IfOk result (λ o. IfSome o (λ s. IsTrue (is_value (string_bytes s)))) }
-{
-    let Some(text) = ascii_text(text) else {
-        return Ok(None);
-    };
-    match canonical(alloc, name, text) {
-        Ok(value) => Ok(Some(value)),
-        Err(ValueFault::BadValue) => Ok(None),
-        Err(ValueFault::NoMemory) => Err(NoMemory),
     }
 }
 
@@ -111,7 +77,7 @@ fn value(
     name: &str,
     stop: &Token,
     tokens: &[Token],
-) -> Result<String, Refusal>
+) -> Result<String, Refusal<Wrong>>
     ensures { Gives string_bytes result (value_of version name.now (view stop.now) (views tokens.now)) }
 {
     let [first, others @ ..] = tokens else {
@@ -136,7 +102,7 @@ pub(crate) fn values<'s, 't>(
     name: &str,
     stop: &'s Token<'t>,
     tokens: &'s [Token<'t>],
-) -> Result<Vec<String>, Refusal>
+) -> Result<Vec<String>, Refusal<Wrong>>
     ensures { Gives (λ v. texts v.items) result (values_of version name.now (view stop.now) (views tokens.now)) }
 {
     let mut values = Vec::new(alloc);

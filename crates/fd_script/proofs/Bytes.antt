@@ -8,7 +8,7 @@ use Rattle.std.proofs.lemmas.List.Splits.{slice_split_first, length-slice_split}
 use Rattle.std.specs.Prelude.{◌||◌, codes}
 use Rattle.std.specs.Str.{bytes_eq}
 use Rattle.fd_script.specs.Lines.{lines_of}
-use Rattle.fd_schema.specs.Grammar.{is_ascii}
+use Rattle.fd_spelling.specs.Texts.{is_ascii}
 use Rattle.fd_script.specs.Grammar.{Wrong, Byte, foreign_byte, has_messages}
 
 pub all_ascii : (line : List ℕ) → foreign_byte line ≡ None → is_ascii line ≡ true

@@ -2,7 +2,7 @@
 ghost use Rattle.std.specs.{Prelude.{◌≡◌, ◌+◌, ◌∷◌, length, option_map, Some, None, IfSome, IfNone, IfOk, IfErr}, Option.{option_copied}, Prelude.{◌==◌}, List.{position_or_len}};
 ghost use Rattle.fd_script.specs.{Lines.{lines_of}, Grammar.{Byte, foreign_byte, has_messages}, Lines.{lines_if}};
 
-use fd_schema::ascii_text;
+use fd_spelling::ascii_text;
 
 /// The place of the first line feed, or the length.
 fn line_end(text: &[u8]) -> usize

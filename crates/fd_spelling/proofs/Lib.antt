@@ -1,5 +1,6 @@
 pub mod Digits
 pub mod AsciiLaws
+pub mod AsciiTexts
 pub mod Zeros
 pub mod PieceLaws
 mod Rows
@@ -12,4 +13,4 @@ pub mod Shorter
 pub mod ShortTexts
 pub mod StatLaws
 pub mod AgainStats
-pub mod Spelled
+pub mod Spellings

@@ -7,3 +7,4 @@ pub mod Pieces
 pub mod Stats
 pub mod Canonical
 pub mod FaultTexts
+pub mod Texts

@@ -29,6 +29,7 @@ mod numerals;
 mod pieces;
 mod stats;
 mod steps;
+mod texts;
 mod values;
 
 pub use civil::{date_text, is_date, is_time, push_date, push_time, time_text};
@@ -40,4 +41,5 @@ pub use numerals::{cut, is_numeral, number_of, number_up_to};
 pub use pieces::{comma_piece, first_piece};
 pub use stats::{none_text, part_text, push_part};
 pub use steps::{push_step, step_text};
+pub use texts::{ascii_text, is_one_of, name_end, name_text, spelled};
 pub use values::{canonical, number_text, param_text, push_number, push_param, read_pair};

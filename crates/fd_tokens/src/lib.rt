@@ -2,9 +2,11 @@
 #![tactic(auto)]
 
 mod part;
+mod refusal;
 mod token;
 mod tokens;
 
 pub use part::part_from;
+pub use refusal::Refusal;
 pub use token::Token;
 pub use tokens::{is_token, tokens_of};

@@ -1,6 +1,6 @@
 use Rattle.std.proofs.Common.{◌≡◌, IfSome, List, ℕ, Some, subst}
 use Rattle.fd_io.specs.Streams.{TakesFront}
-use Rattle.fd_schema.specs.Seen.{texts}
+use Rattle.fd_spelling.specs.Texts.{texts}
 use Rattle.fd_contents.specs.Printed.{ArePrinted}
 use Rattle.fd_contents.specs.Texts.{texts_for}
 use Rattle.fd_retrieve.specs.Ready.{AreFirmOf}

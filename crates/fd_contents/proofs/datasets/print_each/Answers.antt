@@ -1,7 +1,7 @@
 use Rattle.std.proofs.Common.{rules, ◌≡◌, ◌∙◌, ◌+◌, ◌∷◌, [], IfSome, List, ℕ, Some, string_bytes, subst, sym, arith, take, drop}
 use Rattle.std.proofs.lemmas.List.{length-map}
 use Rattle.fd_io.specs.Streams.{TakesFront}
-use Rattle.fd_schema.specs.Seen.{texts}
+use Rattle.fd_spelling.specs.Texts.{texts}
 use Rattle.fd_disk.specs.Folders.{folder_at}
 use Rattle.fd_recovery.specs.Crashing.{IsFirmTable}
 use Rattle.fd_retrieve.specs.Ready.{AreFirmOf, IsBrokenOf}

@@ -1,6 +1,6 @@
 use Rattle.std.proofs.Common.{◌≡◌, ◌≤◌, List, ℕ, false, IfSome, take}
 use Rattle.fd_disk.specs.Folders.{WhereTold}
-use Rattle.fd_schema.specs.Seen.{texts}
+use Rattle.fd_spelling.specs.Texts.{texts}
 use Rattle.fd_outcome.specs.Store.{IsLookedThrough}
 use Rattle.fd_retrieve.specs.Ready.{AreFirmOf}
 use Rattle.fd_contents.proofs.Printing.{Printed}

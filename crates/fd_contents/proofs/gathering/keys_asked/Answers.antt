@@ -1,5 +1,5 @@
 use Rattle.std.proofs.Common.{IfSome, subst}
-use Rattle.fd_schema.specs.Seen.{texts}
+use Rattle.fd_spelling.specs.Texts.{texts}
 use Rattle.fd_retrieve.specs.Ready.{NoneIsDamaged}
 use Rattle.fd_contents.specs.Gathering.{FindsAll}
 use Rattle.fd_contents.proofs.Gathered.{Gathered}

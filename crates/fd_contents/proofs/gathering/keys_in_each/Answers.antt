@@ -2,7 +2,7 @@ use Rattle.std.proofs.Common.{rules, ◌≡◌, ◌∷◌, [], IfSome, string_by
 use Rattle.std.proofs.lemmas.List.{length-map}
 use Rattle.fd_disk.specs.Folders.{folder_at}
 use Rattle.fd_recovery.specs.Recovered.{IsUndamaged}
-use Rattle.fd_schema.specs.Seen.{texts}
+use Rattle.fd_spelling.specs.Texts.{texts}
 use Rattle.fd_retrieve.specs.Ready.{IsBrokenOf, NoneIsDamaged}
 use Rattle.fd_retrieve.proofs.PrepareLemmas.{among_one_of, broken_told, none_told_more, take_end, take_more}
 use Rattle.fd_retrieve.proofs.Looking.{looked_both}

@@ -1,5 +1,5 @@
 use Rattle.std.proofs.Common.{refl}
-use Rattle.fd_schema.specs.Seen.{texts}
+use Rattle.fd_spelling.specs.Texts.{texts}
 use Rattle.fd_contents.specs.Told.{KeysPrinted, KeysStarved}
 use Rattle.fd_contents.proofs.telling.print_cubes.Goals as goal
 

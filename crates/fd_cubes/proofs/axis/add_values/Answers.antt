@@ -1,5 +1,5 @@
 use Rattle.std.proofs.Common.{◌∙◌, ◌++◌, List, ℕ, ap, sym, subst}
-use Rattle.fd_schema.specs.Seen.{texts}
+use Rattle.fd_spelling.specs.Texts.{texts}
 use Rattle.fd_cubes.specs.Axes.{AreSorted}
 use Rattle.fd_cubes.proofs.Sorted.{texts_appended, texts_moved, texts_sorted}
 use Rattle.fd_cubes.proofs.axis.add_values.Goals as goal

@@ -1,5 +1,5 @@
 use Rattle.std.proofs.Common.{◌≡◌, ◌≢◌, true≢false, ap, sym, ◌∙◌, arith, rules, string_bytes}
-use Rattle.fd_schema.specs.Seen.{texts}
+use Rattle.fd_spelling.specs.Texts.{texts}
 use Rattle.fd_cubes.specs.declared.axis.Axis as code_axis
 use Rattle.fd_cubes.specs.Axes.{seen_axis}
 use Rattle.fd_cubes.proofs.Seen.{same_length, same_more, same_name, same_there, same_item, blank_at, blank_here, blank_there}

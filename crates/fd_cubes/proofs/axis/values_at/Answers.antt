@@ -1,5 +1,5 @@
 use Rattle.std.proofs.Common.{ap, ◌∙◌}
-use Rattle.fd_schema.specs.Seen.{texts}
+use Rattle.fd_spelling.specs.Texts.{texts}
 use Rattle.fd_cubes.proofs.Seen.{at_place_or, past_places}
 use Rattle.fd_cubes.proofs.axis.values_at.Goals as goal
 

@@ -1,5 +1,5 @@
 use Rattle.std.proofs.Common.{◌≡◌, ◌++◌, drop, string_bytes}
-use Rattle.fd_schema.specs.Seen.{texts}
+use Rattle.fd_spelling.specs.Texts.{texts}
 use Rattle.fd_cubes.specs.Cubes.{more_values}
 use Rattle.fd_cubes.proofs.cube.push_more.Given as goal
 

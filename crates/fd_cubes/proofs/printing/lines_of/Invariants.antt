@@ -1,5 +1,5 @@
 use Rattle.std.proofs.Common.{◌≡◌, map, take}
-use Rattle.fd_schema.specs.Seen.{texts}
+use Rattle.fd_spelling.specs.Texts.{texts}
 use Rattle.fd_cubes.specs.Cubes.{cube_text}
 use Rattle.fd_cubes.proofs.printing.lines_of.Given as goal
 

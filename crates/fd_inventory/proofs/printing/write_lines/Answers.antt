@@ -5,7 +5,7 @@ use Rattle.fd_io.specs.Streams.{Takes, TakesFront}
 use Rattle.fd_listing.specs.Sinks.{HasSinkCause}
 use Rattle.fd_listing.specs.Lines.{line}
 use Rattle.fd_listing.proofs.Taking.{broken, held_written}
-use Rattle.fd_schema.specs.Seen.{texts}
+use Rattle.fd_spelling.specs.Texts.{texts}
 use Rattle.fd_inventory.specs.Written.{text_lines}
 use Rattle.fd_inventory.proofs.Printed.{text_held, texts_written}
 use Rattle.fd_inventory.proofs.printing.write_lines.Goals as goal

@@ -1,6 +1,6 @@
 use Rattle.std.proofs.Common.{◌≡◌, ◌++◌, drop, string_bytes}
 use Rattle.fd_listing.specs.Sinks.{TakesAllBut}
-use Rattle.fd_schema.specs.Seen.{texts}
+use Rattle.fd_spelling.specs.Texts.{texts}
 use Rattle.fd_inventory.specs.Written.{text_lines}
 use Rattle.fd_inventory.proofs.printing.write_lines.Given as goal
 

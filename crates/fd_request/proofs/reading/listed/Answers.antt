@@ -1,5 +1,5 @@
 use Rattle.std.proofs.Common.{[], sym, arith, ◌∙◌}
-use Rattle.fd_schema.specs.Seen.{texts}
+use Rattle.fd_spelling.specs.Texts.{texts}
 use Rattle.fd_request.specs.Grammar.{each_of, value_in}
 use Rattle.fd_request.specs.Seen.{seen_words}
 use Rattle.fd_request.proofs.Turns.{value_stops, value_goes, values_end, one_more_value}

@@ -1,7 +1,7 @@
 use Rattle.std.proofs.Common.{◌≡◌, true, length, drop, []}
 use Rattle.std.specs.List.{list_all}
 use Rattle.fd_spelling.specs.Names.{is_value}
-use Rattle.fd_schema.specs.Seen.{texts}
+use Rattle.fd_spelling.specs.Texts.{texts}
 use Rattle.fd_request.specs.Grammar.{each_of, value_in}
 use Rattle.fd_request.specs.Seen.{seen_words}
 use Rattle.fd_request.proofs.reading.listed.Given as goal

@@ -3,7 +3,7 @@ use Rattle.std.specs.Prelude.{IfSome}
 use Rattle.std.proofs.lemmas.Result.{IfErr-weaker, IfOk-weaker}
 use Rattle.fd_disk.specs.Folders.{WhereTold}
 use Rattle.fd_schema.specs.Reading.{seen_place}
-use Rattle.fd_schema.specs.Seen.{texts}
+use Rattle.fd_spelling.specs.Texts.{texts}
 use Rattle.fd_outcome.specs.Store.{Stays}
 use Rattle.fd_outcome.specs.Trying.{tally_of}
 use Rattle.fd_retrieve.specs.Counting.{IsLostIn, IsTally, finds}

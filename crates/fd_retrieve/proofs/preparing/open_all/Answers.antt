@@ -3,7 +3,7 @@ use Rattle.std.proofs.lemmas.List.{length-map}
 use Rattle.fd_disk.specs.Folders.{folder_at}
 use Rattle.fd_recovery.specs.Crashing.{IsFirmTable}
 use Rattle.fd_recovery.specs.Recovered.{IsUndamaged}
-use Rattle.fd_schema.specs.Seen.{texts}
+use Rattle.fd_spelling.specs.Texts.{texts}
 use Rattle.fd_retrieve.specs.Ready.{AreFirmOf, AreOpen, IsBrokenOf, MayOpen, NoneIsDamaged}
 use Rattle.fd_retrieve.proofs.Firmly.{firm_told_more}
 use Rattle.fd_retrieve.proofs.Looking.{looked_both}

@@ -1,5 +1,5 @@
 use Rattle.std.proofs.Common.{◌≡◌, drop}
-use Rattle.fd_schema.specs.Seen.{texts}
+use Rattle.fd_spelling.specs.Texts.{texts}
 use Rattle.fd_outcome.specs.Asking.{is_among}
 use Rattle.fd_retrieve.proofs.tables.is_one_of.Given as goal
 

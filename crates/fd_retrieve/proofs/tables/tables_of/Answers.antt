@@ -1,6 +1,6 @@
 use Rattle.std.proofs.Common.{◌∙◌, ◌+◌, ◌++◌, IfSome, subst, sym, ap, arith, take, drop}
 use Rattle.fd_schema.specs.Reading.{seen_place}
-use Rattle.fd_schema.specs.Seen.{texts}
+use Rattle.fd_spelling.specs.Texts.{texts}
 use Rattle.fd_schema.specs.declared.place.Place.{Place}
 use Rattle.fd_retrieve.specs.Tables.{AreSome, AreTables, datasets_in}
 use Rattle.fd_retrieve.proofs.Distinct.{many_some, some_more}

@@ -1,5 +1,5 @@
 use Rattle.std.proofs.Common.{◌≡◌, ◌++◌, drop, true, string_bytes}
-use Rattle.fd_schema.specs.Seen.{texts}
+use Rattle.fd_spelling.specs.Texts.{texts}
 use Rattle.fd_schema.specs.Printed.{values_text}
 use Rattle.fd_schema.proofs.printed.push_values.Given as goal
 

@@ -1,6 +1,6 @@
 use Rattle.std.proofs.Common.{◌≡◌, true}
 use Rattle.fd_spelling.proofs.AsciiLaws.{value_is_ascii}
-use Rattle.fd_schema.specs.Grammar.{is_ascii}
+use Rattle.fd_spelling.specs.Texts.{is_ascii}
 use Rattle.fd_schema.proofs.values.value_text.Goals as goal
 
 pub returns-in-None : goal.returns-in-None

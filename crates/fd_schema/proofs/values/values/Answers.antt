@@ -2,7 +2,7 @@ use Rattle.std.proofs.Common.{◌≡◌, ◌++◌, ◌∷◌, [], ◌∙◌, ap,
 use Rattle.std.proofs.lemmas.List.{map_push}
 use Rattle.fd_tokens.specs.Tokens.{Part, parts, parts_if, view, views}
 use Rattle.fd_schema.specs.Grammar.{value_in, values_of, each_of}
-use Rattle.fd_schema.specs.Seen.{texts}
+use Rattle.fd_spelling.specs.Texts.{texts}
 use Rattle.fd_schema.proofs.Turns.{part_goes, part_stops, parts_end}
 use Rattle.fd_schema.proofs.values.values.Goals as goal
 

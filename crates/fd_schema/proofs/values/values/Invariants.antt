@@ -1,7 +1,7 @@
 use Rattle.std.proofs.Common.{◌≡◌, ◌≤◌, ◌-◌, ◌+◌, length, drop}
 use Rattle.fd_tokens.specs.Tokens.{view, views, parts}
 use Rattle.fd_schema.specs.Grammar.{each_of, value_in, values_of}
-use Rattle.fd_schema.specs.Seen.{texts}
+use Rattle.fd_spelling.specs.Texts.{texts}
 use Rattle.fd_schema.proofs.values.values.Given as goal
 
 abbrev pub invariant-parts : goal.invariant-parts

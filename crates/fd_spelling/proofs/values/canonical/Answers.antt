@@ -1,6 +1,6 @@
 use Rattle.std.proofs.Common.{rules}
 use Rattle.fd_spelling.specs.Canonical.{GivesText, canonical}
-use Rattle.fd_spelling.proofs.Spelled.{if_spelled}
+use Rattle.fd_spelling.proofs.Spellings.{if_spelled}
 use Rattle.fd_spelling.proofs.values.canonical.Goals as goal
 
 pub returns-clause-again : goal.returns-clause-again

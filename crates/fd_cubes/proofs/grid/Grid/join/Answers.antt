@@ -1,5 +1,5 @@
 use Rattle.std.proofs.Common.{◌≡◌, ap, refl, ◌∙◌, arith}
-use Rattle.fd_schema.specs.Seen.{texts}
+use Rattle.fd_spelling.specs.Texts.{texts}
 use Rattle.fd_cubes.specs.Axes.{values_at, width}
 use Rattle.fd_cubes.specs.Grids.{seen_grid}
 use Rattle.fd_cubes.proofs.Seen.{at_place, size_is}

@@ -1,7 +1,7 @@
 use Rattle.std.proofs.Common.{◌≡◌, true}
-use Rattle.fd_schema.specs.Grammar.{is_ascii}
-use Rattle.fd_schema.proofs.Ascii.{name_is_ascii}
-use Rattle.fd_schema.proofs.items.name_text.Goals as goal
+use Rattle.fd_spelling.specs.Texts.{is_ascii}
+use Rattle.fd_spelling.proofs.AsciiLaws.{name_is_ascii}
+use Rattle.fd_spelling.proofs.texts.name_text.Goals as goal
 
 pub returns-in-None : goal.returns-in-None
 returns-in-None c =

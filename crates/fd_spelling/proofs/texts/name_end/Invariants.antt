@@ -1,7 +1,7 @@
 use Rattle.std.proofs.Common.{◌≡◌, ◌+◌, drop}
 use Rattle.std.specs.List.{prefix_len}
 use Rattle.fd_spelling.specs.Names.{is_name_byte}
-use Rattle.fd_schema.proofs.items.name_end.Given as goal
+use Rattle.fd_spelling.proofs.texts.name_end.Given as goal
 
 abbrev pub invariant-loop-i : goal.invariant-loop-i
 invariant-loop-i l = prefix_len is_name_byte l.text ≡ l.i + prefix_len is_name_byte (drop l.i l.text)

@@ -1,7 +1,7 @@
 use Rattle.std.proofs.Common.{◌≡◌, true, sym, ◌∙◌}
-use Rattle.fd_schema.specs.Grammar.{is_ascii}
-use Rattle.fd_schema.proofs.Ascii.{is_utf8}
-use Rattle.fd_schema.proofs.values.ascii_text.Goals as goal
+use Rattle.fd_spelling.specs.Texts.{is_ascii}
+use Rattle.fd_spelling.proofs.AsciiTexts.{is_utf8}
+use Rattle.fd_spelling.proofs.texts.ascii_text.Goals as goal
 
 pub returns-in-Err : goal.returns-in-Err
 returns-in-Err c =
