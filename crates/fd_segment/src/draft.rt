@@ -12,6 +12,7 @@ use crate::firm::make_firm;
 use crate::segment::Segment;
 use crate::writing::{field_digest, write_digested};
 use fd_disk::{Disk, Down, Shelf};
+use fd_entries::Entry;
 use fd_index::IndexBuilder;
 use std::alloc::Global;
 use std::marker::{Model, PhantomData};
@@ -233,16 +234,17 @@ impl<F: Send, H: Shelf<F>> Draft<F, H> {
             of: _,
         } = self;
         match make_firm(alloc, &records, &mut field_file, &mut index_file) {
-            Ok((index_len, digest)) => Ok(Segment::new(
-                writer,
-                seq,
-                records.len(),
-                index_len,
-                end,
-                digest,
-                field_file.seal(),
-                index_file.seal(),
-            )),
+            Ok((index_len, digest)) => {
+                let entry = Entry {
+                    writer,
+                    seq,
+                    fields: records.len(),
+                    index_len,
+                    fields_len: end,
+                    digest,
+                };
+                Ok(Segment::new(entry, field_file.seal(), index_file.seal()))
+            }
             Err(fault) => Err((
                 Draft {
                     writer,
