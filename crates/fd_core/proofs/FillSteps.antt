@@ -24,7 +24,7 @@ use Rattle.fd_machine.proofs.Reached.{done, phase_put, place_is, reached_few, re
 
 -- a batch of which a test tells that it isn't empty has a pair
 pub not_empty : (b : Bool) (ps : List Pair) → IsTrue b ↔ (ps ≡ []) → b ≡ false → is_empty ps ≡ false
-not_empty b [] told is = absurd (subst IsTrue is (told.1 refl))
+not_empty b [] told is = let so : false ≡ true = sym is ∙ told.1 refl in absurd (cc so)
 not_empty b (p ∷ ps) told is = refl
 
 -- the batch of a writer is one that a table may list
