@@ -1,4 +1,5 @@
-ghost use Rattle.std.specs.Prelude.{◌≡◌, ◌<◌, [], ◌∷◌, ◌++◌, List, ℕ, IsTrue, ◌↔◌, length, slice_get, slice_set, IfOk, OnOk, OnErr};
+ghost use Rattle.std.specs.Prelude.{◌≡◌, ◌<◌, ◌+◌, [], ◌∷◌, ◌++◌, List, ℕ, IsTrue, ◌↔◌, Some, length, take, drop, slice_get, slice_set, IfOk, OnOk, OnErr};
+ghost use Rattle.std.specs.Borrow.{Lends, sem};
 
 use crate::NoMemory;
 use std::alloc::Global;
@@ -81,6 +82,8 @@ impl<T> Model for Items<T> {
 }
 
 impl<T> Items<T> {
+    ghost use Rattle.fd_bytes.specs.contracts.list.Items.{the_row};
+
     /// An empty list.
     pub fn new(alloc: Global) -> Items<T>
         ensures { result ≡ [] }
@@ -133,6 +136,15 @@ impl<T> Items<T> {
         &self.items[i]
     }
 
+    /// The value at a place, to be changed.
+    pub fn at_mut(&mut self, i: usize) -> &mut T
+        requires { i < length self.old }
+        ensures value { slice_get self.old i ≡ Some result.now }
+        ensures* writes_back { sem 𝓛 (Lends (the_row T.row) T.row self.entry result (slice_set self.old i)) }
+    {
+        &mut self.items[i]
+    }
+
     /// Appends a value. After `NoMemory` nothing has changed.
     pub fn push(&mut self, item: T) -> Result<(), NoMemory>
     where
@@ -174,5 +186,33 @@ impl<T> Items<T> {
         ensures { self.new ≡ slice_set self.old i item }
     {
         self.items[i] = item;
+    }
+
+    /// Takes the value at a place away.
+    pub fn remove(&mut self, i: usize)
+    where
+        T: Drop,
+        requires { i < length self.old }
+        ensures { self.new ≡ take i self.old ++ drop (i + 1) self.old }
+    {
+        self.items.remove(i);
+    }
+
+    /// Takes the last value away.
+    pub fn drop_last(&mut self)
+    where
+        T: Drop,
+        ensures { (xs : List T) (x : T) → self.old ≡ xs ++ x ∷ [] → self.new ≡ xs }
+    {
+        self.items.pop();
+    }
+
+    /// Takes all values away.
+    pub fn clear(&mut self)
+    where
+        T: Drop,
+        ensures { self.new ≡ [] }
+    {
+        self.items.clear();
     }
 }

@@ -1,8 +1,10 @@
 -- What the code of a step that fills or seals a batch has made of the state.
 use Rattle.std.proofs.Common.{◌≡◌, ◌&&◌, ◌^◌, ◌-◌, ◌<◌, ◌≤◌, ℕ, Bool, true, false, not, nat_lt, List, [], ◌∷◌, ◌++◌, length, Option, Some, None, is_some, is_none, ◌+◌, slice_get, slice_set, sym, ◌∙◌, ap, subst, refl, arith}
+use Rattle.std.specs.Prelude.{IsTrue, ◌↔◌}
 use Rattle.std.proofs.lemmas.Bool.Decides.{nat_tests}
 use Rattle.fd_disk.specs.declared.file.File.{File}
 use Rattle.fd_disk.specs.Images.{synced, written}
+use Rattle.fd_entries.specs.declared.batch.Pair.{Pair}
 use Rattle.fd_entries.specs.declared.table.Entry.{Entry}
 use Rattle.fd_entries.specs.Table.{body_of, gate_at, with_body}
 use Rattle.fd_machine.specs.declared.machine.NamedFile.{NamedFile}
@@ -19,6 +21,11 @@ use Rattle.fd_machine.specs.Took.{IsPlace, IsReached}
 use Rattle.fd_machine.proofs.Images.{and_true}
 use Rattle.fd_machine.proofs.Steps.{in_other}
 use Rattle.fd_machine.proofs.Reached.{done, phase_put, place_is, reached_few, reached_up, up_and}
+
+-- a batch of which a test tells that it isn't empty has a pair
+pub not_empty : (b : Bool) (ps : List Pair) → IsTrue b ↔ (ps ≡ []) → b ≡ false → is_empty ps ≡ false
+not_empty b [] told is = let so : false ≡ true = sym is ∙ told.1 refl in absurd (cc so)
+not_empty b (p ∷ ps) told is = refl
 
 -- the batch of a writer is one that a table may list
 pub reached_bounded : (s : World) (w : ℕ) → IsReached s → s.down ≡ false → IsBounded (writer_of s w).pairs

@@ -6,7 +6,7 @@ use crate::{Phase, State, Took};
 use fd_bytes::NoMemory;
 use fd_disk::{FileKind, FileName};
 use fd_entries::{CLOSED, OPEN, gate_at, greatest, rows_of, total_of};
-use fd_machine::{entry_of, write_file};
+use fd_machine::{entry_of, files, write_file, writers};
 use std::alloc::Global;
 
 /// The disk call that the writer would make next fails.
@@ -18,7 +18,7 @@ pub(crate) fn fail(alloc: Global, state: &mut State, w: u32) -> Result<Took, NoM
     if state.down {
         return Ok(Took::No);
     }
-    let Some(i) = state.writers.place(w) else {
+    let Some(i) = writers::place(&state.writers, w) else {
         fail_put(alloc, state, w)?;
         return Ok(Took::Yes);
     };
@@ -51,7 +51,7 @@ pub(crate) fn next_place(state: &State, w: u32) -> (FileName, u64)
     ensures at { result.1 ≡ total (writer_of state.now w).pairs }
     ensures fits { result.1 < 2 ^ 63 }
 {
-    match state.writers.place(w) {
+    match writers::place(&state.writers, w) {
         Some(i) => {
             let writer = state.writers.at(i);
             (writer.file(FileKind::Fields), total_of(&writer.pairs))
@@ -75,7 +75,7 @@ fn fail_put(alloc: Global, state: &mut State, w: u32) -> Result<(), NoMemory>
     ensures err { OnErr result (state.new ≡ state.old) }
 {
     let (name, at) = next_place(state, w);
-    state.files.loosen(alloc, name, at, 1 << 63)?;
+    files::loosen(&mut state.files, alloc, name, at, 1 << 63)?;
     Ok(())
 }
 
@@ -88,8 +88,8 @@ fn fail_index(alloc: Global, state: &mut State, w: u32, i: usize) -> Result<(), 
     let writer = state.writers.at(i);
     let rows = rows_of(alloc, &writer.pairs)?;
     let name = writer.file(FileKind::Index);
-    state.files.write(alloc, name, 0, &rows)?;
-    state.writers.set_phase(i, Phase::Filling);
+    files::write(&mut state.files, alloc, name, 0, &rows)?;
+    writers::set_phase(&mut state.writers, i, Phase::Filling);
     Ok(())
 }
 
@@ -98,7 +98,7 @@ fn fail_index_sync(state: &mut State, w: u32, i: usize)
     requires { IsAt state.old w i Written }
     ensures { state.new ≡ after state.old (Fail w) }
 {
-    state.writers.set_phase(i, Phase::Filling);
+    writers::set_phase(&mut state.writers, i, Phase::Filling);
 }
 
 /// The owner's first write at the table fails: the body's, or where an entry is in doubt that of its closed gate.
@@ -123,7 +123,7 @@ fn fail_close(alloc: Global, state: &mut State, w: u32, i: usize) -> Result<(), 
     let gate = gate_at(state.history.len());
     write_file(alloc, &mut state.table, gate, &[CLOSED])?;
     state.owner = None;
-    state.writers.set_phase(i, Phase::Sealed);
+    writers::set_phase(&mut state.writers, i, Phase::Sealed);
     Ok(())
 }
 
@@ -137,7 +137,7 @@ fn fail_body(alloc: Global, state: &mut State, w: u32, i: usize) -> Result<(), N
     let gate = gate_at(state.history.len());
     write_file(alloc, &mut state.table, gate + 1, &body)?;
     state.owner = None;
-    state.writers.set_phase(i, Phase::Sealed);
+    writers::set_phase(&mut state.writers, i, Phase::Sealed);
     Ok(())
 }
 
@@ -147,7 +147,7 @@ fn fail_table_sync(state: &mut State, w: u32, i: usize)
     ensures { state.new ≡ after state.old (Fail w) }
 {
     state.owner = None;
-    state.writers.set_phase(i, Phase::Sealed);
+    writers::set_phase(&mut state.writers, i, Phase::Sealed);
 }
 
 /// The write of the open gate fails: the entry is in doubt.
@@ -161,7 +161,7 @@ fn fail_gate(alloc: Global, state: &mut State, w: u32, i: usize) -> Result<(), N
     write_file(alloc, &mut state.table, gate, &[OPEN])?;
     state.doubt = Some(entry);
     state.owner = None;
-    state.writers.set_phase(i, Phase::Sealed);
+    writers::set_phase(&mut state.writers, i, Phase::Sealed);
     Ok(())
 }
 
@@ -172,5 +172,5 @@ fn fail_gate_sync(state: &mut State, w: u32, i: usize)
 {
     state.doubt = Some(entry_of(state.writers.at(i)));
     state.owner = None;
-    state.writers.set_phase(i, Phase::Sealed);
+    writers::set_phase(&mut state.writers, i, Phase::Sealed);
 }

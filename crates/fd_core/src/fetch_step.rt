@@ -6,6 +6,7 @@ use crate::{Answer, Seen, State, Took};
 use fd_bytes::{Bytes, Items, NoMemory};
 use fd_disk::FileKind;
 use fd_entries::{entry_at, newest_in};
+use fd_machine::files;
 use std::alloc::Global;
 
 /// A reader asks for the newest bytes of a key among the batches that it has seen.
@@ -58,7 +59,7 @@ fn of_slot<'a>(state: &'a State, slot: usize, key: &[u8]) -> Option<&'a [u8]>
     ensures { MatchOption result (of_slot state.now slot key.now ≡ None) (λ b. of_slot state.now slot key.now ≡ Some b.now) }
 {
     let entry = entry_at(state.table.reads.as_slice(), slot);
-    let index = state.files.reads_of(file_name(&entry, FileKind::Index));
-    let fields = state.files.reads_of(file_name(&entry, FileKind::Fields));
+    let index = files::reads_of(&state.files, file_name(&entry, FileKind::Index));
+    let fields = files::reads_of(&state.files, file_name(&entry, FileKind::Fields));
     newest_in(index, fields, key)
 }

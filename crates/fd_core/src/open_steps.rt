@@ -5,6 +5,7 @@ use crate::{Files, State, Took};
 use fd_bytes::{Items, NoMemory};
 use fd_disk::{FileKind, FileName};
 use fd_entries::{Batch, Entry, entries_of, read_pairs};
+use fd_machine::files;
 use std::alloc::Global;
 
 /// The store is opened after a crash: the history is what the table lists, and files that no entry has go.
@@ -18,7 +19,7 @@ pub(crate) fn reopen(alloc: Global, state: &mut State) -> Result<Took, NoMemory>
     }
     let entries = entries_of(alloc, state.table.reads.as_slice())?;
     let history = batches_of(alloc, &state.files, &entries)?;
-    state.files.keep_listed(&entries);
+    files::keep_listed(&mut state.files, &entries);
     state.history = history;
     state.down = false;
     Ok(Took::Yes)
@@ -45,8 +46,8 @@ fn batch_of(alloc: Global, files: &Files, entry: &Entry) -> Result<Batch, NoMemo
     requires { IsHeld files.now entry.now }
     ensures { IfOk result (λ b. b ≡ batch_in files.now entry.now) }
 {
-    let index = files.reads_of(file_name(entry, FileKind::Index));
-    let fields = files.reads_of(file_name(entry, FileKind::Fields));
+    let index = files::reads_of(files, file_name(entry, FileKind::Index));
+    let fields = files::reads_of(files, file_name(entry, FileKind::Fields));
     read_pairs(alloc, index, fields)
 }
 

@@ -6,6 +6,7 @@ use crate::{Files, NamedFile, Phase, State, Took, Writer, Writers};
 use fd_bytes::{Bytes, NoMemory};
 use fd_disk::FileKind;
 use fd_entries::{Batch, Pair};
+use fd_machine::{files, writers};
 use std::alloc::Global;
 
 /// A pair is put: its bytes are written at the end of the field file.
@@ -23,7 +24,7 @@ pub(crate) fn put(
     if state.down {
         return Ok(Took::No);
     }
-    match state.writers.place(w) {
+    match writers::place(&state.writers, w) {
         Some(i) => put_next(alloc, state, w, i, Pair { key, bytes }),
         None => put_first(alloc, state, w, Pair { key, bytes }),
     }
@@ -48,9 +49,13 @@ fn put_next(
         return Ok(Took::No);
     }
     let (name, at) = next_place(state, w);
-    let file = state
-        .files
-        .written(alloc, name, at as usize, pair.bytes.as_slice())?;
+    let file = files::written(
+        &state.files,
+        alloc,
+        name,
+        at as usize,
+        pair.bytes.as_slice(),
+    )?;
     let file = NamedFile { name, file };
     add_pair(&mut state.files, &mut state.writers, file, i, pair)?;
     Ok(Took::Yes)
@@ -74,7 +79,7 @@ fn put_first(alloc: Global, state: &mut State, w: u32, pair: Pair) -> Result<Too
         return Ok(Took::No);
     }
     let name = writer.file(FileKind::Fields);
-    let file = state.files.written(alloc, name, 0, pair.bytes.as_slice())?;
+    let file = files::written(&state.files, alloc, name, 0, pair.bytes.as_slice())?;
     let file = NamedFile { name, file };
     writer.pairs.push(pair)?;
     add_writer(&mut state.files, &mut state.writers, file, writer)?;
@@ -95,10 +100,10 @@ fn add_pair(
     ensures no_files { OnErr result (files.new ≡ files.old) }
     ensures no_writers { OnErr result (writers.new ≡ writers.old) }
 {
-    writers.push_pair(i, pair)?;
-    let put = files.put(file.name, file.file);
+    writers::push_pair(writers, i, pair)?;
+    let put = files::put(files, file.name, file.file);
     if put.is_err() {
-        writers.drop_pair(i);
+        writers::drop_pair(writers, i);
     }
     put
 }
@@ -116,7 +121,7 @@ fn add_writer(
     ensures no_writers { OnErr result (writers.new ≡ writers.old) }
 {
     writers.push(writer)?;
-    let put = files.put(file.name, file.file);
+    let put = files::put(files, file.name, file.file);
     if put.is_err() {
         writers.drop_last();
     }

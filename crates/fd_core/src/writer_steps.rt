@@ -5,8 +5,8 @@ ghost use Rattle.fd_machine.specs.{Machine.{after}, Took.{took_of}, declared.mac
 use crate::{Phase, State, Took};
 use fd_bytes::NoMemory;
 use fd_disk::FileKind;
-use fd_entries::{CLOSED, OPEN, gate_at, rows_of};
-use fd_machine::{entry_of, sync_file, write_file};
+use fd_entries::{CLOSED, OPEN, copied, gate_at, rows_of};
+use fd_machine::{entry_of, files, sync_file, write_file, writers};
 use std::alloc::Global;
 
 /// The writer takes the table, where nobody owns it.
@@ -24,7 +24,7 @@ pub(crate) fn take(state: &mut State, w: u32) -> Took
         return Took::No;
     };
     state.owner = Some(w);
-    state.writers.set_phase(i, Phase::Holding);
+    writers::set_phase(&mut state.writers, i, Phase::Holding);
     Took::Yes
 }
 
@@ -34,7 +34,7 @@ pub(crate) fn sync_data(alloc: Global, state: &mut State, w: u32) -> Result<Took
     ensures ok { OnOk result (state.new ≡ after state.old (SyncData w)) }
     ensures err { OnErr result (state.new ≡ state.old) }
 {
-    let Some(i) = state.writers.place(w) else {
+    let Some(i) = writers::place(&state.writers, w) else {
         return Ok(Took::No);
     };
     if state.down {
@@ -51,8 +51,8 @@ pub(crate) fn sync_data(alloc: Global, state: &mut State, w: u32) -> Result<Took
         return Ok(Took::No);
     }
     let name = writer.file(FileKind::Fields);
-    state.files.sync(alloc, name)?;
-    state.writers.set_phase(i, Phase::Synced);
+    files::sync(&mut state.files, alloc, name)?;
+    writers::set_phase(&mut state.writers, i, Phase::Synced);
     Ok(Took::Yes)
 }
 
@@ -68,8 +68,8 @@ pub(crate) fn write_index(alloc: Global, state: &mut State, w: u32) -> Result<To
     let writer = state.writers.at(i);
     let rows = rows_of(alloc, &writer.pairs)?;
     let name = writer.file(FileKind::Index);
-    state.files.write(alloc, name, 0, &rows)?;
-    state.writers.set_phase(i, Phase::Written);
+    files::write(&mut state.files, alloc, name, 0, &rows)?;
+    writers::set_phase(&mut state.writers, i, Phase::Written);
     Ok(Took::Yes)
 }
 
@@ -84,8 +84,8 @@ pub(crate) fn sync_index(alloc: Global, state: &mut State, w: u32) -> Result<Too
     };
     let writer = state.writers.at(i);
     let name = writer.file(FileKind::Index);
-    state.files.sync(alloc, name)?;
-    state.writers.set_phase(i, Phase::Sealed);
+    files::sync(&mut state.files, alloc, name)?;
+    writers::set_phase(&mut state.writers, i, Phase::Sealed);
     Ok(Took::Yes)
 }
 
@@ -105,7 +105,7 @@ pub(crate) fn body(alloc: Global, state: &mut State, w: u32) -> Result<Took, NoM
     let body = entry_of(writer).body();
     let gate = gate_at(state.history.len());
     write_file(alloc, &mut state.table, gate + 1, &body)?;
-    state.writers.set_phase(i, Phase::BodyLoose);
+    writers::set_phase(&mut state.writers, i, Phase::BodyLoose);
     Ok(Took::Yes)
 }
 
@@ -119,7 +119,7 @@ pub(crate) fn sync_body(alloc: Global, state: &mut State, w: u32) -> Result<Took
         return Ok(Took::No);
     };
     sync_file(alloc, &mut state.table)?;
-    state.writers.set_phase(i, Phase::BodyFirm);
+    writers::set_phase(&mut state.writers, i, Phase::BodyFirm);
     Ok(Took::Yes)
 }
 
@@ -134,7 +134,7 @@ pub(crate) fn gate(alloc: Global, state: &mut State, w: u32) -> Result<Took, NoM
     };
     let gate = gate_at(state.history.len());
     write_file(alloc, &mut state.table, gate, &[OPEN])?;
-    state.writers.set_phase(i, Phase::GateLoose);
+    writers::set_phase(&mut state.writers, i, Phase::GateLoose);
     Ok(Took::Yes)
 }
 
@@ -148,7 +148,7 @@ pub(crate) fn sync_gate(alloc: Global, state: &mut State, w: u32) -> Result<Took
         return Ok(Took::No);
     };
     sync_file(alloc, &mut state.table)?;
-    state.writers.set_phase(i, Phase::Listed);
+    writers::set_phase(&mut state.writers, i, Phase::Listed);
     Ok(Took::Yes)
 }
 
@@ -161,9 +161,9 @@ pub(crate) fn post(alloc: Global, state: &mut State, w: u32) -> Result<Took, NoM
     let Some(i) = state.ready(w, Phase::Listed) else {
         return Ok(Took::No);
     };
-    let batch = state.writers.at(i).pairs.copy(alloc)?;
+    let batch = copied(alloc, &state.writers.at(i).pairs)?;
     state.history.push(batch)?;
-    state.writers.set_phase(i, Phase::Posted);
+    writers::set_phase(&mut state.writers, i, Phase::Posted);
     Ok(Took::Yes)
 }
 
@@ -181,7 +181,7 @@ pub(crate) fn close_gate(alloc: Global, state: &mut State, w: u32) -> Result<Too
     }
     let gate = gate_at(state.history.len());
     write_file(alloc, &mut state.table, gate, &[CLOSED])?;
-    state.writers.set_phase(i, Phase::Closing);
+    writers::set_phase(&mut state.writers, i, Phase::Closing);
     Ok(Took::Yes)
 }
 
@@ -196,7 +196,7 @@ pub(crate) fn sync_close(alloc: Global, state: &mut State, w: u32) -> Result<Too
     };
     sync_file(alloc, &mut state.table)?;
     state.doubt = None;
-    state.writers.set_phase(i, Phase::Holding);
+    writers::set_phase(&mut state.writers, i, Phase::Holding);
     Ok(Took::Yes)
 }
 
@@ -209,6 +209,6 @@ pub(crate) fn release(state: &mut State, w: u32) -> Took
         return Took::No;
     };
     state.owner = None;
-    state.writers.begin_next(i);
+    writers::begin_next(&mut state.writers, i);
     Took::Yes
 }

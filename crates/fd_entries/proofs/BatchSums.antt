@@ -1,5 +1,5 @@
 -- Sums over the pairs of a batch, pair by pair.
-use Rattle.std.proofs.Common.{◌≡◌, ◌||◌, ◌&&◌, ◌==◌, nat_eq, if◌then◌else◌, ℕ, zero, suc, ◌+◌, ◌≤◌, Bool, true, false, List, [], ◌∷◌, ◌++◌, length, drop, refl, sym, ◌∙◌, ap, subst, arith, Some, slice_get, length-append, append_assoc}
+use Rattle.std.proofs.Common.{◌≡◌, ◌||◌, ◌&&◌, ◌==◌, nat_eq, if◌then◌else◌, ℕ, zero, suc, ◌+◌, ◌≤◌, Bool, true, false, List, [], ◌∷◌, ◌++◌, length, take, drop, refl, sym, ◌∙◌, ap, subst, arith, Some, slice_get, length-append, append_assoc}
 use Rattle.std.proofs.lemmas.List.{append-nil}
 use Rattle.std.specs.Cmp.Lexicographic.{pointwise}
 use Rattle.std.specs.Int.{w16, w64, to_be_bytes}
@@ -20,6 +20,15 @@ bytes_same (x ∷ xs) (y ∷ ys) is =
     let same : x ≡ y = grind (arith, nat_tests, t.0) in
     let rest = bytes_same xs ys t.1 in
     λ j. same j ∷ rest j
+
+next_one : {A : Type 0} (xs : List A) (i : ℕ) (x : A) → slice_get xs i ≡ Some x → take (suc i) xs ≡ take i xs ++ x ∷ []
+next_one [] i x at = absurd (cc at)
+next_one (y ∷ xs) zero x at = let e : y ≡ x = cc at in ap (λ z. z ∷ []) e
+next_one (y ∷ xs) (suc i) x at = ap (λ zs. y ∷ zs) (next_one xs i x at)
+
+-- the front of a list with what stands at the place is the front up to the next
+pub take_next : {A : Type 0} (xs : List A) (i : ℕ) (x : A) → slice_get xs i ≡ Some x → take (i + 1) xs ≡ take i xs ++ x ∷ []
+take_next xs i x at = let up : i + 1 ≡ suc i = omega arith in ap (λ (k : ℕ). take k xs) up ∙ next_one xs i x at
 
 -- the rest of a list begins with what stands at the place
 pub drop_here : {A : Type 0} (xs : List A) (i : ℕ) (x : A) → slice_get xs i ≡ Some x → drop i xs ≡ x ∷ drop (i + 1) xs

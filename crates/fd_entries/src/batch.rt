@@ -1,10 +1,8 @@
-ghost use Rattle.fd_entries.specs.{declared.batch.Pair.{Pair}, Batches.{is_empty}};
-ghost use Rattle.std.specs.Prelude.{◌≡◌, ◌<◌, Some, length, slice_get, [], ◌∷◌, ◌++◌, List, IfOk, OnOk, OnErr};
+ghost use Rattle.std.specs.Prelude.{◌≡◌, IfOk};
 
 use crate::Entry;
-use fd_bytes::{Bytes, NoMemory};
+use fd_bytes::{Bytes, Items, NoMemory};
 use std::alloc::Global;
-use std::marker::Model;
 
 /// A key with its bytes.
 #[derive(Drop)]
@@ -26,94 +24,18 @@ impl Pair {
     }
 }
 
-/// The pairs that one flush lists, in the order in which they were put. Contracts see a batch as a list of pairs.
-#[derive(Drop)]
-pub struct Batch {
-    items: Vec<Pair>,
-}
+/// The pairs that one flush lists, in the order in which they were put.
+pub type Batch = Items<Pair>;
 
-impl Model for Batch {
-    ghost use Rattle.std.specs.Prelude.{List};
-    ghost use Rattle.fd_entries.specs.declared.batch.Pair.{Pair};
-
-    ghost Value = { List Pair };
-
-    ghost view = { λ a. a.items.items };
-}
-
-impl Batch {
-    /// No pairs.
-    pub fn new(alloc: Global) -> Batch
-        ensures { result ≡ [] }
-    {
-        Batch {
-            items: Vec::new(alloc),
-        }
+/// A copy of a batch.
+pub fn copied(alloc: Global, batch: &Batch) -> Result<Batch, NoMemory>
+    ensures { IfOk result (λ b. b ≡ batch.now) }
+{
+    let mut copy = Batch::new(alloc);
+    for i in 0..batch.len() {
+        copy.push(batch.at(i).copy(alloc)?)?;
     }
-
-    /// The pairs, in the order in which they were put.
-    pub fn as_slice(&self) -> &[Pair]
-        ensures { result.now ≡ self.now }
-    {
-        &self.items
-    }
-
-    /// The number of pairs.
-    pub fn len(&self) -> usize
-        ensures { result ≡ length self.now }
-    {
-        self.items.len()
-    }
-
-    /// Tells that there is no pair.
-    pub fn is_empty(&self) -> bool
-        ensures { result ≡ is_empty self.now }
-    {
-        self.items.is_empty()
-    }
-
-    /// The pair at a place.
-    pub fn at(&self, i: usize) -> &Pair
-        requires { i < length self.now }
-        ensures { slice_get self.now i ≡ Some result.now }
-    {
-        &self.items[i]
-    }
-
-    /// Appends a pair. After `NoMemory` nothing has changed.
-    pub fn push(&mut self, pair: Pair) -> Result<(), NoMemory>
-        ensures ok { OnOk result (self.new ≡ self.old ++ pair ∷ []) }
-        ensures err { OnErr result (self.new ≡ self.old) }
-    {
-        self.items.push(pair)?;
-        Ok(())
-    }
-
-    /// Takes the last pair away.
-    pub fn drop_last(&mut self)
-        ensures { (ps : List Pair) (p : Pair) → self.old ≡ ps ++ p ∷ [] → self.new ≡ ps }
-    {
-        self.items.pop();
-    }
-
-    /// Takes all pairs away.
-    pub fn clear(&mut self)
-        ensures { self.new ≡ [] }
-    {
-        self.items.clear();
-    }
-
-    /// A copy of this batch.
-    pub fn copy(&self, alloc: Global) -> Result<Batch, NoMemory>
-        ensures { IfOk result (λ b. b ≡ self.now) }
-    {
-        let mut items = Vec::new(alloc);
-        for i in 0..self.items.len() {
-            let pair = self.items[i].copy(alloc)?;
-            items.push(pair)?;
-        }
-        Ok(Batch { items })
-    }
+    Ok(copy)
 }
 
 /// An entry of a table, with the batch that its files stand for where that is told.

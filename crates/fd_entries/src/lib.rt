@@ -10,7 +10,7 @@ mod rows;
 mod segments;
 mod table;
 
-pub use batch::{Batch, Listing, Pair};
+pub use batch::{Batch, Listing, Pair, copied};
 pub use law::every_table;
 pub use listed::{entries_of, entry_at};
 pub use numbers::greatest;

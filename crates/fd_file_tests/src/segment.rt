@@ -336,8 +336,23 @@ where
     if field_file.len() < 183 || index_file.len() < 4120 {
         return None;
     }
-    let segment = Segment::new(1, 1, 1, 4120, 183, None, field_file, index_file);
+    let segment = Segment::new(entry_of(183, None), field_file, index_file);
     damage_in(alloc, &segment)
+}
+
+/// The entry of one field in so many bytes, with an index of one page.
+fn entry_of(fields_len: u64, digest: Option<[u8; 32]>) -> Entry
+    ensures index { result.index_len ≡ 4120 }
+    ensures fields { result.fields_len ≡ fields_len }
+{
+    Entry {
+        writer: 1,
+        seq: 1,
+        fields: 1,
+        index_len: 4120,
+        fields_len,
+        digest,
+    }
 }
 
 /// The index file of the key `i|a` at 0, with 183 bytes, in which one octet is another.
@@ -422,7 +437,7 @@ where
     if field_file.len() < 215 || index_file.len() < 4120 {
         return None;
     }
-    let segment = Segment::new(1, 1, 1, 4120, 215, Some([0; 32]), field_file, index_file);
+    let segment = Segment::new(entry_of(215, Some([0; 32])), field_file, index_file);
     let mut lens = segment.lens(alloc).ok()?;
     match lens.check(0, 183) {
         Ok(()) => Some(Ok(())),

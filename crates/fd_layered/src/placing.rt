@@ -61,7 +61,7 @@ fn lay_under<F>(
     ensures refused { IfErr result (λ e. LacksLayer e key.now (under_from 1 schema.now key.now layers.now)) }
 {
     for i in 0..layers.len() {
-        match lay_one(alloc, schema, key, layers.layer(i), i as u32 + 1, places) {
+        match lay_one(alloc, schema, key, layers.at(i), i as u32 + 1, places) {
             Ok(()) => {}
             Err(stop) => return Err(stop),
         }

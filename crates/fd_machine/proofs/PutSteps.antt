@@ -79,6 +79,11 @@ undone (Err e) ws more back i p lt made dropped =
     dropped y x.pairs p (ap (λ (l : List Writer). slice_get l i) is ∙ get_put ws i y lt) refl
     ∙ ap (λ (l : List Writer). slice_set l i x) is ∙ put_put ws i y x ∙ put_back ws i x found.1
 
+-- a pair that wasn't put leaves the writers as they were
+pub unput : {E : Type 0} (result : Result (Unit {0}) E) (ws : List Writer) (i : ℕ) (x : Writer) (ps : List Pair) → slice_get ws i ≡ Some x → OnErr result (ps ≡ x.pairs) → OnErr result (slice_set ws i (filled x ps) ≡ ws)
+unput (Ok u) ws i x ps at same = tt
+unput (Err e) ws i x ps at same = ap (λ (l : List Pair). slice_set ws i (filled x l)) same ∙ put_back ws i x at
+
 put_new : (xs : List Writer) (y : Writer) → ((o : Writer) → writer_in xs y.id o ≡ o) → put_writer xs y ≡ xs ++ y ∷ []
 put_new [] y unknown = refl
 put_new (x ∷ xs) y unknown = elim (cases_eq x.id y.id) [

@@ -1,4 +1,4 @@
-ghost use Rattle.std.specs.Prelude.{◌≡◌, ◌==◌, ◌&&◌, ◌+◌, ◌-◌, ◌<◌, ◌^◌, ◌++◌, [], length, take, drop, replicate, slice_get, slice_set, ◌∷◌, Some, IfOk, IfSome, IfNone, OnOk, OnErr};
+ghost use Rattle.std.specs.Prelude.{◌≡◌, ◌==◌, ◌&&◌, ◌+◌, ◌-◌, ◌<◌, ◌^◌, ◌++◌, [], length, take, replicate, IfOk, IfSome, IfNone, OnOk, OnErr};
 ghost use Rattle.fd_machine.specs.Machine.{file_of, is_listed, kept_files, put_file};
 ghost use Rattle.fd_disk.specs.{Images.{firm_file, loosened, overwritten, synced, written}, Names.{same_name}};
 
@@ -7,192 +7,131 @@ use fd_bytes::{Bytes, Items, NoMemory};
 use fd_disk::{File, FileName, Range, Ranges};
 use fd_entries::Entry;
 use std::alloc::{AllocError, Global};
-use std::marker::Model;
 
-/// The files of the machine's disk beside the table, under their names. Contracts see them as a list.
-#[derive(Drop)]
-pub struct Files {
-    items: Vec<NamedFile>,
+/// The files of the machine's disk beside the table, under their names.
+pub type Files = Items<NamedFile>;
+
+/// The file under a name.
+pub fn find(files: &Files, name: FileName) -> Option<&File>
+    ensures some { IfSome result (λ f. f.now ≡ file_of files.now name) }
+    ensures none { IfNone result (file_of files.now name ≡ firm_file []) }
+{
+    for i in 0..files.len() {
+        if is_same(files.at(i).name, name) {
+            return Some(&files.at(i).file);
+        }
+    }
+    None
 }
 
-impl Model for Files {
-    ghost use Rattle.std.specs.Prelude.{List};
-    ghost use Rattle.fd_machine.specs.declared.machine.NamedFile.{NamedFile};
-
-    ghost Value = { List NamedFile };
-
-    ghost view = { λ a. a.items.items };
-}
-
-impl Files {
-    /// No files.
-    pub fn new(alloc: Global) -> Files
-        ensures { result ≡ [] }
-    {
-        Files {
-            items: Vec::new(alloc),
-        }
+/// What a read gives of the file under a name: nothing where there is no file.
+pub fn reads_of(files: &Files, name: FileName) -> &[u8]
+    ensures { result.now ≡ (file_of files.now name).reads }
+{
+    match find(files, name) {
+        Some(file) => file.reads.as_slice(),
+        None => &[],
     }
 }
 
-impl Files {
-    /// The file under a name.
-    pub fn find(&self, name: FileName) -> Option<&File>
-        ensures some { IfSome result (λ f. f.now ≡ file_of self.now name) }
-        ensures none { IfNone result (file_of self.now name ≡ firm_file []) }
-    {
-        for i in 0..self.len() {
-            if is_same(self.at(i).name, name) {
-                return Some(&self.at(i).file);
-            }
-        }
-        None
-    }
-
-    pub fn len(&self) -> usize
-        ensures { result ≡ length self.now }
-    {
-        self.items.len()
-    }
-
-    pub fn at(&self, i: usize) -> &NamedFile
-        requires { i < length self.now }
-        ensures { slice_get self.now i ≡ Some result.now }
-    {
-        &self.items[i]
-    }
-
-    /// What a read gives of the file under a name: nothing where there is no file.
-    pub fn reads_of(&self, name: FileName) -> &[u8]
-        ensures { result.now ≡ (file_of self.now name).reads }
-    {
-        match self.find(name) {
-            Some(file) => file.reads.as_slice(),
-            None => &[],
+/// Keeps the files that one of the entries has, and drops the others.
+pub fn keep_listed(files: &mut Files, entries: &Items<Entry>)
+    ensures { files.new ≡ kept_files entries.now files.old }
+{
+    let mut i = 0;
+    'each: while i < files.len() {
+        if is_listed(entries, files.at(i).name) {
+            i += 1;
+        } else {
+            files.remove(i);
         }
     }
+}
 
-    /// Keeps the files that one of the entries has, and drops the others.
-    pub fn keep_listed(&mut self, entries: &Items<Entry>)
-        ensures { self.new ≡ kept_files entries.now self.old }
-    {
-        let mut i = 0;
-        'files: while i < self.len() {
-            if is_listed(entries, self.at(i).name) {
-                i += 1;
-            } else {
-                self.remove(i);
-            }
+/// A copy of the file under a name, which is empty where there is none.
+pub fn copy_of(files: &Files, alloc: Global, name: FileName) -> Result<File, NoMemory>
+    ensures { IfOk result (λ f. f ≡ file_of files.now name) }
+{
+    match find(files, name) {
+        Some(file) => copied(alloc, file),
+        None => Ok(File {
+            firm: Bytes::new(alloc),
+            reads: Bytes::new(alloc),
+            loose: Ranges::new(alloc),
+        }),
+    }
+}
+
+/// Puts a file under a name, in place of the one that is there. After `NoMemory` nothing has changed.
+pub fn put(files: &mut Files, name: FileName, file: File) -> Result<(), NoMemory>
+    ensures ok { OnOk result (files.new ≡ put_file files.old name file) }
+    ensures err { OnErr result (files.new ≡ files.old) }
+{
+    for i in 0..files.len() {
+        if is_same(files.at(i).name, name) {
+            files.set(i, NamedFile { name, file });
+            return Ok(());
         }
     }
+    files.push(NamedFile { name, file })
+}
 
-    fn remove(&mut self, i: usize)
-        requires { i < length self.old }
-        ensures { self.new ≡ take i self.old ++ drop (i + 1) self.old }
-    {
-        self.items.remove(i);
-    }
+/// The file under a name after a write into it; the file itself is as before.
+pub fn written(
+    files: &Files,
+    alloc: Global,
+    name: FileName,
+    at: usize,
+    bytes: &[u8],
+) -> Result<File, NoMemory>
+    requires { at + length bytes.now < 2 ^ 63 }
+    ensures { IfOk result (λ f. f ≡ written (file_of files.now name) at bytes.now) }
+{
+    let mut file = copy_of(files, alloc, name)?;
+    write_file(alloc, &mut file, at, bytes)?;
+    Ok(file)
+}
 
-    fn set(&mut self, i: usize, file: NamedFile)
-        requires { i < length self.old }
-        ensures { self.new ≡ slice_set self.old i file }
-    {
-        self.items[i] = file;
-    }
+/// Writes into the file under a name. After `NoMemory` nothing has changed.
+pub fn write(
+    files: &mut Files,
+    alloc: Global,
+    name: FileName,
+    at: usize,
+    bytes: &[u8],
+) -> Result<(), NoMemory>
+    requires { at + length bytes.now < 2 ^ 63 }
+    ensures ok { OnOk result (files.new ≡ put_file files.old name (written (file_of files.old name) at bytes.now)) }
+    ensures err { OnErr result (files.new ≡ files.old) }
+{
+    let file = written(files, alloc, name, at, bytes)?;
+    put(files, name, file)
+}
 
-    pub fn push(&mut self, file: NamedFile) -> Result<(), NoMemory>
-        ensures ok { OnOk result (self.new ≡ self.old ++ file ∷ []) }
-        ensures err { OnErr result (self.new ≡ self.old) }
-    {
-        self.items.push(file)?;
-        Ok(())
-    }
+/// Syncs the file under a name. After `NoMemory` nothing has changed.
+pub fn sync(files: &mut Files, alloc: Global, name: FileName) -> Result<(), NoMemory>
+    ensures ok { OnOk result (files.new ≡ put_file files.old name (synced (file_of files.old name))) }
+    ensures err { OnErr result (files.new ≡ files.old) }
+{
+    let mut file = copy_of(files, alloc, name)?;
+    sync_file(alloc, &mut file)?;
+    put(files, name, file)
+}
 
-    /// A copy of the file under a name, which is empty where there is none.
-    pub fn copy_of(&self, alloc: Global, name: FileName) -> Result<File, NoMemory>
-        ensures { IfOk result (λ f. f ≡ file_of self.now name) }
-    {
-        match self.find(name) {
-            Some(file) => copied(alloc, file),
-            None => Ok(File {
-                firm: Bytes::new(alloc),
-                reads: Bytes::new(alloc),
-                loose: Ranges::new(alloc),
-            }),
-        }
-    }
-
-    /// Puts a file under a name, in place of the one that is there. After `NoMemory` nothing has changed.
-    pub fn put(&mut self, name: FileName, file: File) -> Result<(), NoMemory>
-        ensures ok { OnOk result (self.new ≡ put_file self.old name file) }
-        ensures err { OnErr result (self.new ≡ self.old) }
-    {
-        for i in 0..self.len() {
-            if is_same(self.at(i).name, name) {
-                self.set(i, NamedFile { name, file });
-                return Ok(());
-            }
-        }
-        self.push(NamedFile { name, file })
-    }
-
-    /// The file under a name after a write into it; the file itself is as before.
-    pub fn written(
-        &self,
-        alloc: Global,
-        name: FileName,
-        at: usize,
-        bytes: &[u8],
-    ) -> Result<File, NoMemory>
-        requires { at + length bytes.now < 2 ^ 63 }
-        ensures { IfOk result (λ f. f ≡ written (file_of self.now name) at bytes.now) }
-    {
-        let mut file = self.copy_of(alloc, name)?;
-        write_file(alloc, &mut file, at, bytes)?;
-        Ok(file)
-    }
-
-    /// Writes into the file under a name. After `NoMemory` nothing has changed.
-    pub fn write(
-        &mut self,
-        alloc: Global,
-        name: FileName,
-        at: usize,
-        bytes: &[u8],
-    ) -> Result<(), NoMemory>
-        requires { at + length bytes.now < 2 ^ 63 }
-        ensures ok { OnOk result (self.new ≡ put_file self.old name (written (file_of self.old name) at bytes.now)) }
-        ensures err { OnErr result (self.new ≡ self.old) }
-    {
-        let file = self.written(alloc, name, at, bytes)?;
-        self.put(name, file)
-    }
-
-    /// Syncs the file under a name. After `NoMemory` nothing has changed.
-    pub fn sync(&mut self, alloc: Global, name: FileName) -> Result<(), NoMemory>
-        ensures ok { OnOk result (self.new ≡ put_file self.old name (synced (file_of self.old name))) }
-        ensures err { OnErr result (self.new ≡ self.old) }
-    {
-        let mut file = self.copy_of(alloc, name)?;
-        sync_file(alloc, &mut file)?;
-        self.put(name, file)
-    }
-
-    /// Makes a range of the file under a name loose. After `NoMemory` nothing has changed.
-    pub fn loosen(
-        &mut self,
-        alloc: Global,
-        name: FileName,
-        at: u64,
-        len: u64,
-    ) -> Result<(), NoMemory>
-        ensures ok { OnOk result (self.new ≡ put_file self.old name (loosened (file_of self.old name) at len (file_of self.old name).reads)) }
-        ensures err { OnErr result (self.new ≡ self.old) }
-    {
-        let mut file = self.copy_of(alloc, name)?;
-        file.loose.put_first(Range { at, len })?;
-        self.put(name, file)
-    }
+/// Makes a range of the file under a name loose. After `NoMemory` nothing has changed.
+pub fn loosen(
+    files: &mut Files,
+    alloc: Global,
+    name: FileName,
+    at: u64,
+    len: u64,
+) -> Result<(), NoMemory>
+    ensures ok { OnOk result (files.new ≡ put_file files.old name (loosened (file_of files.old name) at len (file_of files.old name).reads)) }
+    ensures err { OnErr result (files.new ≡ files.old) }
+{
+    let mut file = copy_of(files, alloc, name)?;
+    file.loose.put_first(Range { at, len })?;
+    put(files, name, file)
 }
 
 /// Tells that one of the entries has the file.

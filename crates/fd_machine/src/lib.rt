@@ -1,10 +1,10 @@
 //! The machine that models the store: its files, writers and table, its steps as a relation, and what holds over every run of them.
 #![tactic(auto)]
 
-mod files;
+pub mod files;
 mod machine;
 mod state;
-mod writers;
+pub mod writers;
 
 pub use files::{Files, is_same, sync_file, write_file};
 pub use machine::{Answer, NamedFile, Phase, Seen, Step, Took, Writer, entry_of};

@@ -2,6 +2,7 @@ ghost use Rattle.std.specs.Prelude.{◌≡◌, ◌≤◌, ◌+◌, ◌++◌, ◌
 ghost use Rattle.fd_entries.specs.Table.{header};
 ghost use Rattle.fd_machine.specs.{World.{World}, Machine.{start, put_seen, after, code, is_in_phase, writer_of}, Took.{IsAt, took_of}, declared.machine.Step.TheVariants.{Look}};
 
+use crate::writers::place;
 use crate::{Files, Phase, Seen, Took, Writers};
 use fd_bytes::{Bytes, Items, NoMemory};
 use fd_disk::{File, Ranges};
@@ -64,7 +65,7 @@ impl State {
         if self.down {
             return None;
         }
-        let i = self.writers.place(w)?;
+        let i = place(&self.writers, w)?;
         if self.writers.at(i).is_in(phase) {
             Some(i)
         } else {

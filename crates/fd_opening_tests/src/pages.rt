@@ -87,7 +87,7 @@ fn seen<F: Send + Drop, Z: Sealed<F>>(
     let first = find_twice(alloc, segment, 0);
     let middle = find_twice(alloc, segment, 4711);
     let last = find_twice(alloc, segment, 9999);
-    (segment.index_len, [first, middle, last])
+    (segment.entry().index_len, [first, middle, last])
 }
 
 /// The same of a batch in a folder.

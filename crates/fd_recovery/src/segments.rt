@@ -77,16 +77,7 @@ where
     if let Err(fault) = check_index(alloc, &index, entry) {
         return Err(fault);
     }
-    Ok(Segment::new(
-        entry.writer,
-        entry.seq,
-        entry.fields,
-        entry.index_len,
-        entry.fields_len,
-        entry.digest,
-        fields,
-        index,
-    ))
+    Ok(Segment::new(*entry, fields, index))
 }
 
 // The name of an entry's field file.

@@ -5,3 +5,4 @@ pub mod Filling
 pub mod Causes
 pub mod Copying
 pub mod Steps
+pub mod Putting

@@ -3,7 +3,7 @@ ghost use Rattle.fd_bytes.specs.Causes.{Rose};
 ghost use Rattle.fd_disk.specs.{declared.folders.FileKind.TheVariants.{Fields, Index}, declared.folders.FileName.{FileName}, Causes.{OnFault, OnNoMemory}, Folders.{WhereTold}, Images.{firm_file, synced}, Names.{name_of}};
 ghost use Rattle.fd_entries.specs.{declared.batch.Pair.{Pair}, Batches.{distinct}};
 ghost use Rattle.fd_index.specs.{Builder.{room_for}, Pages.{index_of}};
-ghost use Rattle.fd_segment.specs.{Causes.{FullAs, OnPutFault, OnPutFull}, Filling.{HoldsSame, IsOf, IsSealed, Puts}, Steps.{StopsPutting, StopsSealing, digested, with_front}};
+ghost use Rattle.fd_segment.specs.{Causes.{FullAs, OnPutFault, OnPutFull}, Filling.{HoldsSame, IsOf, IsSealed, Puts}, Putting.{HasPut}, Steps.{StopsPutting, StopsSealing, digested, with_front}};
 ghost use Rattle.sha2.specs.Sha256.{sha256};
 
 use crate::fault::PutFault;
@@ -12,6 +12,7 @@ use crate::firm::make_firm;
 use crate::segment::Segment;
 use crate::writing::{field_digest, write_digested};
 use fd_disk::{Disk, Down, Shelf};
+use fd_entries::Entry;
 use fd_index::IndexBuilder;
 use std::alloc::Global;
 use std::marker::{Model, PhantomData};
@@ -127,19 +128,7 @@ impl<F: Send, H: Shelf<F>> Draft<F, H> {
     pub fn put(&mut self, key: &[u8], bytes: &[u8]) -> Result<(), PutFault<F>>
         requires key { length key.now ≤ 256 }
         requires sum { self.old.end + (length bytes.now + 32) < 2 ^ 63 }
-        ensures ok { OnOk result ((b : List Pair) → Puts self.old b → Puts self.new (b ++ record { key = key.now; bytes = bytes.now } ∷ [])) }
-        ensures end { OnOk result (self.new.end ≡ self.old.end + (length bytes.now + 32)) }
-        ensures err { OnErr result ((b : List Pair) → Puts self.old b → Puts self.new b) }
-        ensures refused { OnErr result ((self.new.held ≡ self.old.held) × (self.new.end ≡ self.old.end)) }
-        ensures file { OnOk result (self.new.field_file ≡ option_map (digested self.old.end bytes.now) self.old.field_file) }
-        ensures file_err { IfErr result (λ e. OnPutFault e (WhereTold self.old.field_file self.new.field_file (StopsPutting self.old.end bytes.now))) }
-        ensures index_file { self.new.index_file ≡ self.old.index_file }
-        ensures origin { self.new.origin ≡ self.old.origin }
-        ensures room { (self.new.held.keys ≡ self.old.held.keys) × (self.new.held.bytes ≡ self.old.held.bytes) }
-        ensures full { FullAs (room_for self.old.held key.now) result }
-        ensures unwritten { IfErr result (λ e. OnPutFull e (self.new ≡ self.old)) }
-        ensures later { (self.old.field_faults ≤ self.new.field_faults) × (self.new.index_faults ≡ self.old.index_faults) }
-        ensures cause { IfErr result (λ e. OnPutFault e (Rose self.old.field_faults self.new.field_faults)) }
+        ensures { HasPut self.old self.new key.now bytes.now result }
     {
         self.put_digested(key, bytes, &field_digest(bytes))
     }
@@ -148,19 +137,7 @@ impl<F: Send, H: Shelf<F>> Draft<F, H> {
     pub fn put_field(&mut self, key: &[u8], field: &Field) -> Result<(), PutFault<F>>
         requires key { length key.now ≤ 256 }
         requires sum { self.old.end + (length field.now + 32) < 2 ^ 63 }
-        ensures ok { OnOk result ((b : List Pair) → Puts self.old b → Puts self.new (b ++ record { key = key.now; bytes = field.now } ∷ [])) }
-        ensures end { OnOk result (self.new.end ≡ self.old.end + (length field.now + 32)) }
-        ensures err { OnErr result ((b : List Pair) → Puts self.old b → Puts self.new b) }
-        ensures refused { OnErr result ((self.new.held ≡ self.old.held) × (self.new.end ≡ self.old.end)) }
-        ensures file { OnOk result (self.new.field_file ≡ option_map (digested self.old.end field.now) self.old.field_file) }
-        ensures file_err { IfErr result (λ e. OnPutFault e (WhereTold self.old.field_file self.new.field_file (StopsPutting self.old.end field.now))) }
-        ensures index_file { self.new.index_file ≡ self.old.index_file }
-        ensures origin { self.new.origin ≡ self.old.origin }
-        ensures room { (self.new.held.keys ≡ self.old.held.keys) × (self.new.held.bytes ≡ self.old.held.bytes) }
-        ensures full { FullAs (room_for self.old.held key.now) result }
-        ensures unwritten { IfErr result (λ e. OnPutFull e (self.new ≡ self.old)) }
-        ensures later { (self.old.field_faults ≤ self.new.field_faults) × (self.new.index_faults ≡ self.old.index_faults) }
-        ensures cause { IfErr result (λ e. OnPutFault e (Rose self.old.field_faults self.new.field_faults)) }
+        ensures { HasPut self.old self.new key.now field.now result }
     {
         self.put_digested(key, field.as_slice(), &field.digest())
     }
@@ -257,16 +234,17 @@ impl<F: Send, H: Shelf<F>> Draft<F, H> {
             of: _,
         } = self;
         match make_firm(alloc, &records, &mut field_file, &mut index_file) {
-            Ok((index_len, digest)) => Ok(Segment::new(
-                writer,
-                seq,
-                records.len(),
-                index_len,
-                end,
-                digest,
-                field_file.seal(),
-                index_file.seal(),
-            )),
+            Ok((index_len, digest)) => {
+                let entry = Entry {
+                    writer,
+                    seq,
+                    fields: records.len(),
+                    index_len,
+                    fields_len: end,
+                    digest,
+                };
+                Ok(Segment::new(entry, field_file.seal(), index_file.seal()))
+            }
             Err(fault) => Err((
                 Draft {
                     writer,

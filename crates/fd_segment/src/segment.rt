@@ -15,18 +15,7 @@ use std::sync::Mutex;
 
 /// The two files of one batch, which change no more, with the numbers of its entry.
 pub struct Segment<F: Send, Z: Sealed<F>> {
-    /// The number of the writer.
-    pub writer: u32,
-    /// The number of the batch among this writer's, from 1.
-    pub seq: u32,
-    /// The number of distinct keys.
-    pub fields: u32,
-    /// The length of the index in its file, in bytes.
-    pub index_len: u64,
-    /// The length of the fields in their file, in bytes.
-    pub fields_len: u64,
-    /// The SHA-256 of the index, where the batch has digests.
-    pub digest: Option<[u8; 32]>,
+    entry: Entry,
     field_file: Z,
     index_file: Z,
     // a fault may be moved to another thread, and need not be shared
@@ -41,7 +30,7 @@ impl<F: Send, Z: Sealed<F>> Model for Segment<F, Z> {
 
     ghost view = { λ s. record {
       files = record {
-        entry = record { writer = s.writer; seq = s.seq; fields = s.fields; index_len = s.index_len; fields_len = s.fields_len; digest = s.digest };
+        entry = s.entry;
         index = Z.bytes s.index_file;
         fields = Z.bytes s.field_file;
       };
@@ -50,18 +39,13 @@ impl<F: Send, Z: Sealed<F>> Model for Segment<F, Z> {
       fields_made = Z.made s.field_file;
     } };
 
-    ghost invariant = { λ s. (Z.name s.index_file ≡ Z.name s.field_file) × (s.index_len ≤ Z.len s.index_file) × (s.fields_len ≤ Z.len s.field_file) };
+    ghost invariant = { λ s. (Z.name s.index_file ≡ Z.name s.field_file) × (s.entry.index_len ≤ Z.len s.index_file) × (s.entry.fields_len ≤ Z.len s.field_file) };
 }
 
 impl<F: Send, Z: Sealed<F>> Drop for Segment<F, Z> {
     fn drop(self) {
         let Segment {
-            writer: _,
-            seq: _,
-            fields: _,
-            index_len: _,
-            fields_len: _,
-            digest: _,
+            entry: _,
             field_file: _,
             index_file: _,
             of: _,
@@ -71,20 +55,11 @@ impl<F: Send, Z: Sealed<F>> Drop for Segment<F, Z> {
 
 impl<F: Send, Z: Sealed<F>> Segment<F, Z> {
     /// The segment of two listed files. Both carry the name of one dataset and are at least as long as the numbers say.
-    pub fn new(
-        writer: u32,
-        seq: u32,
-        fields: u32,
-        index_len: u64,
-        fields_len: u64,
-        digest: Option<[u8; 32]>,
-        field_file: Z,
-        index_file: Z,
-    ) -> Segment<F, Z>
+    pub fn new(entry: Entry, field_file: Z, index_file: Z) -> Segment<F, Z>
         requires dataset { Z.name index_file ≡ Z.name field_file }
-        requires index { index_len ≤ Z.len index_file }
-        requires fields { fields_len ≤ Z.len field_file }
-        ensures entry { result.files.entry ≡ record { writer = writer; seq = seq; fields = fields; index_len = index_len; fields_len = fields_len; digest = digest } }
+        requires index { entry.index_len ≤ Z.len index_file }
+        requires fields { entry.fields_len ≤ Z.len field_file }
+        ensures entry { result.files.entry ≡ entry }
         ensures index { result.files.index ≡ Z.bytes index_file }
         ensures fields { result.files.fields ≡ Z.bytes field_file }
         ensures dataset { result.dataset ≡ Z.name field_file }
@@ -92,12 +67,7 @@ impl<F: Send, Z: Sealed<F>> Segment<F, Z> {
         ensures fields_made { result.fields_made ≡ Z.made field_file }
     {
         Segment {
-            writer,
-            seq,
-            fields,
-            index_len,
-            fields_len,
-            digest,
+            entry,
             field_file,
             index_file,
             of: PhantomData,
@@ -108,14 +78,7 @@ impl<F: Send, Z: Sealed<F>> Segment<F, Z> {
     pub fn entry(&self) -> Entry
         ensures { result ≡ self.now.files.entry }
     {
-        Entry {
-            writer: self.writer,
-            seq: self.seq,
-            fields: self.fields,
-            index_len: self.index_len,
-            fields_len: self.fields_len,
-            digest: self.digest,
-        }
+        self.entry
     }
 
     /// Has the shelf that created both files hold them. Keeping what it holds already changes nothing.
@@ -134,7 +97,7 @@ impl<F: Send, Z: Sealed<F>> Segment<F, Z> {
         ensures name { H.name shelf.new ≡ H.name shelf.old }
         ensures faults { H.faults shelf.new ≡ H.faults shelf.old }
     {
-        shelf.keep(alloc, self.seq, &self.field_file, &self.index_file)
+        shelf.keep(alloc, self.entry.seq, &self.field_file, &self.index_file)
     }
 }
 

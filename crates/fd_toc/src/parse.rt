@@ -20,6 +20,13 @@ pub(crate) enum ReadFault {
     NoMemory,
 }
 
+// The byte at a place isn't the wanted one.
+fn unlike(at: u64, want: u8, found: Option<u8>) -> Option<NotATable>
+    ensures { result ≡ Some (record { at = at; want = want; found = found }) }
+{
+    Some(NotATable { at, want, found })
+}
+
 // The first byte that isn't the wanted one.
 fn difference(at: u64, want: &[u8], bytes: &[u8]) -> Option<NotATable>
     requires { at + length want.now < 2 ^ 64 }
@@ -29,22 +36,9 @@ fn difference(at: u64, want: &[u8], bytes: &[u8]) -> Option<NotATable>
     match want {
         [] => None,
         [w, want @ ..] => match bytes {
-            [] => Some(NotATable {
-                at,
-                want: *w,
-                found: None,
-            }),
-            [b, bytes @ ..] => {
-                if *b == *w {
-                    difference(at + 1, want, bytes)
-                } else {
-                    Some(NotATable {
-                        at,
-                        want: *w,
-                        found: Some(*b),
-                    })
-                }
-            }
+            [] => unlike(at, *w, None),
+            [b, bytes @ ..] if *b == *w => difference(at + 1, want, bytes),
+            [b, ..] => unlike(at, *w, Some(*b)),
         },
     }
 }
@@ -58,29 +52,12 @@ fn departure(at: u64, pattern: &[Option<u8>], bytes: &[u8]) -> Option<NotATable>
     match pattern {
         [] => None,
         [Some(w), pattern @ ..] => match bytes {
-            [] => Some(NotATable {
-                at,
-                want: *w,
-                found: None,
-            }),
-            [b, bytes @ ..] => {
-                if *b == *w {
-                    departure(at + 1, pattern, bytes)
-                } else {
-                    Some(NotATable {
-                        at,
-                        want: *w,
-                        found: Some(*b),
-                    })
-                }
-            }
+            [] => unlike(at, *w, None),
+            [b, bytes @ ..] if *b == *w => departure(at + 1, pattern, bytes),
+            [b, ..] => unlike(at, *w, Some(*b)),
         },
         [None, pattern @ ..] => match bytes {
-            [] => Some(NotATable {
-                at,
-                want: 0,
-                found: None,
-            }),
+            [] => unlike(at, 0, None),
             [_, bytes @ ..] => departure(at + 1, pattern, bytes),
         },
     }
@@ -95,19 +72,9 @@ fn excess(at: u64, most: &[u8], bytes: &[u8]) -> Option<NotATable>
         [] => None,
         [m, most @ ..] => match bytes {
             [] => None,
-            [x, bytes @ ..] => {
-                if *x == *m {
-                    excess(at + 1, most, bytes)
-                } else if *m < *x {
-                    Some(NotATable {
-                        at,
-                        want: *m,
-                        found: Some(*x),
-                    })
-                } else {
-                    None
-                }
-            }
+            [x, bytes @ ..] if *x == *m => excess(at + 1, most, bytes),
+            [x, ..] if *m < *x => unlike(at, *m, Some(*x)),
+            _ => None,
         },
     }
 }

@@ -2,11 +2,10 @@ ghost use Rattle.std.specs.{Prelude.{◌≡◌, ◌≤◌, codes, IfOk, IfSome, 
 ghost use Rattle.clap.specs.Words.{rows_of, found_of};
 ghost use Rattle.fd_words.specs.{Texts.{texts}, Reading.{Said, Tells}, Grammar.{options_of}, Words.{archive_of, command_of, command_said, listing_of, rooted, wanted_pairs, pick_of, describe_of, values_of, is_root, root_of, given_in, given_read, workers_in, IsWithinLimits, generate_of, trial_of, split_of, retrieve_of, root_and_dataset, purge_of, wipe_of}};
 
-use crate::dataset::Dataset;
 use crate::layers::{Layers, layers_read};
+use crate::named::{Dataset, Root};
 use crate::numbers::{count_number, decimals_number, worker_number};
 use crate::parse::{alone, option_text, parse};
-use crate::root::Root;
 use crate::wanted::Wanted;
 use clap::ArgMatches;
 use fd_bytes::NoMemory;

@@ -1,62 +1,14 @@
-ghost use Rattle.std.specs.{Prelude.{◌≡◌, ◌<◌, ◌++◌, ◌∷◌, [], length, option_map, Some, IfOk, IfSome, OnOk, OnErr, slice_get}, Option.{option_copied}};
+ghost use Rattle.std.specs.{Prelude.{◌≡◌, ◌∷◌, option_map, IfOk, IfSome}, Option.{option_copied}};
 ghost use Rattle.fd_spelling.specs.{Numerals.{cut}, Pieces.{pieces, pieces_behind}};
 ghost use Rattle.fd_words.specs.Words.{AreLayers, layer_read, layers_read};
 
 use crate::command::given_read;
-use fd_bytes::NoMemory;
+use fd_bytes::{Items, NoMemory};
 use fd_key::Given;
 use std::alloc::Global;
-use std::marker::Model;
 
 /// The layers under which keys are looked for, the nearest first: of each the values that stand in place of a key's own.
-#[derive(Drop)]
-pub struct Layers {
-    each: Vec<Given>,
-}
-
-impl Model for Layers {
-    ghost use Rattle.std.specs.Prelude.{List};
-    ghost use Rattle.fd_key.specs.Pairs.{Pair};
-
-    ghost Value = { List (List Pair) };
-
-    ghost view = { λ l. l.each.items };
-}
-
-impl Layers {
-    /// No layers.
-    pub fn new(alloc: Global) -> Layers
-        ensures { result ≡ [] }
-    {
-        Layers {
-            each: Vec::new(alloc),
-        }
-    }
-
-    /// The number of layers.
-    pub fn len(&self) -> usize
-        ensures { result ≡ length self.now }
-    {
-        self.each.len()
-    }
-
-    /// The layer at a place, from 0.
-    pub fn layer(&self, i: usize) -> &Given
-        requires { i < length self.now }
-        ensures { slice_get self.now i ≡ Some result.now }
-    {
-        &self.each[i]
-    }
-
-    /// One layer more. After `NoMemory` nothing has changed.
-    pub fn push(&mut self, layer: Given) -> Result<(), NoMemory>
-        ensures ok { OnOk result (self.new ≡ self.old ++ layer ∷ []) }
-        ensures err { OnErr result (self.new ≡ self.old) }
-    {
-        self.each.push(layer)?;
-        Ok(())
-    }
-}
+pub type Layers = Items<Given>;
 
 /// What stands before the first slash and what stands behind it, if there is one.
 #[tactic(auto, unfolding(fd_spelling::specs::Numerals::cut))]

@@ -3,15 +3,13 @@
 
 mod app;
 mod command;
-mod dataset;
 mod layers;
+mod named;
 mod numbers;
 mod parse;
-mod root;
 mod wanted;
 
 pub use command::{Command, read_command};
-pub use dataset::Dataset;
 pub use layers::Layers;
-pub use root::Root;
+pub use named::{Dataset, Named, OfDataset, OfRoot, Root};
 pub use wanted::Wanted;

@@ -19,7 +19,7 @@ pub returns-clause-ok : goal.returns-clause-ok
 returns-clause-ok c =
     let s : World = record { table = c.state.inside.table; files = c.state.inside.files; history = c.state.inside.history; writers = c.state.inside.writers; owner = c.state.inside.owner; doubt = c.state.inside.doubt; readers = c.state.inside.readers; down = c.state.inside.down } in
     let at = subst (λ (t : World). IsAt t c.args.w c.args.i Holding) (sym c.state.view_is) c.requires.at in
-    fail_close_done s c.args.w c.args.i c.write_file.new.file c.set_phase.new.self at (subst (λ (t : World). IsSome t.doubt) (sym c.state.view_is) c.requires.doubt)
+    fail_close_done s c.args.w c.args.i c.write_file.new.file c.set_phase.new.writers at (subst (λ (t : World). IsSome t.doubt) (sym c.state.view_is) c.requires.doubt)
     (c.in_ok-write_file.ensures.ok ∙ ap (λ (n : ℕ). written s.table n (0 ∷ [])) (c.gate_at-gate.ensures.place ∙ ap gate_at c.len.ensures)) c.set_phase.ensures
     ∙ ap (λ (t : World). after t (Fail c.args.w)) c.state.view_is
 

@@ -23,7 +23,7 @@ pub returns-clause-ok : goal.returns-clause-ok
 returns-clause-ok c =
     let s : World = record { table = c.state.inside.table; files = c.state.inside.files; history = c.state.inside.history; writers = c.state.inside.writers; owner = c.state.inside.owner; doubt = c.state.inside.doubt; readers = c.state.inside.readers; down = c.state.inside.down } in
     let at = subst (λ (t : World). IsAt t c.args.w c.args.i BodyFirm) (sym c.state.view_is) c.requires in
-    fail_gate_done s c.args.w c.args.i c.len.result c.at.result.now c.entry_of-entry.result c.write_file.new.file c.set_phase.new.self at c.at.ensures c.entry_of-entry.ensures c.len.ensures
+    fail_gate_done s c.args.w c.args.i c.len.result c.at.result.now c.entry_of-entry.result c.write_file.new.file c.set_phase.new.writers at c.at.ensures c.entry_of-entry.ensures c.len.ensures
     (c.in_ok-write_file.ensures.ok ∙ ap (λ (n : ℕ). written s.table n (79 ∷ [])) c.gate_at-gate.ensures.place) c.set_phase.ensures
     ∙ ap (λ (t : World). after t (Fail c.args.w)) c.state.view_is
 

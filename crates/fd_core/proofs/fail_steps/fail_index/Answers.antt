@@ -22,7 +22,7 @@ pub returns-clause-ok : goal.returns-clause-ok
 returns-clause-ok c =
     let s : World = record { table = c.state.inside.table; files = c.state.inside.files; history = c.state.inside.history; writers = c.state.inside.writers; owner = c.state.inside.owner; doubt = c.state.inside.doubt; readers = c.state.inside.readers; down = c.state.inside.down } in
     let at = subst (λ (t : World). IsAt t c.args.w c.args.i Synced) (sym c.state.view_is) c.requires in
-    fail_index_done s c.args.w c.args.i c.at-writer.result.now c.deref.result.now c.write.new.self c.set_phase.new.self at c.at-writer.ensures (c.deref.ensures.value ∙ c.in_ok-rows.ensures)
+    fail_index_done s c.args.w c.args.i c.at-writer.result.now c.deref.result.now c.write.new.files c.set_phase.new.writers at c.at-writer.ensures (c.deref.ensures.value ∙ c.in_ok-rows.ensures)
     (c.in_ok-write.ensures.ok ∙ ap (λ (n : FileName). put_file s.files n (written (file_of s.files n) 0 c.deref.result.now)) c.file-name.ensures) c.set_phase.ensures
     ∙ ap (λ (t : World). after t (Fail c.args.w)) c.state.view_is
 

@@ -15,7 +15,7 @@ returns-clause-ok c =
     let s : World = record { table = c.state.inside.table; files = c.state.inside.files; history = c.state.inside.history; writers = c.state.inside.writers; owner = c.state.inside.owner; doubt = c.state.inside.doubt; readers = c.state.inside.readers; down = c.state.inside.down } in
     let up = ap (λ (t : World). t.down) c.state.view_is ∙ c.requires.up in
     let phase = subst (λ (t : World). (writer_of t c.args.w).phase ≡ Filling) (sym c.state.view_is) c.requires.phase in
-    fail_put_done s c.args.w c.next_place-at.result.1 c.next_place-at.result.0 c.loosen.new.self up phase (c.next_place-at.ensures.name ∙ ap (λ (t : World). fields_name (writer_of t c.args.w)) (sym c.state.view_is)) (c.next_place-at.ensures.at ∙ ap (λ (t : World). total (writer_of t c.args.w).pairs) (sym c.state.view_is)) c.in_ok-loosen.ensures.ok
+    fail_put_done s c.args.w c.next_place-at.result.1 c.next_place-at.result.0 c.loosen.new.files up phase (c.next_place-at.ensures.name ∙ ap (λ (t : World). fields_name (writer_of t c.args.w)) (sym c.state.view_is)) (c.next_place-at.ensures.at ∙ ap (λ (t : World). total (writer_of t c.args.w).pairs) (sym c.state.view_is)) c.in_ok-loosen.ensures.ok
     ∙ ap (λ (t : World). after t (Fail c.args.w)) c.state.view_is
 
 pub invariant_of-state-2 : goal.invariant_of-state-2

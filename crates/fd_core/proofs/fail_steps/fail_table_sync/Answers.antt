@@ -13,7 +13,7 @@ pub returns : goal.returns
 returns c =
     let s : World = record { table = c.state.inside.table; files = c.state.inside.files; history = c.state.inside.history; writers = c.state.inside.writers; owner = c.state.inside.owner; doubt = c.state.inside.doubt; readers = c.state.inside.readers; down = c.state.inside.down } in
     let at = subst (λ (t : World). (IsAt t c.args.w c.args.i Closing) ⊎ (IsAt t c.args.w c.args.i BodyLoose)) (sym c.state.view_is) c.requires in
-    fail_table_sync_done s c.args.w c.args.i c.set_phase.new.self at c.set_phase.ensures
+    fail_table_sync_done s c.args.w c.args.i c.set_phase.new.writers at c.set_phase.ensures
     ∙ ap (λ (t : World). after t (Fail c.args.w)) c.state.view_is
 
 pub invariant_of-state : goal.invariant_of-state

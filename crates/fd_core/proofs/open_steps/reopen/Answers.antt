@@ -20,7 +20,7 @@ batches_of-requires c = subst (AllHeld c.state.inside.files) (sym (c.in_ok-entri
 pub returns-clause-ok : goal.returns-clause-ok
 returns-clause-ok c =
     let s : World = record { table = c.state.inside.table; files = c.state.inside.files; history = c.state.inside.history; writers = c.state.inside.writers; owner = c.state.inside.owner; doubt = c.state.inside.doubt; readers = c.state.inside.readers; down = c.state.inside.down } in
-    reopen_done s c.in_ok-entries.entries c.in_ok-history.history c.keep_listed.new.self c.if-not-state.false (c.in_ok-entries.ensures ∙ ap (λ (l : List ℕ). entries_or_none (listed [] l)) c.as_slice.ensures) c.in_ok-history.ensures c.keep_listed.ensures
+    reopen_done s c.in_ok-entries.entries c.in_ok-history.history c.keep_listed.new.files c.if-not-state.false (c.in_ok-entries.ensures ∙ ap (λ (l : List ℕ). entries_or_none (listed [] l)) c.as_slice.ensures) c.in_ok-history.ensures c.keep_listed.ensures
     ∙ ap (λ (t : World). after t Reopen) c.state.view_is
 
 pub invariant_of-state : goal.invariant_of-state

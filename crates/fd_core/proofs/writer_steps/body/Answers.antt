@@ -23,7 +23,7 @@ pub returns-clause-ok : goal.returns-clause-ok
 returns-clause-ok c =
     let s : World = record { table = c.state.inside.table; files = c.state.inside.files; history = c.state.inside.history; writers = c.state.inside.writers; owner = c.state.inside.owner; doubt = c.state.inside.doubt; readers = c.state.inside.readers; down = c.state.inside.down } in
     let at : IsAt s c.args.w c.in-Some.i Holding = subst (λ (t : World). IsAt t c.args.w c.in-Some.i Holding) (sym c.state.view_is) c.in-Some.ensures.some in
-    body_done s c.args.w c.in-Some.i c.at-writer.result.now c.write_file.new.file c.set_phase.new.self at.up (sym c.is_some.ensures ∙ c.if-is_some.false) at.place c.at-writer.ensures (ap (λ (q : Phase). code q == code Holding) (phase_at s c.args.w c.in-Some.i Holding c.at-writer.result.now at c.at-writer.ensures))
+    body_done s c.args.w c.in-Some.i c.at-writer.result.now c.write_file.new.file c.set_phase.new.writers at.up (sym c.is_some.ensures ∙ c.if-is_some.false) at.place c.at-writer.ensures (ap (λ (q : Phase). code q == code Holding) (phase_at s c.args.w c.in-Some.i Holding c.at-writer.result.now at c.at-writer.ensures))
     (body_written s.table (length s.history) c.at-writer.result.now c.gate_at-gate.result c.entry_of.result c.body-body.result c.write_file.new.file (c.gate_at-gate.ensures.place ∙ ap gate_at c.len.ensures) c.entry_of.ensures c.body-body.ensures c.in_ok-write_file.ensures.ok) c.set_phase.ensures
     ∙ ap (λ (t : World). after t (Body c.args.w)) c.state.view_is
 

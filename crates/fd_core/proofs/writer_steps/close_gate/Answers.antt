@@ -18,7 +18,7 @@ pub returns-clause-ok : goal.returns-clause-ok
 returns-clause-ok c =
     let s : World = record { table = c.state.inside.table; files = c.state.inside.files; history = c.state.inside.history; writers = c.state.inside.writers; owner = c.state.inside.owner; doubt = c.state.inside.doubt; readers = c.state.inside.readers; down = c.state.inside.down } in
     let at : IsAt s c.args.w c.in-Some.i Holding = subst (λ (t : World). IsAt t c.args.w c.in-Some.i Holding) (sym c.state.view_is) c.in-Some.ensures.some in
-    close_gate_done s c.args.w c.in-Some.i c.len.result (writer_of s c.args.w) c.write_file.new.file c.set_phase.new.self at.up (sym c.is_some.ensures ∙ c.if-not-is_some.false) at.place (at.place.writer (fresh s.table c.args.w)) (ap (λ (q : Phase). code q == code Holding) at.phase) c.len.ensures
+    close_gate_done s c.args.w c.in-Some.i c.len.result (writer_of s c.args.w) c.write_file.new.file c.set_phase.new.writers at.up (sym c.is_some.ensures ∙ c.if-not-is_some.false) at.place (at.place.writer (fresh s.table c.args.w)) (ap (λ (q : Phase). code q == code Holding) at.phase) c.len.ensures
     (c.in_ok-write_file.ensures.ok ∙ ap (λ (n : ℕ). written s.table n (0 ∷ [])) c.gate_at-gate.ensures.place) c.set_phase.ensures
     ∙ ap (λ (t : World). after t (CloseGate c.args.w)) c.state.view_is
 

@@ -13,7 +13,7 @@ returns-clause-ok c =
     let s : World = record { table = c.state.inside.table; files = c.state.inside.files; history = c.state.inside.history; writers = c.state.inside.writers; owner = c.state.inside.owner; doubt = c.state.inside.doubt; readers = c.state.inside.readers; down = c.state.inside.down } in
     let at : IsAt s c.args.w c.in-Some.i Listed = subst (λ (t : World). IsAt t c.args.w c.in-Some.i Listed) (sym c.state.view_is) c.in-Some.ensures.some in
     let listed : is_in_phase c.at.result.now Listed ≡ true = ap (λ (q : Phase). code q == code Listed) (phase_at s c.args.w c.in-Some.i Listed c.at.result.now at c.at.ensures) in
-    post_done s c.args.w c.in-Some.i c.at.result.now c.in_ok-batch.batch c.push.new.self c.set_phase.new.self at.up at.place c.at.ensures listed c.in_ok-batch.ensures c.in_ok-push.ensures.ok c.set_phase.ensures
+    post_done s c.args.w c.in-Some.i c.at.result.now c.in_ok-batch.batch c.push.new.self c.set_phase.new.writers at.up at.place c.at.ensures listed c.in_ok-batch.ensures c.in_ok-push.ensures.ok c.set_phase.ensures
     ∙ ap (λ (t : World). after t (Post c.args.w)) c.state.view_is
 
 pub invariant_of-state-2 : goal.invariant_of-state-2

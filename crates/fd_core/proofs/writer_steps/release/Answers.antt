@@ -12,7 +12,7 @@ pub returns-clause-state : goal.returns-clause-state
 returns-clause-state c =
     let s : World = record { table = c.state.inside.table; files = c.state.inside.files; history = c.state.inside.history; writers = c.state.inside.writers; owner = c.state.inside.owner; doubt = c.state.inside.doubt; readers = c.state.inside.readers; down = c.state.inside.down } in
     let at : IsAt s c.args.w c.in-Some.i Posted = subst (λ (t : World). IsAt t c.args.w c.in-Some.i Posted) (sym c.state.view_is) c.in-Some.ensures.some in
-    release_done s c.args.w c.in-Some.i (writer_of s c.args.w) c.begin_next.new.self at.up
+    release_done s c.args.w c.in-Some.i (writer_of s c.args.w) c.begin_next.new.writers at.up
     at.place (at.place.writer (fresh s.table c.args.w)) (ap (λ (q : Phase). code q == code Posted) at.phase) c.begin_next.ensures
     ∙ ap (λ (t : World). after t (Release c.args.w)) c.state.view_is
 

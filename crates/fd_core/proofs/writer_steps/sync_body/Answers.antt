@@ -12,7 +12,7 @@ pub returns-clause-ok : goal.returns-clause-ok
 returns-clause-ok c =
     let s : World = record { table = c.state.inside.table; files = c.state.inside.files; history = c.state.inside.history; writers = c.state.inside.writers; owner = c.state.inside.owner; doubt = c.state.inside.doubt; readers = c.state.inside.readers; down = c.state.inside.down } in
     let at : IsAt s c.args.w c.in-Some.i BodyLoose = subst (λ (t : World). IsAt t c.args.w c.in-Some.i BodyLoose) (sym c.state.view_is) c.in-Some.ensures.some in
-    sync_body_done s c.args.w c.in-Some.i (writer_of s c.args.w) c.sync_file.new.file c.set_phase.new.self at.up at.place (at.place.writer (fresh s.table c.args.w)) (ap (λ (q : Phase). code q == code BodyLoose) at.phase) c.in_ok-sync_file.ensures.ok c.set_phase.ensures
+    sync_body_done s c.args.w c.in-Some.i (writer_of s c.args.w) c.sync_file.new.file c.set_phase.new.writers at.up at.place (at.place.writer (fresh s.table c.args.w)) (ap (λ (q : Phase). code q == code BodyLoose) at.phase) c.in_ok-sync_file.ensures.ok c.set_phase.ensures
     ∙ ap (λ (t : World). after t (SyncBody c.args.w)) c.state.view_is
 
 pub invariant_of-state-2 : goal.invariant_of-state-2
