@@ -28,14 +28,7 @@ pub struct Gathering<F: Send, T: Disk<F>> {
 
 impl<F: Send, T: Disk<F>> Drop for Gathering<F, T> {
     fn drop(self) {
-        let Gathering {
-            inner: _,
-            gathered: _,
-            start: _,
-            room: _,
-            trail: _,
-            of: _,
-        } = self;
+        self.into_inner();
     }
 }
 
@@ -59,6 +52,21 @@ impl<F: Send, T: Disk<F>> Gathering<F, T> {
             trail,
             of: PhantomData,
         })
+    }
+
+    // The file below.
+    fn into_inner(self) -> T
+        ensures { result ≡ self.inner }
+    {
+        let Gathering {
+            inner,
+            gathered: _,
+            start: _,
+            room: _,
+            trail: _,
+            of: _,
+        } = self;
+        inner
     }
 }
 
@@ -139,15 +147,7 @@ impl<F: Send, T: Disk<F>> Disk<F> for Gathering<F, T> {
     }
 
     fn seal(self) -> T::Sealed {
-        let Gathering {
-            inner,
-            gathered: _,
-            start: _,
-            room: _,
-            trail: _,
-            of: _,
-        } = self;
-        inner.seal()
+        self.into_inner().seal()
     }
 }
 
