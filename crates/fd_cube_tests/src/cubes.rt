@@ -1,7 +1,6 @@
 //! A full cube, and one that lacks a key.
-ghost use Rattle.std.specs.{Prelude.{◌≡◌, ◌≤◌, ◌≢◌, IfSome, IsTrue, length}, List.{All, AllPairs}};
+ghost use Rattle.std.specs.Prelude.{◌≡◌, IfSome, IsTrue};
 ghost use Rattle.fd_spelling.specs.Names.{is_value};
-ghost use Rattle.fd_cubes.specs.Cubes.{IsAskable};
 ghost use Rattle.fd_cube_tests.specs.Keys.{four, key, three};
 
 use fd_cubes::{Cube, cubes, every_cube_reads_back, lines_of};
