@@ -28,7 +28,14 @@ pub struct Gathering<F: Send, T: Disk<F>> {
 
 impl<F: Send, T: Disk<F>> Drop for Gathering<F, T> {
     fn drop(self) {
-        self.into_inner();
+        let Gathering {
+            inner: _,
+            gathered: _,
+            start: _,
+            room: _,
+            trail: _,
+            of: _,
+        } = self;
     }
 }
 
@@ -52,21 +59,6 @@ impl<F: Send, T: Disk<F>> Gathering<F, T> {
             trail,
             of: PhantomData,
         })
-    }
-
-    // The file below.
-    fn into_inner(self) -> T
-        ensures { result ≡ self.inner }
-    {
-        let Gathering {
-            inner,
-            gathered: _,
-            start: _,
-            room: _,
-            trail: _,
-            of: _,
-        } = self;
-        inner
     }
 }
 
@@ -147,7 +139,15 @@ impl<F: Send, T: Disk<F>> Disk<F> for Gathering<F, T> {
     }
 
     fn seal(self) -> T::Sealed {
-        self.into_inner().seal()
+        let Gathering {
+            inner,
+            gathered: _,
+            start: _,
+            room: _,
+            trail: _,
+            of: _,
+        } = self;
+        inner.seal()
     }
 }
 
