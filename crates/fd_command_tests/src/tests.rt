@@ -15,6 +15,18 @@ macro_rules! case_of {
     ($base:expr, $($field:ident: $value:expr),+) => { Case { $($field: $value,)+ ..$base } };
 }
 
+/// These cases, each with a crash that leaves what the number of its place chooses.
+macro_rules! crashed {
+    ($first:expr, $second:expr, $third:expr, $fourth:expr) => {
+        &[
+            case_of!($first, event: Event::Crash(0)),
+            case_of!($second, event: Event::Crash(1)),
+            case_of!($third, event: Event::Crash(2)),
+            case_of!($fourth, event: Event::Crash(3)),
+        ]
+    };
+}
+
 /// A step of a lane that waits until the other has come so far.
 macro_rules! hold {
     ($lane:expr, $step:expr, $until:expr) => { Hold { lane: $lane, step: $step, until: $until } };

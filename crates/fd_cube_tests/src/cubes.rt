@@ -1,10 +1,9 @@
 //! A full cube, and one that lacks a key.
-ghost use Rattle.std.specs.{Prelude.{◌≡◌, ◌≤◌, ◌≢◌, IfSome, IsTrue, length}, List.{All, AllPairs}};
+ghost use Rattle.std.specs.Prelude.{◌≡◌, IfSome, IsTrue};
 ghost use Rattle.fd_spelling.specs.Names.{is_value};
-ghost use Rattle.fd_cubes.specs.Cubes.{IsAskable};
 ghost use Rattle.fd_cube_tests.specs.Keys.{four, key, three};
 
-use fd_cubes::{cubes, every_cube_reads_back, lines_of};
+use fd_cubes::{Cube, cubes, every_cube_reads_back, lines_of};
 use fd_key::Key;
 use std::alloc::Global;
 
@@ -40,13 +39,21 @@ fn four_keys(alloc: Global) -> Option<Vec<Key>>
     Some(keys)
 }
 
-/// The lines of the cubes of keys, each behind a blank.
-fn text_of(alloc: Global, keys: &[Key]) -> Option<String>
-    requires askable { All IsAskable keys.now }
-    requires distinct { AllPairs (λ a b. a ≢ b) keys.now }
-    requires few { length keys.now ≤ 262144 }
-{
-    let found = cubes(alloc, keys).ok()?;
+/// The cubes of three keys.
+fn cubes_of_three(alloc: Global) -> Option<Vec<Cube>> {
+    let keys = three_keys(alloc)?;
+    cubes(alloc, &keys).ok()
+}
+
+/// The cubes of four keys.
+fn cubes_of_four(alloc: Global) -> Option<Vec<Cube>> {
+    let keys = four_keys(alloc)?;
+    cubes(alloc, &keys).ok()
+}
+
+/// The lines of cubes, each behind a blank.
+fn text_of(alloc: Global, found: Option<Vec<Cube>>) -> Option<String> {
+    let found = found?;
     let lines = lines_of(alloc, &found).ok()?;
     let mut text = String::new(alloc);
     for line in &lines {
@@ -56,13 +63,9 @@ fn text_of(alloc: Global, keys: &[Key]) -> Option<String>
     Some(text)
 }
 
-/// For each cube of keys the number of its keys and its text.
-fn told_of(alloc: Global, keys: &[Key]) -> Option<String>
-    requires askable { All IsAskable keys.now }
-    requires distinct { AllPairs (λ a b. a ≢ b) keys.now }
-    requires few { length keys.now ≤ 262144 }
-{
-    let found = cubes(alloc, keys).ok()?;
+/// For each cube the number of its keys and its text.
+fn told_of(alloc: Global, found: Option<Vec<Cube>>) -> Option<String> {
+    let found = found?;
     let mut text = String::new(alloc);
     for cube in &found {
         let request = cube.text(alloc).ok()?;
@@ -72,43 +75,21 @@ fn told_of(alloc: Global, keys: &[Key]) -> Option<String>
     Some(text)
 }
 
-/// The cube of four keys.
-fn told_of_four(alloc: Global) -> Option<String> {
-    let keys = four_keys(alloc)?;
-    told_of(alloc, &keys)
-}
-
-/// The lines of four keys.
-fn text_of_four(alloc: Global) -> Option<String> {
-    let keys = four_keys(alloc)?;
-    text_of(alloc, &keys)
-}
-
-/// The lines of three keys.
-fn text_of_three(alloc: Global) -> Option<String> {
-    let keys = three_keys(alloc)?;
-    text_of(alloc, &keys)
-}
-
 #[test]
 fn a_full_cube_is_one_line(rt: HostRuntime) {
-    assert!(rt;
-        text_of_four(rt.alloc()).is_some_and(|text| text.as_str() == " retrieve,a=1/2,b=x/y")
-    );
+    let told = text_of(rt.alloc(), cubes_of_four(rt.alloc()));
+    assert!(rt; told.is_some_and(|text| text.as_str() == " retrieve,a=1/2,b=x/y"));
 }
 
 #[test]
 fn a_cube_that_lacks_a_key_is_two_lines(rt: HostRuntime) {
-    assert!(rt;
-        text_of_three(rt.alloc()).is_some_and(|text| text.as_str()
-            == " retrieve,a=1,b=x/y retrieve,a=2,b=x")
-    );
+    let told = text_of(rt.alloc(), cubes_of_three(rt.alloc()));
+    assert!(rt; told.is_some_and(|text| text.as_str() == " retrieve,a=1,b=x/y retrieve,a=2,b=x"));
 }
 
 #[test]
 fn a_cube_tells_how_many_keys_it_has(rt: HostRuntime) {
     every_cube_reads_back();
-    assert!(rt;
-        told_of_four(rt.alloc()).is_some_and(|text| text.as_str() == " 4 retrieve,a=1/2,b=x/y")
-    );
+    let told = told_of(rt.alloc(), cubes_of_four(rt.alloc()));
+    assert!(rt; told.is_some_and(|text| text.as_str() == " 4 retrieve,a=1/2,b=x/y"));
 }

@@ -1,3 +1,6 @@
+ghost use Rattle.std.specs.Prelude.{◌≡◌};
+ghost use Rattle.fd_disk.specs.Names.{same_name};
+
 /// Which of the two files of a batch.
 #[derive(Clone, Copy, Debug, PartialEq, Eq)]
 pub enum FileKind {
@@ -16,4 +19,11 @@ pub struct FileName {
     pub seq: u32,
     /// Which of the batch's two files.
     pub kind: FileKind,
+}
+
+/// Tells that two names are one.
+pub fn is_same(a: FileName, b: FileName) -> bool
+    ensures { result ≡ same_name a b }
+{
+    a.writer == b.writer && a.seq == b.seq && a.kind == b.kind
 }

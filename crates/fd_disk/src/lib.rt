@@ -10,7 +10,7 @@ mod shelves;
 mod traits;
 
 pub use file::{File, Range, Ranges};
-pub use folders::{FileKind, FileName};
+pub use folders::{FileKind, FileName, is_same};
 pub use law::every_image;
 pub use renewing::Renew;
 pub use shelves::{Folder, Shelf, Store};

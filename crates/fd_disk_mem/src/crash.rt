@@ -1,8 +1,8 @@
 // A crash while a dataset is out.
 ghost use Rattle.std.specs.Prelude.{◌≡◌, ◌<◌, [], Option, false, is_some, option_map, string_bytes, vec_len, IfOk, IfSome, Some};
 ghost use Rattle.fd_disk.specs.{Folders.{Left, folder_at}, Outstanding.{IsDatasetImage, IsStoreLeft, all_back, one_out}, declared.file.File.{File}};
-ghost use Rattle.fd_file_mem.specs.Calls.{file_of};
-ghost use Rattle.fd_disk_mem.specs.{Crashes.{IsTableCrashed, folders_left}, Out.{AreApart, AreOf, parts_of, parts_with}, Planning.{PlansNothing, holdings}, Slots.{contents_of}};
+ghost use Rattle.fd_file_mem.specs.{Calls.{file_of}, Told.{disk_memory, disk_name}};
+ghost use Rattle.fd_disk_mem.specs.{Crashes.{IsTableCrashed, folders_left}, Out.{AreApart, AreOf, parts_of, parts_with}, Planning.{PlansNothing, holdings}, Slots.{contents_of}, Told.{folder_name, folder_out, store_room}};
 
 use crate::{MemFolder, MemShelf, MemStore};
 use fd_bytes::NoMemory;
@@ -22,14 +22,14 @@ impl MemStore {
         table: Option<MemDisk>,
         shelves: Vec<MemShelf>,
     ) -> Result<MemStore, (MemStore, NoMemory)>
-        requires table { folder.table_out ≡ is_some table }
-        requires table_name { IfSome table (λ t. t.name.items ≡ string_bytes folder.name) }
-        requires shelves { AreOf (string_bytes folder.name) shelves.items }
+        requires table { folder_out folder ≡ is_some table }
+        requires table_name { IfSome table (λ t. disk_name t ≡ folder_name folder) }
+        requires shelves { AreOf (folder_name folder) shelves.items }
         requires apart { AreApart shelves.items }
-        ensures image { IfOk result (λ s. IsStoreLeft (holdings self) (one_out (string_bytes folder.name) (parts_of folder table shelves.items)) (holdings s).schema (folders_left (holdings s))) }
-        ensures left { IfOk result (λ s. IfSome table (λ t. IsTableCrashed choice (Some (file_of t.file)) (folder_at (holdings s) (string_bytes folder.name)).table)) }
+        ensures image { IfOk result (λ s. IsStoreLeft (holdings self) (one_out (folder_name folder) (parts_of folder table shelves.items)) (holdings s).schema (folders_left (holdings s))) }
+        ensures left { IfOk result (λ s. IfSome table (λ t. IsTableCrashed choice (Some (file_of (disk_memory t))) (folder_at (holdings s) (folder_name folder)).table)) }
         ensures plans { IfOk result PlansNothing }
-        ensures room { IfOk result (λ s. s.room ≡ self.room) }
+        ensures room { IfOk result (λ s. store_room s ≡ store_room self) }
     {
         let mut store = self;
         store.give_folder(with_all_back(folder, table, shelves));

@@ -3,7 +3,7 @@ ghost use Rattle.std.specs.Prelude.{◌≡◌, if◌then◌else◌, ◌∷◌, t
 ghost use Rattle.fd_disk.specs.Names.{same_name};
 ghost use Rattle.fd_disk_mem.specs.Drawers.{below, bytes_among, is_named, bytes_in};
 
-use fd_disk::{FileKind, FileName};
+use fd_disk::{FileName, is_same};
 use std::alloc::{AllocError, Global};
 use std::mem;
 
@@ -19,18 +19,6 @@ pub(crate) struct Kept {
 pub(crate) enum Drawers {
     Empty,
     More(Vec<Kept>, Box<Drawers>),
-}
-
-pub(crate) fn is_same(a: FileName, b: FileName) -> bool
-    ensures { result ≡ same_name a b }
-{
-    let same_kind = match (a.kind, b.kind) {
-        (FileKind::Fields, FileKind::Fields) => true,
-        (FileKind::Index, FileKind::Index) => true,
-        (FileKind::Fields, FileKind::Index) => false,
-        (FileKind::Index, FileKind::Fields) => false,
-    };
-    a.writer == b.writer && a.seq == b.seq && same_kind
 }
 
 /// Puts a file before the others.

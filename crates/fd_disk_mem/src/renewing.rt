@@ -1,7 +1,7 @@
 // A dataset in memory whose table is renewed or taken away, and whose files are removed.
 ghost use Rattle.std.specs.Prelude.{◌≡◌, ◌≤◌, None, false, is_some, length, string_bytes, true, IfOk, OnOk};
 ghost use Rattle.fd_disk.specs.{Causes.{HasDownCause}, Names.{same_name}, declared.folders.FileName.{FileName}};
-ghost use Rattle.fd_disk_mem.specs.{Drawers.{bytes_among, is_named}, Pasts.{memory_of}};
+ghost use Rattle.fd_disk_mem.specs.{Drawers.{bytes_among, is_named}, Pasts.{memory_of}, Renewing.{HoldsStill}};
 ghost use Rattle.fd_file_mem.specs.Calls.{begun, new_file};
 
 use crate::MemFolder;
@@ -91,12 +91,7 @@ impl MemFolder {
         ensures fits { IfOk result (λ _. len ≤ self.old.room.size) }
         ensures none { OnOk result (self.new.faults ≡ self.old.faults) }
         ensures room { self.new.room ≡ self.old.room }
-        ensures table { self.new.table ≡ self.old.table }
-        ensures out { self.new.table_out ≡ self.old.table_out }
-        ensures files { self.new.files ≡ self.old.files }
-        ensures past { self.new.past ≡ self.old.past }
-        ensures last_writer { self.new.last_writer ≡ self.old.last_writer }
-        ensures name { self.new.name ≡ self.old.name }
+        ensures still { HoldsStill self.old self.new }
         ensures cause { HasDownCause self.old.faults self.new.faults result }
     {
         if self.plan.meets(Op::Create) || len as u64 > self.room.size {
@@ -112,12 +107,7 @@ impl MemFolder {
         bytes: &[u8],
     ) -> Result<(MemDisk, Box<Past>), Down<MemFault>>
         ensures file { IfOk result (λ r. r.0.file ≡ begun (new_file self.old.room) bytes.now) }
-        ensures table { self.new.table ≡ self.old.table }
-        ensures out { self.new.table_out ≡ self.old.table_out }
-        ensures files { self.new.files ≡ self.old.files }
-        ensures past { self.new.past ≡ self.old.past }
-        ensures last_writer { self.new.last_writer ≡ self.old.last_writer }
-        ensures name { self.new.name ≡ self.old.name }
+        ensures still { HoldsStill self.old self.new }
         ensures cause { HasDownCause self.old.faults self.new.faults result }
     {
         if let Err(down) = self.counts(bytes.len()) {
@@ -142,12 +132,7 @@ impl MemFolder {
 
     // The place of a table that is taken away.
     fn ending(&mut self, alloc: Global) -> Result<Box<Past>, Down<MemFault>>
-        ensures table { self.new.table ≡ self.old.table }
-        ensures out { self.new.table_out ≡ self.old.table_out }
-        ensures files { self.new.files ≡ self.old.files }
-        ensures past { self.new.past ≡ self.old.past }
-        ensures last_writer { self.new.last_writer ≡ self.old.last_writer }
-        ensures name { self.new.name ≡ self.old.name }
+        ensures still { HoldsStill self.old self.new }
         ensures cause { HasDownCause self.old.faults self.new.faults result }
     {
         if let Err(down) = self.counts(0) {
@@ -164,12 +149,7 @@ impl MemFolder {
         ensures named { IfOk result (λ r. (n : FileName) → is_named r.drawer.items n ≡ same_name file n) }
         ensures none { IfOk result (λ r. (n : FileName) → same_name file n ≡ true → bytes_among r.drawer.items n ≡ None) }
         ensures copy { IfOk result (λ r. memory_of r.table ≡ memory_of self.old.table) }
-        ensures table { self.new.table ≡ self.old.table }
-        ensures out { self.new.table_out ≡ self.old.table_out }
-        ensures files { self.new.files ≡ self.old.files }
-        ensures past { self.new.past ≡ self.old.past }
-        ensures last_writer { self.new.last_writer ≡ self.old.last_writer }
-        ensures name { self.new.name ≡ self.old.name }
+        ensures still { HoldsStill self.old self.new }
         ensures cause { HasDownCause self.old.faults self.new.faults result }
     {
         if let Err(down) = self.counts(0) {

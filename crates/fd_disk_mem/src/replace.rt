@@ -2,7 +2,7 @@
 ghost use Rattle.std.specs.Prelude.{◌≡◌, ◌≤◌, List, ℕ, length, option_map, IfOk, OnOk, OnErr};
 ghost use Rattle.fd_disk.specs.Images.{firm_file};
 ghost use Rattle.fd_file_mem.specs.{Calls.{file_of}, Plans.{table_text}};
-ghost use Rattle.fd_disk_mem.specs.{Planning.{fails_for, holdings}, Replaced.{HasFile, HasSchema, HasTable, IsReplaced}};
+ghost use Rattle.fd_disk_mem.specs.{Planning.{fails_for, holdings}, Replaced.{HasFile, HasSchema, HasTable, IsReplaced}, Told.{store_plan, store_plans, store_room}};
 
 use crate::MemStore;
 use crate::drawers::{Drawers, drawer_of, lay};
@@ -27,9 +27,9 @@ impl MemStore {
         ensures ok { OnOk result (IsReplaced file.now (option_map (λ b. b.now) bytes.entry) (holdings self.old) (holdings self.new)) }
         ensures err { OnErr result (holdings self.new ≡ holdings self.old) }
         ensures planned { (other : List ℕ) → fails_for other self.new ≡ fails_for other self.old }
-        ensures asked { self.new.plan.asked ≡ self.old.plan.asked }
-        ensures fuse { (self.new.plan.fuse.allowed ≡ self.old.plan.fuse.allowed) × (self.new.plans.fuse.allowed ≡ self.old.plans.fuse.allowed) }
-        ensures room { self.new.room ≡ self.old.room }
+        ensures asked { (store_plan self.new).asked ≡ (store_plan self.old).asked }
+        ensures fuse { ((store_plan self.new).fuse.allowed ≡ (store_plan self.old).fuse.allowed) × ((store_plans self.new).fuse.allowed ≡ (store_plans self.old).fuse.allowed) }
+        ensures room { store_room self.new ≡ store_room self.old }
         ensures faults { ⟦<MemStore as Store<MemFault>>⟧.faults self.new ≡ ⟦<MemStore as Store<MemFault>>⟧.faults self.old }
     {
         if file == "schema" {

@@ -1,7 +1,7 @@
 // A store in memory.
 ghost use Rattle.std.specs.Prelude.{◌≡◌, ◌≢◌, ◌≤◌, ◌⊎◌, ◌++◌, List, ℕ, true, false, nat_le, length, is_ok, is_some, option_map, string_bytes, unwrap_or, IfOk, IfErr, IfSome, OnOk, OnErr, None, Some};
 ghost use Rattle.fd_disk.specs.{Causes.{HasDownCause, OnNoMemory}, Folders.{IsStoreImage, SameBut, WhereTold, folder_at, no_contents, planted}};
-ghost use Rattle.fd_disk_mem.specs.{Crashes.{IsCrashed, folders_left}, Planning.{PlansNothing, fails_for, holdings, none_told}, Slots.{contents_of, folder_in}};
+ghost use Rattle.fd_disk_mem.specs.{Crashes.{IsCrashed, folders_left}, Planning.{PlansNothing, fails_for, holdings, none_told}, Slots.{contents_of, folder_in}, Told.{folder_contents, folder_name, folder_out, store_faults, store_plan, store_plans, store_room}};
 ghost use Rattle.fd_file_mem.specs.Plans.{FailsByPlan, IsAnew, after_call, fails_if, fails_of, is_due, is_fault, table_text};
 
 use crate::MemFolder;
@@ -31,7 +31,7 @@ impl MemStore {
     /// most twice as many; memory for all of them is taken when the file is made, and none later. A call beyond is a fault
     /// that changes nothing.
     pub fn new(alloc: Global, file_size: u64, calls: u32) -> Result<MemStore, NoMemory>
-        ensures room { IfOk result (λ s. s.room ≡ record { size = file_size; calls = calls }) }
+        ensures room { IfOk result (λ s. store_room s ≡ record { size = file_size; calls = calls }) }
         ensures plans { IfOk result PlansNothing }
         ensures empty { IfOk result (λ s. ⟦<MemStore as Store<MemFault>>⟧.has s ≡ Some (record { schema = None; folders = λ name. None })) }
     {
@@ -55,9 +55,9 @@ impl MemStore {
     pub fn fail(&mut self, alloc: Global, file: &str, op: Op, nth: u32) -> Result<(), NoMemory>
         ensures ok { OnOk result ((other : List ℕ) → fails_for other self.new ≡ fails_for other self.old ++ fails_if other file.now op nth) }
         ensures err { OnErr result ((other : List ℕ) → fails_for other self.new ≡ fails_for other self.old) }
-        ensures asked { self.new.plan.asked ≡ self.old.plan.asked }
-        ensures fuse { (self.new.plan.fuse.allowed ≡ self.old.plan.fuse.allowed) × (self.new.plans.fuse.allowed ≡ self.old.plans.fuse.allowed) }
-        ensures room { self.new.room ≡ self.old.room }
+        ensures asked { (store_plan self.new).asked ≡ (store_plan self.old).asked }
+        ensures fuse { ((store_plan self.new).fuse.allowed ≡ (store_plan self.old).fuse.allowed) × ((store_plans self.new).fuse.allowed ≡ (store_plans self.old).fuse.allowed) }
+        ensures room { store_room self.new ≡ store_room self.old }
         ensures has { ⟦<MemStore as Store<MemFault>>⟧.has self.new ≡ ⟦<MemStore as Store<MemFault>>⟧.has self.old }
         ensures faults { ⟦<MemStore as Store<MemFault>>⟧.faults self.new ≡ ⟦<MemStore as Store<MemFault>>⟧.faults self.old }
     {
@@ -72,10 +72,10 @@ impl MemStore {
     /// Lets so many calls pass from now on, and fails all later ones. The store and all objects that it hands out from now
     /// on count together: their reads, writes and syncs, and the making of files. What was handed out before doesn't count.
     pub fn fuse(&mut self, calls: u64)
-        ensures set { (self.new.plan.fuse.allowed ≡ Some calls) × (self.new.plans.fuse.allowed ≡ Some calls) }
+        ensures set { ((store_plan self.new).fuse.allowed ≡ Some calls) × ((store_plans self.new).fuse.allowed ≡ Some calls) }
         ensures planned { (file : List ℕ) → fails_for file self.new ≡ fails_for file self.old }
-        ensures asked { self.new.plan.asked ≡ self.old.plan.asked }
-        ensures room { self.new.room ≡ self.old.room }
+        ensures asked { (store_plan self.new).asked ≡ (store_plan self.old).asked }
+        ensures room { store_room self.new ≡ store_room self.old }
         ensures has { ⟦<MemStore as Store<MemFault>>⟧.has self.new ≡ ⟦<MemStore as Store<MemFault>>⟧.has self.old }
         ensures faults { ⟦<MemStore as Store<MemFault>>⟧.faults self.new ≡ ⟦<MemStore as Store<MemFault>>⟧.faults self.old }
     {
@@ -91,7 +91,7 @@ impl MemStore {
         ensures image { IfOk result (λ s. WhereTold (⟦<MemStore as Store<MemFault>>⟧.has self) (⟦<MemStore as Store<MemFault>>⟧.has s) (λ before after. IsStoreImage before after.schema (folders_left after))) }
         ensures left { IfOk result (λ s. WhereTold (⟦<MemStore as Store<MemFault>>⟧.has self) (⟦<MemStore as Store<MemFault>>⟧.has s) (IsCrashed choice)) }
         ensures plans { IfOk result PlansNothing }
-        ensures room { IfOk result (λ s. s.room ≡ self.room) }
+        ensures room { IfOk result (λ s. store_room s ≡ store_room self) }
     {
         let _ = alloc;
         let mut store = self;
@@ -124,9 +124,9 @@ impl Store<MemFault> for MemStore {
         ensures given { IfOk result (λ o. IfSome (Some (holdings self.old)) (λ s. option_map (λ v. v.items) o ≡ s.schema)) }
         ensures has { Some (holdings self.new) ≡ Some (holdings self.old) }
         ensures out { none_told ≡ none_told }
-        ensures cause { HasDownCause self.old.faults self.new.faults result }
-        ensures fails { FailsByPlan (is_due Op.Read self.old.plan) self.old.plan.fuse.allowed true (is_ok result) (is_fault result) }
-        ensures asked { self.new.plan ≡ after_call Op.Read self.old.plan }
+        ensures cause { HasDownCause (store_faults self.old) (store_faults self.new) result }
+        ensures fails { FailsByPlan (is_due Op.Read (store_plan self.old)) (store_plan self.old).fuse.allowed true (is_ok result) (is_fault result) }
+        ensures asked { store_plan self.new ≡ after_call Op.Read (store_plan self.old) }
     {
         if self.plan.meets(Op::Read) {
             return Err(Down::Fault(counted(&mut self.faults)));
@@ -148,8 +148,8 @@ impl Store<MemFault> for MemStore {
         ensures nothing { OnErr result ((Some (holdings self.new)) ≡ (Some (holdings self.old))) }
         ensures refused { IfErr result (λ e. OnNoMemory e ((Some (holdings self.new)) ≡ (Some (holdings self.old)))) }
         ensures out { none_told ≡ none_told }
-        ensures cause { HasDownCause self.old.faults self.new.faults result }
-        ensures fails { FailsByPlan (is_due Op.Create self.old.plan) self.old.plan.fuse.allowed (nat_le (length text.now) self.old.room.size) (is_ok result) (is_fault result) }
+        ensures cause { HasDownCause (store_faults self.old) (store_faults self.new) result }
+        ensures fails { FailsByPlan (is_due Op.Create (store_plan self.old)) (store_plan self.old).fuse.allowed (nat_le (length text.now) (store_room self.old).size) (is_ok result) (is_fault result) }
     {
         let Ok(text) = text.to_vec(alloc) else {
             return Err(Down::NoMemory);
@@ -176,14 +176,14 @@ impl Store<MemFault> for MemStore {
     }
 
     fn give_folder(&mut self, folder: MemFolder)
-        requires { folder.table_out ≡ false }
-        ensures contents { WhereTold (Some (holdings self.old)) (Some (holdings self.new)) (SameBut (string_bytes folder.name)) }
-        ensures given { IfSome (Some (holdings self.new)) (λ s. Some (contents_of folder.table folder.files) ≡ Some (folder_at s (string_bytes folder.name))) }
-        ensures out { (other : List ℕ) → none_told other ≡ true → (none_told other ≡ true) × (other ≢ string_bytes folder.name) }
-        ensures faults { self.old.faults ≤ self.new.faults }
-        ensures same { (self.new.room ≡ self.old.room) × ((self.new.plan ≡ self.old.plan) × (self.new.plans ≡ self.old.plans)) }
-        ensures count { self.new.faults ≡ self.old.faults }
-        ensures here { is_some (folder_in self.new.slots (string_bytes folder.name)) ≡ true }
+        requires { folder_out folder ≡ false }
+        ensures contents { WhereTold (Some (holdings self.old)) (Some (holdings self.new)) (SameBut (folder_name folder)) }
+        ensures given { IfSome (Some (holdings self.new)) (λ s. Some (folder_contents folder) ≡ Some (folder_at s (folder_name folder))) }
+        ensures out { (other : List ℕ) → none_told other ≡ true → (none_told other ≡ true) × (other ≢ folder_name folder) }
+        ensures faults { store_faults self.old ≤ store_faults self.new }
+        ensures same { (store_room self.new ≡ store_room self.old) × ((store_plan self.new ≡ store_plan self.old) × (store_plans self.new ≡ store_plans self.old)) }
+        ensures count { store_faults self.new ≡ store_faults self.old }
+        ensures here { is_some ((holdings self.new).folders (folder_name folder)) ≡ true }
     {
         let MemFolder {
             name,

@@ -1,7 +1,9 @@
 // The system on which the process runs.
 use crate::HostPlace;
 use fd_bytes::NoMemory;
-use fd_host::{Budget, Locks, Place, descriptors, exclusive, gather, make_folders, plant, whole};
+use fd_host::{
+    Budget, Locks, Place, Target, descriptors, exclusive, gather, make_folders, plant, whole,
+};
 use fd_untold::{Root, System};
 use std::alloc::{AllocError, Global};
 use std::collections::BTreeSet;
@@ -34,7 +36,12 @@ impl Root for HostSystem {
     }
 
     fn plant(&self, folder: &str, unfinished: &str, path: &str, bytes: &[u8]) -> io::Result<()> {
-        plant(self.host, folder, unfinished, path, bytes)
+        let target = Target {
+            folder,
+            unfinished,
+            path,
+        };
+        plant(self.host, target, bytes)
     }
 
     fn gather(&self, alloc: Global, path: &str, names: &mut BTreeSet<String>) -> io::Result<()> {

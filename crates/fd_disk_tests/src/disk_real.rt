@@ -108,6 +108,17 @@ fn folder(alloc: Global, host: HostRuntime, name: &str) -> Option<RealFolder>
     store.folder(alloc, name).ok()
 }
 
+/// Two folders of one dataset, each of a store of its own.
+fn two_folders(alloc: Global, host: HostRuntime, name: &str) -> Option<(RealFolder, RealFolder)>
+    ensures first_writer { IfSome result (λ t. ⟦<RealFolder as Folder<RealFault>>⟧.last_writer t.0 ≡ 0) }
+    ensures first_back { IfSome result (λ t. ⟦<RealFolder as Folder<RealFault>>⟧.table_out t.0 ≡ false) }
+    ensures first_name { IfSome result (λ t. ⟦<RealFolder as Folder<RealFault>>⟧.name t.0 ≡ name.now) }
+    ensures second_writer { IfSome result (λ t. ⟦<RealFolder as Folder<RealFault>>⟧.last_writer t.1 ≡ 0) }
+    ensures second_back { IfSome result (λ t. ⟦<RealFolder as Folder<RealFault>>⟧.table_out t.1 ≡ false) }
+{
+    Some((folder(alloc, host, name)?, folder(alloc, host, name)?))
+}
+
 /// Tells that a dataset of the store keeps a table.
 fn dataset_keeps_table(rt: HostRuntime) -> bool {
     match folder(rt.alloc(), rt, DATASET) {
@@ -408,12 +419,9 @@ where
 
 #[test]
 fn one_writes_to_a_dataset(rt: HostRuntime) {
-    let is_right = match (
-        folder(rt.alloc(), rt, "class=wd"),
-        folder(rt.alloc(), rt, "class=wd"),
-    ) {
-        (Some(first), Some(second)) => one_writes(rt.alloc(), first, second),
-        _ => false,
+    let is_right = match two_folders(rt.alloc(), rt, "class=wd") {
+        Some((first, second)) => one_writes(rt.alloc(), first, second),
+        None => false,
     };
     assert!(rt; is_right);
 }
@@ -615,12 +623,9 @@ where
 
 #[test]
 fn one_renews_a_dataset(rt: HostRuntime) {
-    let is_right = match (
-        folder(rt.alloc(), rt, "class=yd"),
-        folder(rt.alloc(), rt, "class=yd"),
-    ) {
-        (Some(first), Some(second)) => one_renews(rt.alloc(), first, second),
-        _ => false,
+    let is_right = match two_folders(rt.alloc(), rt, "class=yd") {
+        Some((first, second)) => one_renews(rt.alloc(), first, second),
+        None => false,
     };
     assert!(rt; is_right);
 }

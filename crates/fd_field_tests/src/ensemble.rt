@@ -30,6 +30,28 @@ fn field_with(alloc: Global, template: u8, added: &[u8]) -> Option<Vec<u8>> {
     Some(octets)
 }
 
+/// What is wanted of the first of these messages of which this doesn't hold: each with another template of section 4, and with
+/// these octets at the section's end.
+fn first_wrong<'a>(
+    alloc: Global,
+    rows: &[(u8, &[u8], &'a str)],
+    holds: fn(Global, &[u8], &str) -> Option<bool>,
+) -> Option<&'a str>
+where
+    requires { IsAlwaysCallable holds }
+{
+    for (template, added, want) in rows {
+        let is_so = match field_with(alloc, *template, added) {
+            Some(octets) => holds(alloc, &octets, want),
+            None => None,
+        };
+        if is_so != Some(true) {
+            return Some(*want);
+        }
+    }
+    None
+}
+
 /// What the key of a message ends in behind the surface, or its fault.
 fn has_key(alloc: Global, octets: &[u8], want: &str) -> Option<bool> {
     let field = message(octets).ok()?;
@@ -61,13 +83,7 @@ fn keys_of_members_and_intervals(rt: HostRuntime) {
         (1, &MEMBER[..2], "ProductLength 36"),
         (2, &MEMBER, "Product 2"),
     ];
-    for (template, added, want) in rows {
-        let is_so = match field_with(rt.alloc(), template, added) {
-            Some(octets) => has_key(rt.alloc(), &octets, want),
-            None => None,
-        };
-        assert!(rt; is_so == Some(true), "{want}");
-    }
+    assert_eq!(rt; first_wrong(rt.alloc(), &rows, has_key), None);
 }
 
 /// The section that is written from what was read of a message.
@@ -122,13 +138,7 @@ fn product_lines(rt: HostRuntime) {
         (8, &INTERVAL[..23], "\nproduct 8 short\n"),
         (3, &MEMBER, "\nproduct 3 unread\n"),
     ];
-    for (template, added, want) in rows {
-        let is_so = match field_with(rt.alloc(), template, added) {
-            Some(octets) => described(rt.alloc(), &octets, want),
-            None => None,
-        };
-        assert!(rt; is_so == Some(true), "{want}");
-    }
+    assert_eq!(rt; first_wrong(rt.alloc(), &rows, described), None);
 }
 
 /// A schema of version 1.

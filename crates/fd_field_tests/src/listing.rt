@@ -5,6 +5,7 @@ use crate::field::{FIELD, SECTION_3, SECTION_4, SECTION_5, SECTION_6, changed};
 use fd_io::{MemIoFault, MemSink};
 use fd_listing::{ValuesFault, describe, values};
 use fd_packing::FieldFault;
+use fd_rows::DESCRIBED;
 use fd_sections::message;
 use std::alloc::Global;
 
@@ -18,15 +19,6 @@ const ROUNDED: &str = "1 0 50.2
 1 1 50.8
 1 2 51.4
 1 3 52.1
-";
-
-const DESCRIBED: &str = "message 1 length 183
-ident 98 0 2 0 1 2024 1 1 0 0 0 0 1
-grid 0 points 4 6 - - - - - - 2 2 0 - 10000000 0 48 0 10000000 10000000 10000000 0
-product 0 0 0 2 0 0 0 0 1 0 100 0 100000 255 - -
-packing 0 coded 4 reference 1140457472 binary -1 decimal 1 bits 8 original 0
-map 255
-key centre=98,date=20240101,time=0000,type=1,param=0.0.0,levtype=100,levelist=100000,step=0
 ";
 
 const UNREAD: &str = "message 1 length 183

@@ -4,3 +4,4 @@ pub mod Kept
 pub mod Left
 pub mod Past
 pub mod Plans
+pub mod Told

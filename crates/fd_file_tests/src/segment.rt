@@ -26,6 +26,19 @@ enum Went {
 
 use Went::{Again, AtOnce, Never};
 
+/// How a step went that is tried again where it failed.
+macro_rules! went {
+    ($succeeds:expr) => {
+        if $succeeds {
+            AtOnce
+        } else if $succeeds {
+            Again
+        } else {
+            Never
+        }
+    };
+}
+
 /// How steps went, by the worst of them.
 fn worst(steps: [Went; 3]) -> Went {
     if steps.contains(&Never) {
@@ -77,13 +90,7 @@ where
     ensures end { draft.new.end ≤ draft.old.end + (length bytes.now + 32) }
     ensures origin { draft.new.origin ≡ draft.old.origin }
 {
-    if draft.put(key, bytes).is_ok() {
-        return AtOnce;
-    }
-    match draft.put(key, bytes) {
-        Ok(()) => Again,
-        Err(_) => Never,
-    }
+    went!(draft.put(key, bytes).is_ok())
 }
 
 /// Three puts of two keys.
@@ -120,7 +127,7 @@ where
 }
 
 /// Checks bytes of the batch, and copies them into the sink.
-fn copy_once<F: Send + Drop, R: Reader<F>, X: Drop, K: Sink<X>>(
+fn copy<F: Send + Drop, R: Reader<F>, X: Drop, K: Sink<X>>(
     lens: &mut Lens<F, R>,
     place: (u64, u64),
     sink: &mut K,
@@ -133,25 +140,6 @@ where
     lens.check(at, len).is_ok() && lens.copy_to(at, len, sink).is_ok()
 }
 
-/// The same, tried again where it failed.
-fn copy<F: Send + Drop, R: Reader<F>, X: Drop, K: Sink<X>>(
-    lens: &mut Lens<F, R>,
-    place: (u64, u64),
-    sink: &mut K,
-) -> Went
-where
-    requires inside { place.0 + place.1 + behind lens.old.files.entry ≤ lens.old.files.entry.fields_len }
-{
-    if copy_once(lens, place, sink) {
-        return AtOnce;
-    }
-    if copy_once(lens, place, sink) {
-        Again
-    } else {
-        Never
-    }
-}
-
 /// Opens a segment and copies the bytes of `i|a` into the sink: how each of both went.
 fn read<F: Send + Drop, Z: Sealed<F>, X: Drop, K: Sink<X>>(
     alloc: Global,
@@ -162,7 +150,7 @@ fn read<F: Send + Drop, Z: Sealed<F>, X: Drop, K: Sink<X>>(
         return (Never, Never);
     };
     match lens.find(alloc, b"i|a") {
-        Ok(Some(place)) => (AtOnce, copy(&mut lens, place, sink)),
+        Ok(Some(place)) => (AtOnce, went!(copy(&mut lens, place, sink))),
         _ => (AtOnce, Never),
     }
 }

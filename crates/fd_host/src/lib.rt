@@ -12,7 +12,9 @@ mod place;
 mod seen;
 
 pub use budget::{Budget, FILES, Permit, TABLES};
-pub use files::{descriptors, filled, length_of, open, open_to_write, plant, read_exactly, whole};
+pub use files::{
+    Target, descriptors, filled, length_of, open, open_to_write, plant, read_exactly, whole,
+};
 pub use folders::{gather, make_folders};
 pub use locks::{Locks, exclusive};
 pub use names::Names;

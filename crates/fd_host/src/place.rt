@@ -1,5 +1,5 @@
 // Where a dataset stands.
-use crate::files::{if_there, length_of, open, plant, remove, replace};
+use crate::files::{Target, if_there, length_of, open, plant, remove, replace};
 use crate::folders::{make_firm, make_folder, stands};
 use crate::locks::{Lock, Locks};
 use crate::seen::{Seen, renew};
@@ -80,13 +80,7 @@ impl Place {
             None => Some(self.locked(alloc)?),
         };
         stands(&folder)?;
-        plant(
-            self.host,
-            self.path.as_str(),
-            self.unfinished.as_str(),
-            self.table.as_str(),
-            first,
-        )?;
+        plant(self.host, self.target(), first)?;
         if lock.is_some() {
             self.lock = lock;
         }
@@ -148,13 +142,7 @@ impl Place {
 
     /// Puts a table of these bytes in the place of the one that is there. Who didn't claim the place may not call it.
     pub fn replace(&mut self, bytes: &[u8]) -> io::Result<()> {
-        replace(
-            self.host,
-            self.path.as_str(),
-            self.unfinished.as_str(),
-            self.table.as_str(),
-            bytes,
-        )?;
+        replace(self.host, self.target(), bytes)?;
         self.is_renewed = true;
         Ok(())
     }
@@ -176,6 +164,15 @@ impl Place {
         self.locks.lock(self.host, path.as_str(), root.as_str())
     }
 
+    // Where a table is made whole.
+    fn target(&self) -> Target<'_> {
+        Target {
+            folder: self.path.as_str(),
+            unfinished: self.unfinished.as_str(),
+            path: self.table.as_str(),
+        }
+    }
+
     // There is a table, to which this process may write.
     fn is_to_renew(&self) -> io::Result<bool> {
         Ok(
@@ -187,12 +184,6 @@ impl Place {
 
     // Puts a new file of the same bytes in the place of the table.
     fn copy(&self) -> io::Result<()> {
-        renew(
-            self.host,
-            self.path.as_str(),
-            self.unfinished.as_str(),
-            self.table.as_str(),
-            &self.seen,
-        )
+        renew(self.host, self.target(), &self.seen)
     }
 }

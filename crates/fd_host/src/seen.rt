@@ -1,5 +1,5 @@
 // What a process has read of a table, and a new file in its place.
-use crate::files::{create, filled, name_firmly, open};
+use crate::files::{Target, create, filled, name_firmly, open};
 use std::fs::File;
 use std::io;
 use std::io::{Error, ErrorKind};
@@ -102,19 +102,13 @@ fn digested(digest: u64, bytes: &[u8]) -> u64 {
 /// process failed to write back. The system then has what it was to hold, and no later write of it reaches the disk. At
 /// every moment, and after every crash, there is the old file or the new one. Who has no lock of the dataset may not call
 /// it. An error comes where the table isn't what was read of it.
-pub(crate) fn renew(
-    host: HostRuntime,
-    folder: &str,
-    unfinished: &str,
-    path: &str,
-    seen: &Seen,
-) -> io::Result<()> {
-    let old = open(host, path)?;
+pub(crate) fn renew(host: HostRuntime, target: Target<'_>, seen: &Seen) -> io::Result<()> {
+    let old = open(host, target.path)?;
     seen.check(Some(&old))?;
-    let names = open(host, folder)?;
-    let new = create(host, unfinished)?;
+    let names = open(host, target.folder)?;
+    let new = create(host, target.unfinished)?;
     copy(&old, &new)?;
-    name_firmly(host, &names, &new, unfinished, path)
+    name_firmly(host, &names, &new, target)
 }
 
 // Writes all bytes of the one file into the other, which is empty.

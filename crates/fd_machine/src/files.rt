@@ -4,7 +4,7 @@ ghost use Rattle.fd_disk.specs.{Images.{firm_file, loosened, overwritten, synced
 
 use crate::NamedFile;
 use fd_bytes::{Bytes, Items, NoMemory};
-use fd_disk::{File, FileName, Range, Ranges};
+use fd_disk::{File, FileName, Range, Ranges, is_same};
 use fd_entries::Entry;
 use std::alloc::{AllocError, Global};
 
@@ -151,13 +151,6 @@ fn has_file(entry: &Entry, name: FileName) -> bool
     ensures { result ≡ ((name.writer == entry.now.writer) && (name.seq == entry.now.seq)) }
 {
     name.writer == entry.writer && name.seq == entry.seq
-}
-
-/// Tells that two names are one.
-pub fn is_same(a: FileName, b: FileName) -> bool
-    ensures { result ≡ same_name a b }
-{
-    a.writer == b.writer && a.seq == b.seq && a.kind == b.kind
 }
 
 fn copied(alloc: Global, file: &File) -> Result<File, NoMemory>

@@ -6,7 +6,7 @@ mod machine;
 mod state;
 pub mod writers;
 
-pub use files::{Files, is_same, sync_file, write_file};
+pub use files::{Files, sync_file, write_file};
 pub use machine::{Answer, NamedFile, Phase, Seen, Step, Took, Writer, entry_of};
 pub use state::{State, look};
 pub use writers::Writers;

@@ -5,6 +5,7 @@ use fd_bytes::NoMemory;
 use fd_disk::{FileKind, FileName, Folder, Store};
 use fd_disk_mem::{MemStore, Op};
 use fd_recovery::{OpenFault, Recovered, recover};
+use fd_rows::table_of_one;
 use fd_segment::Damage;
 use std::alloc::Global;
 use std::test::Fail;
@@ -85,11 +86,8 @@ fn run(alloc: Global, files: Files<'_>, fails: (Op, u32)) -> Found {
 
 /// The first bytes of a table, and those of its first entry: a batch of 2 fields with files of 549 and 4,120 bytes.
 fn table(alloc: Global) -> Result<Vec<u8>, NoMemory> {
-    let mut bytes = b"FDTOC001\0\x03a=1".to_vec(alloc)?;
-    bytes.resize(320, 0)?;
-    bytes.extend_from_slice(b"\x4F\x01\0\0\0\x01\0\0\0\x01\0\0\0\x02")?;
-    bytes.extend_from_slice(b"\0\0\0\0\0\0\x10\x18\0\0\0\0\0\0\x02\x25")?;
-    bytes.resize(385, 0)?;
+    let mut bytes = table_of_one(alloc)?;
+    bytes.push(0)?;
     Ok(bytes)
 }
 

@@ -1,6 +1,6 @@
 //! What readers see of a dataset.
 ghost use Rattle.std.specs.Prelude.{◌≡◌, ◌≤◌, map, false, true, IfSome, OnSome, codes};
-ghost use Rattle.fd_turn.specs.{declared.view.Lock.TheVariants.{Free}, Passes.{view, IsOf}, Views.{all_parts}};
+ghost use Rattle.fd_reader_tests.specs.Passing.{IsFree};
 ghost use Rattle.fd_dataset.specs.Listed.{listing};
 ghost use Rattle.fd_retriever.specs.Kept.{Fits};
 
@@ -31,8 +31,7 @@ pub(crate) fn opened<F: Send + Drop, D: Folder<F>>(
 where
     requires back { D.table_out folder.old ≡ false }
     requires name { D.name folder.old ≡ codes "a=1" }
-    ensures own { IfSome result (λ r. IsOf r.0 r.1) }
-    ensures pass { IfSome result (λ r. ((view r.1).subject ≡ codes "a=1") × ((view r.1).lock ≡ Free) × ((view r.1).parts ≡ all_parts)) }
+    ensures free { IfSome result (λ r. IsFree r.0 r.1) }
     ensures out { OnSome result (D.table_out folder.new ≡ true) }
     ensures name { D.name folder.new ≡ codes "a=1" }
 {

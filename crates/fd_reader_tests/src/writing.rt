@@ -2,7 +2,7 @@
 ghost use Rattle.std.specs.Prelude.{◌≡◌, ◌≤◌, ◌<◌, length, false, IfOk, OnSome, codes};
 ghost use Rattle.fd_disk.specs.declared.folders.FileName.{FileName};
 ghost use Rattle.fd_schema.specs.{Rules.{file_key}, Reading.{seen_place}};
-ghost use Rattle.fd_turn.specs.{declared.view.Lock.TheVariants.{Free}, Passes.{view, IsOf}, Views.{all_parts}};
+ghost use Rattle.fd_reader_tests.specs.Passing.{IsFree};
 
 use crate::reading::opened;
 use fd_archiver::{Archiver, Flush, FlushFault};
@@ -84,8 +84,21 @@ where
     archiver.size() <= 1000 && archiver.archive(&place, &[message.1; SIZE]).is_ok()
 }
 
+/// How a call went that is made again where it was refused.
+macro_rules! went {
+    ($call:expr) => {
+        match $call {
+            Went::Never => match $call {
+                Went::AtOnce => Went::Again,
+                went => went,
+            },
+            went => went,
+        }
+    };
+}
+
 /// Flushes, where the writer may, and tells what was answered.
-fn flush_once<F: Send + Drop, T: Disk<F>, H: Shelf<F>, R: Wait>(
+fn flush<F: Send + Drop, T: Disk<F>, H: Shelf<F>, R: Wait>(
     rt: &R,
     alloc: Global,
     archiver: &mut Archiver<F, H>,
@@ -93,11 +106,9 @@ fn flush_once<F: Send + Drop, T: Disk<F>, H: Shelf<F>, R: Wait>(
     pass: &mut DatasetPass<F, T, H::Sealed>,
 ) -> Went
 where
-    requires own { IsOf dataset.now pass.old }
-    requires pass { ((view pass.old).subject ≡ codes "a=1") × ((view pass.old).lock ≡ Free) × ((view pass.old).parts ≡ all_parts) }
+    requires free { IsFree dataset.now pass.old }
     requires dataset { archiver.old.dataset ≡ codes "a=1" }
-    ensures own { IsOf dataset.now pass.new }
-    ensures pass { ((view pass.new).subject ≡ codes "a=1") × ((view pass.new).lock ≡ Free) × ((view pass.new).parts ≡ all_parts) }
+    ensures free { IsFree dataset.now pass.new }
     ensures same { archiver.new.dataset ≡ archiver.old.dataset }
 {
     if archiver.writer() > 65_536 || archiver.flushes_left() == 0 {
@@ -107,32 +118,6 @@ where
         Ok(Flush::Listed(_)) => Went::AtOnce,
         Err(FlushFault::TableFull { count }) => Went::Full(count),
         _ => Went::Never,
-    }
-}
-
-/// Flushes, and again where that was refused.
-fn flush<F: Send + Drop, T: Disk<F>, H: Shelf<F>, R: Wait>(
-    rt: &R,
-    alloc: Global,
-    archiver: &mut Archiver<F, H>,
-    dataset: &Dataset<F, T, H::Sealed>,
-    pass: &mut DatasetPass<F, T, H::Sealed>,
-) -> Went
-where
-    requires own { IsOf dataset.now pass.old }
-    requires pass { ((view pass.old).subject ≡ codes "a=1") × ((view pass.old).lock ≡ Free) × ((view pass.old).parts ≡ all_parts) }
-    requires dataset { archiver.old.dataset ≡ codes "a=1" }
-    ensures own { IsOf dataset.now pass.new }
-    ensures pass { ((view pass.new).subject ≡ codes "a=1") × ((view pass.new).lock ≡ Free) × ((view pass.new).parts ≡ all_parts) }
-    ensures same { archiver.new.dataset ≡ archiver.old.dataset }
-{
-    match flush_once(rt, alloc, archiver, dataset, pass) {
-        Went::Never => {}
-        went => return went,
-    }
-    match flush_once(rt, alloc, archiver, dataset, pass) {
-        Went::AtOnce => Went::Again,
-        went => went,
     }
 }
 
@@ -146,23 +131,21 @@ fn write<F: Send + Drop, T: Disk<F>, H: Shelf<F>, R: Wait>(
     two: Two,
 ) -> Went
 where
-    requires own { IsOf dataset.now pass.old }
-    requires pass { ((view pass.old).subject ≡ codes "a=1") × ((view pass.old).lock ≡ Free) × ((view pass.old).parts ≡ all_parts) }
+    requires free { IsFree dataset.now pass.old }
     requires dataset { archiver.old.dataset ≡ codes "a=1" }
-    ensures own { IsOf dataset.now pass.new }
-    ensures pass { ((view pass.new).subject ≡ codes "a=1") × ((view pass.new).lock ≡ Free) × ((view pass.new).parts ≡ all_parts) }
+    ensures free { IsFree dataset.now pass.new }
     ensures same { archiver.new.dataset ≡ archiver.old.dataset }
 {
     if !put(alloc, archiver, two.first) {
         return Went::Never;
     }
     if two.apart {
-        flush(rt, alloc, archiver, dataset, pass);
+        went!(flush(rt, alloc, archiver, dataset, pass));
     }
     if !put(alloc, archiver, two.second) {
         return Went::Never;
     }
-    flush(rt, alloc, archiver, dataset, pass)
+    went!(flush(rt, alloc, archiver, dataset, pass))
 }
 
 /// Has a writer of this shelf put two messages, and gives the shelf back.
@@ -176,12 +159,10 @@ fn written<F: Send + Drop, T: Disk<F>, H: Shelf<F>, R: Wait>(
     two: Two,
 ) -> (H, Went)
 where
-    requires own { IsOf dataset.now pass.old }
-    requires pass { ((view pass.old).subject ≡ codes "a=1") × ((view pass.old).lock ≡ Free) × ((view pass.old).parts ≡ all_parts) }
+    requires free { IsFree dataset.now pass.old }
     requires shelf { (H.name shelf ≡ codes "a=1") × (H.writer shelf ≡ writer) }
     requires new { (n : FileName) → H.created shelf n ≡ false }
-    ensures own { IsOf dataset.now pass.new }
-    ensures pass { ((view pass.new).subject ≡ codes "a=1") × ((view pass.new).lock ≡ Free) × ((view pass.new).parts ≡ all_parts) }
+    ensures free { IsFree dataset.now pass.new }
     ensures shelf { H.name result.0 ≡ codes "a=1" }
 {
     let room = Room { keys: 2, bytes: 6 };

@@ -6,7 +6,17 @@ macro_rules! stop {
     ($stops:expr) => { if $stops.stop() { return Err(Down::Fault(StopFault::Stopped)); } };
 }
 
-/// The same, and the count for one object more.
+/// The same of a call that takes the table, which is put back then.
+macro_rules! stop_with_table {
+    ($dataset:expr, $table:expr) => {
+        if $dataset.stops.stop() {
+            $dataset.inner.give_table($table);
+            return Err(Down::Fault(StopFault::Stopped));
+        }
+    };
+}
+
+/// Ends a call where no more go on, and gives the count for one object more.
 macro_rules! shared {
     ($stops:expr) => {{
         stop!($stops);

@@ -28,10 +28,7 @@ impl<F: Send, D: Renew<F>> Renew<StopFault<F>> for Stopped<D> {
         ensures stopped { OnCallStopped result (D.has self.new.inner ≡ with_table (D.Table.file table.inner) (D.has self.old.inner)) }
     {
         let table = table.into_inner();
-        if self.stops.stop() {
-            self.inner.give_table(table);
-            return Err(Down::Fault(StopFault::Stopped));
-        }
+        stop_with_table!(self, table);
         passed!(self.inner.renew(alloc, table, bytes), Ok(()) => Ok(()))
     }
 
@@ -50,10 +47,7 @@ impl<F: Send, D: Renew<F>> Renew<StopFault<F>> for Stopped<D> {
         ensures stopped { OnCallStopped result (D.has self.new.inner ≡ with_table (D.Table.file table.inner) (D.has self.old.inner)) }
     {
         let table = table.into_inner();
-        if self.stops.stop() {
-            self.inner.give_table(table);
-            return Err(Down::Fault(StopFault::Stopped));
-        }
+        stop_with_table!(self, table);
         passed!(self.inner.unfound(alloc, table), Ok(()) => Ok(()))
     }
 

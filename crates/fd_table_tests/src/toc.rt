@@ -5,6 +5,7 @@ use fd_bytes::NoMemory;
 use fd_disk::{Disk, Folder, Store};
 use fd_disk_mem::{MemFault, MemStore, Op};
 use fd_entries::every_table;
+use fd_rows::table_of_one;
 use fd_toc::*;
 use std::alloc::Global;
 use std::test::Fail;
@@ -210,11 +211,7 @@ const NEVER: (Op, u32) = (Op::Create, 9);
 
 /// The header of the dataset `a=1`, the gate and the slot of the first entry, and the gate of a second.
 fn first_bytes(alloc: Global) -> Result<Vec<u8>, NoMemory> {
-    let mut bytes = b"FDTOC001\0\x03a=1".to_vec(alloc)?;
-    bytes.resize(320, 0)?;
-    bytes.extend_from_slice(b"\x4F\x01\0\0\0\x01\0\0\0\x01\0\0\0\x02")?;
-    bytes.extend_from_slice(b"\0\0\0\0\0\0\x10\x18\0\0\0\0\0\0\x02\x25")?;
-    bytes.resize(384, 0)?;
+    let mut bytes = table_of_one(alloc)?;
     bytes.push(0x4F)?;
     Ok(bytes)
 }

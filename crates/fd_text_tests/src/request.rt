@@ -1,7 +1,7 @@
 //! Requests, and partial ones.
 use fd_key::Key;
 use fd_request::*;
-use fd_rows::{agreed, lines};
+use fd_rows::{agreed, of_lines};
 use std::alloc::Global;
 
 /// Tells that a fault is printed so.
@@ -58,10 +58,7 @@ fn reads_as(alloc: Global, text: &[u8], want: &str) -> bool {
 
 /// The same of a row of a table.
 fn is_row(alloc: Global, text: &str, want: &str) -> bool {
-    match lines(alloc, text) {
-        Some(text) => reads_as(alloc, &text, want),
-        None => false,
-    }
+    of_lines(alloc, text, want, reads_as)
 }
 
 /// Requests, and their keys in the order of the text.

@@ -2,7 +2,7 @@
 ghost use Rattle.std.specs.Prelude.{◌≡◌, []};
 
 use fd_key::Key;
-use fd_rows::{agreed, is, lines};
+use fd_rows::{agreed, is, of_lines};
 use fd_schema::*;
 use std::alloc::Global;
 
@@ -16,10 +16,7 @@ fn is_refused(alloc: Global, text: &[u8], want: &str) -> bool {
 
 /// The same of a row of a table.
 fn is_row(alloc: Global, text: &str, want: &str) -> bool {
-    match lines(alloc, text) {
-        Some(text) => is_refused(alloc, &text, want),
-        None => false,
-    }
+    of_lines(alloc, text, want, is_refused)
 }
 
 /// Texts, and the line and the kind of the first place of each that is wrong.

@@ -1,5 +1,5 @@
 //! Scripts that are read, and lines that are refused.
-use fd_rows::{agreed, is, lines};
+use fd_rows::{agreed, is, of_lines};
 use fd_script::*;
 use std::alloc::Global;
 
@@ -72,10 +72,7 @@ fn is_refused(alloc: Global, text: &[u8], want: &str) -> bool {
 
 /// The same of a row of a table.
 fn is_row(alloc: Global, text: &str, want: &str) -> bool {
-    match lines(alloc, text) {
-        Some(text) => is_refused(alloc, &text, want),
-        None => false,
-    }
+    of_lines(alloc, text, want, is_refused)
 }
 
 /// Texts, and their first faults.

@@ -1,6 +1,7 @@
 // A dataset whose table is renewed or taken away, and whose files are removed.
-ghost use Rattle.std.specs.Prelude.{◌≡◌, ◌⊎◌, true, false, OnOk, OnErr};
+ghost use Rattle.std.specs.Prelude.{◌≡◌, OnOk};
 ghost use Rattle.fd_unsynced.specs.Lost.{all_firm};
+ghost use Rattle.fd_untold.specs.Renewing.{IsTried};
 
 use crate::fault::counted;
 use crate::shelf::path_of;
@@ -55,13 +56,8 @@ impl<P: Place> Renew<SystemFault> for UntoldFolder<P> {
 impl<P: Ground> UntoldFolder<P> {
     // Has a table of these bytes in place of the one that is there.
     fn replaced(&mut self, alloc: Global, bytes: &[u8]) -> io::Result<()>
-        ensures out { self.new.table_out ≡ self.old.table_out }
-        ensures last_writer { self.new.last_writer ≡ self.old.last_writer }
-        ensures name { self.new.name ≡ self.old.name }
-        ensures faults { self.new.faults ≡ self.old.faults }
-        ensures sound { OnOk result (self.old.unsynced.is_name_lost ≡ false) }
+        ensures tried { IsTried self.old self.new result }
         ensures firm { OnOk result (self.new.unsynced ≡ all_firm) }
-        ensures lost { OnErr result ((self.new.unsynced ≡ self.old.unsynced) ⊎ (self.new.unsynced.is_name_lost ≡ true)) }
     {
         self.unsynced.check_name()?;
         self.place.claim(alloc)?;
@@ -73,12 +69,7 @@ impl<P: Ground> UntoldFolder<P> {
 
     // Has no table in place of the one that is there. One that is founded then is a new file.
     fn unlisted(&mut self, alloc: Global) -> io::Result<()>
-        ensures out { self.new.table_out ≡ self.old.table_out }
-        ensures last_writer { self.new.last_writer ≡ self.old.last_writer }
-        ensures name { self.new.name ≡ self.old.name }
-        ensures faults { self.new.faults ≡ self.old.faults }
-        ensures sound { OnOk result (self.old.unsynced.is_name_lost ≡ false) }
-        ensures lost { OnErr result ((self.new.unsynced ≡ self.old.unsynced) ⊎ (self.new.unsynced.is_name_lost ≡ true)) }
+        ensures tried { IsTried self.old self.new result }
     {
         self.unsynced.check_name()?;
         self.place.claim(alloc)?;
@@ -90,12 +81,7 @@ impl<P: Ground> UntoldFolder<P> {
 
     // Removes the file of this path.
     fn without(&mut self, alloc: Global, path: &str) -> io::Result<()>
-        ensures out { self.new.table_out ≡ self.old.table_out }
-        ensures last_writer { self.new.last_writer ≡ self.old.last_writer }
-        ensures name { self.new.name ≡ self.old.name }
-        ensures faults { self.new.faults ≡ self.old.faults }
-        ensures sound { OnOk result (self.old.unsynced.is_name_lost ≡ false) }
-        ensures lost { OnErr result ((self.new.unsynced ≡ self.old.unsynced) ⊎ (self.new.unsynced.is_name_lost ≡ true)) }
+        ensures tried { IsTried self.old self.new result }
     {
         self.unsynced.check_name()?;
         self.place.claim(alloc)?;

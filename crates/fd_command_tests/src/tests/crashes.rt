@@ -41,12 +41,7 @@ disk failed
 const BOTH: Case =
     case!(fails: Some((TABLE, Op::Sync, 3)), rows: &[CREATED, TWO], after: &[row!(LISTED, output: &[Part::Text("class=od,expver=0001,date=20240101,time=0000 centre=98,type=1,levtype=100 param=0.0.0,step=0,levelist=100000 183 2\nclass=od,expver=0001,date=20240101,time=0000 centre=98,type=1,levtype=100 param=0.0.0,step=0,levelist=92500 183 1\n")])]);
 
-const LISTED_LATE: &[Case] = &[
-    case_of!(BOTH, event: Event::Crash(0)),
-    case_of!(BOTH, event: Event::Crash(1)),
-    case_of!(BOTH, event: Event::Crash(2)),
-    case_of!(BOTH, event: Event::Crash(3)),
-];
+const LISTED_LATE: &[Case] = crashed!(BOTH, BOTH, BOTH, BOTH);
 
 /// Both batches stand after each crash, in the order in which they were listed.
 #[test]
@@ -65,12 +60,7 @@ const ABSENT: Case =
 /// The same, where it lists the batch.
 const WHOLE: Case = case_of!(ABSENT, after: &[LISTED]);
 
-const IN_DOUBT: &[Case] = &[
-    case_of!(ABSENT, event: Event::Crash(0)),
-    case_of!(WHOLE, event: Event::Crash(1)),
-    case_of!(WHOLE, event: Event::Crash(2)),
-    case_of!(ABSENT, event: Event::Crash(3)),
-];
+const IN_DOUBT: &[Case] = crashed!(ABSENT, WHOLE, WHOLE, ABSENT);
 
 /// A crash leaves a batch in doubt whole or not at all, as it leaves the gate.
 #[test]

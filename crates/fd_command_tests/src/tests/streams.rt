@@ -92,16 +92,7 @@ const DESCRIBE: &[&str] = &["describe"];
 
 const VALUES: &[&str] = &["values"];
 
-const DESCRIBED: &[Part] = &[Part::Text(
-    "message 1 length 183
-ident 98 0 2 0 1 2024 1 1 0 0 0 0 1
-grid 0 points 4 6 - - - - - - 2 2 0 - 10000000 0 48 0 10000000 10000000 10000000 0
-product 0 0 0 2 0 0 0 0 1 0 100 0 100000 255 - -
-packing 0 coded 4 reference 1140457472 binary -1 decimal 1 bits 8 original 0
-map 255
-key centre=98,date=20240101,time=0000,type=1,param=0.0.0,levtype=100,levelist=100000,step=0
-",
-)];
+const DESCRIBED: &[Part] = &[Part::Text(fd_rows::DESCRIBED)];
 
 const KEYLESS: &[Part] = &[Part::Text(
     "message 1 length 183

@@ -1,8 +1,0 @@
-use Rattle.std.proofs.Common.{◌∙◌}
-use Rattle.fd_cube_tests.proofs.Askable.{four_given}
-use Rattle.fd_cube_tests.proofs.cubes.text_of_four.Goals as goal
-
-pub text_of-requires : goal.text_of-requires
-text_of-requires c =
-    let given = four_given _ (c.deref.ensures.value ∙ c.in_ok-keys.ensures) in
-    record { askable = given.askable; distinct = given.distinct; few = given.few }
