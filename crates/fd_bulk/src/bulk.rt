@@ -6,7 +6,7 @@ ghost use Rattle.fd_schema.specs.Grammar.{IsSchema};
 ghost use Rattle.fd_library.specs.Open.{OutAre};
 ghost use Rattle.fd_outcome.specs.Noticing.{SparesDamaged};
 ghost use Rattle.fd_bulk.specs.declared.bulk.BulkFault.TheVariants as faults;
-ghost use Rattle.fd_bulk.specs.{Archived.{Archived, IsRead, OnDisk, OnInput}, Crewing.{Deals}};
+ghost use Rattle.fd_bulk.specs.Archived.{Archived, IsRead, OnDisk, OnInput};
 
 use crate::crew::Crew;
 use crate::reading::{Counts, list_input};
@@ -145,44 +145,7 @@ where
     let Ok(mut crew) = Crew::new(alloc, workers) else {
         return Err(BulkFault::NoMemory);
     };
-    archive_by(
-        rt, alloc, input, given, schema, &mut crew, opener, store, gate,
-    )
-}
-
-// The same, by these workers, who have met no dataset.
-fn archive_by<
-    F: Send + Drop,
-    X: Drop,
-    S: Store<F>,
-    I: Source<X>,
-    G: Gate,
-    R: Threads + Wait + Sync,
->(
-    rt: &R,
-    alloc: Global,
-    input: &mut I,
-    given: &Given,
-    schema: &Schema,
-    crew: &mut Crew<F, S>,
-    opener: &mut Opener<F, S>,
-    store: &mut S,
-    gate: &G,
-) -> Result<Bulk, BulkFault<X>>
-where
-    requires schema { IsSchema schema.now }
-    requires out { OutAre opener.old.library.each (S.out store.old) }
-    requires begun { Deals S.Folder.has S.Folder.Shelf.kept (S.has store.old) (S.has store.old) [] [] [] opener.old.library crew.old.passes.items crew.old.jobs.items crew.old.parcels.items }
-    ensures archived { Archived S.Folder.has (length crew.old.jobs.items) schema.now given.now (I.left input.old) (I.left input.new) (S.has store.old) (S.has store.new) opener.new.library.each result }
-    ensures out { OutAre opener.new.library.each (S.out store.new) }
-    ensures to_end { IfSome (I.left input.old) (λ octets. OnOk result (I.left input.new ≡ Some [])) }
-    ensures calm { IsRead result (I.faults input.new ≡ I.faults input.old) }
-    ensures read { OnInput result (Rose (I.faults input.old) (I.faults input.new)) }
-    ensures disk { OnDisk result (Rose (S.faults store.old) (S.faults store.new)) }
-    ensures told { is_some (S.has store.new) ≡ is_some (S.has store.old) }
-    ensures later { S.faults store.old ≤ S.faults store.new }
-{
-    let found = list_input(rt, alloc, input, given, schema, crew, opener, store, gate);
+    let found = list_input(rt, alloc, input, given, schema, &mut crew, opener, store, gate);
     let datasets = opener.datasets().len() as u32;
     crew.end(rt, opener);
     match found {

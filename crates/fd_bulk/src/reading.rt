@@ -7,7 +7,7 @@ ghost use Rattle.fd_outcome.specs.{Positions.{IsIdle, Position, at_message}, Arc
 ghost use Rattle.fd_key.specs.Pairs.{Pair};
 ghost use Rattle.fd_schema.specs.{Grammar.{IsSchema}, Rules.{Rule}};
 ghost use Rattle.fd_library.specs.Open.{OutAre, names_of};
-ghost use Rattle.fd_bulk.specs.{Halting.{OnStore}, Batches.{AllDealt, BatchEnds}, Inputs.{CanGo, EndsOf, Going, GoesOn, InputDealt, InputEnds, Midway, is_calm, is_listed, is_unread}, Naming.{AreOpened, Notes}, Sheets.{CanDeal, IsTold, ToldAs}, Crewing.{Deals, Finished, Running}};
+ghost use Rattle.fd_bulk.specs.{Halting.{OnStore}, Batches.{AllDealt, BatchEnds}, Inputs.{CanGo, EndsOf, Going, GoesOn, InputDealt, InputEnds, Midway, is_calm, is_listed}, Standing.{HasCauses, StandsOr, WasDealt, WasStored}, Naming.{AreOpened, Notes}, Sheets.{CanDeal, IsTold, ToldAs}, Crewing.{Deals, Finished, Running}};
 ghost use Rattle.fd_sheets.specs.{Names.{IsKnown}, Reading.{ReadOn}, Sheets.{Placed}};
 
 use crate::bulk::BulkFault;
@@ -239,13 +239,9 @@ where
     ensures deals { (left : Option (List ℕ)) (start : Option Holdings) → Midway S.Folder.has S.Folder.Shelf.kept schema.now given.now left (I.left input.old) start (S.has store.old) opener.old.library crew.old.passes.items crew.old.jobs.items crew.old.parcels.items reader.old
         → BatchEnds S.Folder.has S.Folder.Shelf.kept schema.now given.now left (I.left input.new) start (S.has store.new) opener.new.library crew.new.passes.items crew.new.jobs.items crew.new.parcels.items reader.old reader.new result }
     ensures opened { OnOk result (AreOpened names.new.texts.items (names_of opener.new.library.each)) }
-    ensures calm { OnOk result (I.faults input.new ≡ I.faults input.old) }
-    ensures read { IfErr result (λ e. is_unread e ≡ true → Rose (I.faults input.old) (I.faults input.new)) }
-    ensures read_quiet { IfErr result (λ e. is_calm e ≡ true → I.faults input.new ≡ I.faults input.old) }
+    ensures causes { HasCauses (I.faults input.old) (I.faults input.new) (S.faults store.old) (S.faults store.new) result }
     ensures jobs { length crew.new.jobs.items ≡ length crew.old.jobs.items }
-    ensures cause { IfErr result (λ e. OnStore e (Rose (S.faults store.old) (S.faults store.new))) }
     ensures told { is_some (S.has store.new) ≡ is_some (S.has store.old) }
-    ensures later { S.faults store.old ≤ S.faults store.new }
 {
     let batch = match read_batch(
         rt, alloc, input, given, schema, names, reader, are_enough, crew, opener, store, gate,
@@ -287,13 +283,9 @@ where
     requires begun { Deals S.Folder.has S.Folder.Shelf.kept (S.has store.old) (S.has store.old) [] [] [] opener.old.library crew.old.passes.items crew.old.jobs.items crew.old.parcels.items }
     ensures out { OutAre opener.new.library.each (S.out store.new) }
     ensures deals { AllDealt S.Folder.has S.Folder.Shelf.kept schema.now given.now (I.left input.old) (I.left input.new) (S.has store.old) (S.has store.new) opener.new.library crew.new.passes.items crew.new.jobs.items crew.new.parcels.items reader.new result }
-    ensures calm { OnOk result (I.faults input.new ≡ I.faults input.old) }
-    ensures read { IfErr result (λ e. is_unread e ≡ true → Rose (I.faults input.old) (I.faults input.new)) }
-    ensures read_quiet { IfErr result (λ e. is_calm e ≡ true → I.faults input.new ≡ I.faults input.old) }
+    ensures causes { HasCauses (I.faults input.old) (I.faults input.new) (S.faults store.old) (S.faults store.new) result }
     ensures jobs { length crew.new.jobs.items ≡ length crew.old.jobs.items }
-    ensures cause { IfErr result (λ e. OnStore e (Rose (S.faults store.old) (S.faults store.new))) }
     ensures told { is_some (S.has store.new) ≡ is_some (S.has store.old) }
-    ensures later { S.faults store.old ≤ S.faults store.new }
 {
     let mut are_enough = false;
     for _ in 0..u64::MAX {
@@ -337,13 +329,9 @@ where
     ensures out { OutAre opener.new.library.each (S.out store.new) }
     ensures deals { InputDealt S.Folder.has S.Folder.Shelf.kept schema.now given.now (I.left input.old) (I.left input.new) (S.has store.old) (S.has store.new) opener.new.library crew.new.passes.items crew.new.jobs.items crew.new.parcels.items result }
     ensures to_end { IfSome (I.left input.old) (λ octets. OnOk result (I.left input.new ≡ Some [])) }
-    ensures calm { OnOk result (I.faults input.new ≡ I.faults input.old) }
-    ensures read { IfErr result (λ e. is_unread e ≡ true → Rose (I.faults input.old) (I.faults input.new)) }
-    ensures read_quiet { IfErr result (λ e. is_calm e ≡ true → I.faults input.new ≡ I.faults input.old) }
+    ensures causes { HasCauses (I.faults input.old) (I.faults input.new) (S.faults store.old) (S.faults store.new) result }
     ensures jobs { length crew.new.jobs.items ≡ length crew.old.jobs.items }
-    ensures cause { IfErr result (λ e. OnStore e (Rose (S.faults store.old) (S.faults store.new))) }
     ensures told { is_some (S.has store.new) ≡ is_some (S.has store.old) }
-    ensures later { S.faults store.old ≤ S.faults store.new }
 {
     let Ok(mut reader) = Reader::new(alloc) else {
         return Err(BulkFault::NoMemory);
@@ -367,42 +355,25 @@ where
     }
 }
 
-// Stores the fields of the input. Where it stops, what was dealt is stored first; a refusal of a worker is that
-// of a message before.
-fn archive_input<
-    F: Send + Drop,
-    X: Drop,
-    S: Store<F>,
-    I: Source<X>,
-    G: Gate,
-    R: Threads + Wait + Sync,
->(
+// Stores what is dealt, behind what was found of the input. A refusal of a worker is that of a message before.
+fn store_dealt<F: Send + Drop, X: Drop, S: Store<F>, G: Gate, R: Threads + Wait + Sync>(
     rt: &R,
     alloc: Global,
-    input: &mut I,
-    given: &Given,
-    schema: &Schema,
+    found: Result<Counts, BulkFault<X>>,
     crew: &mut Crew<F, S>,
-    opener: &mut Opener<F, S>,
+    opener: &Opener<F, S>,
     store: &mut S,
     gate: &G,
 ) -> Result<Counts, BulkFault<X>>
 where
-    requires schema { IsSchema schema.now }
-    requires out { OutAre opener.old.library.each (S.out store.old) }
-    requires begun { Deals S.Folder.has S.Folder.Shelf.kept (S.has store.old) (S.has store.old) [] [] [] opener.old.library crew.old.passes.items crew.old.jobs.items crew.old.parcels.items }
-    ensures out { OutAre opener.new.library.each (S.out store.new) }
-    ensures stores { InputEnds S.Folder.has S.Folder.Shelf.kept schema.now given.now (I.left input.old) (I.left input.new) (S.has store.old) (S.has store.new) opener.new.library crew.new.passes.items crew.new.jobs.items (Running S.Folder.Shelf.kept) result }
-    ensures to_end { IfSome (I.left input.old) (λ octets. OnOk result (I.left input.new ≡ Some [])) }
-    ensures calm { OnOk result (I.faults input.new ≡ I.faults input.old) }
-    ensures read { IfErr result (λ e. is_unread e ≡ true → Rose (I.faults input.old) (I.faults input.new)) }
-    ensures read_quiet { IfErr result (λ e. is_calm e ≡ true → I.faults input.new ≡ I.faults input.old) }
+    requires dealt { WasDealt S.Folder.has S.Folder.Shelf.kept (S.has store.old) opener.now.library crew.old.passes.items crew.old.jobs.items crew.old.parcels.items found }
+    ensures stores { (rules : List Rule) (given : List Pair) (left after : Option (List ℕ)) (start : Option Holdings) → InputDealt S.Folder.has S.Folder.Shelf.kept rules given left after start (S.has store.old) opener.now.library crew.old.passes.items crew.old.jobs.items crew.old.parcels.items found
+        → InputEnds S.Folder.has S.Folder.Shelf.kept rules given left after start (S.has store.new) opener.now.library crew.new.passes.items crew.new.jobs.items (Running S.Folder.Shelf.kept) result }
+    ensures stands { StandsOr (S.faults store.old) (S.faults store.new) found result }
     ensures jobs { length crew.new.jobs.items ≡ length crew.old.jobs.items }
-    ensures cause { IfErr result (λ e. OnStore e (Rose (S.faults store.old) (S.faults store.new))) }
-    ensures told { is_some (S.has store.new) ≡ is_some (S.has store.old) }
-    ensures later { S.faults store.old ≤ S.faults store.new }
+    ensures has { S.has store.new ≡ S.has store.old }
+    ensures out { S.out store.new ≡ S.out store.old }
 {
-    let found = deal_input(rt, alloc, input, given, schema, crew, opener, store, gate);
     if crew.is_empty() {
         return found;
     }
@@ -412,7 +383,35 @@ where
     }
 }
 
-/// Stores the fields of the input, and lists them, where the input is at its end or refused, or a read of it failed.
+// Lists what is stored, where the input is at its end or refused, or a read of it failed.
+fn list_stored<F: Send + Drop, X: Drop, S: Store<F>, R: Threads + Wait + Sync>(
+    rt: &R,
+    alloc: Global,
+    found: Result<Counts, BulkFault<X>>,
+    crew: &mut Crew<F, S>,
+    opener: &Opener<F, S>,
+    store: &mut S,
+) -> Result<Counts, BulkFault<X>>
+where
+    requires stored { WasStored S.Folder.has S.Folder.Shelf.kept (S.has store.old) opener.now.library crew.old.passes.items crew.old.jobs.items found }
+    ensures lists { (rules : List Rule) (given : List Pair) (left after : Option (List ℕ)) (start : Option Holdings) → InputEnds S.Folder.has S.Folder.Shelf.kept rules given left after start (S.has store.old) opener.now.library crew.old.passes.items crew.old.jobs.items (Running S.Folder.Shelf.kept) found
+        → InputEnds S.Folder.has S.Folder.Shelf.kept rules given left after start (S.has store.new) opener.now.library crew.new.passes.items crew.new.jobs.items (Finished S.Folder.Shelf.kept) result }
+    ensures stands { StandsOr (S.faults store.old) (S.faults store.new) found result }
+    ensures jobs { length crew.new.jobs.items ≡ length crew.old.jobs.items }
+    ensures has { S.has store.new ≡ S.has store.old }
+    ensures out { S.out store.new ≡ S.out store.old }
+{
+    if !is_listed(&found) {
+        return found;
+    }
+    match crew.list_all(rt, alloc, opener, store) {
+        Ok(()) => found,
+        Err(fault) => Err(fault),
+    }
+}
+
+/// Stores the fields of the input, and lists them, where the input is at its end or refused, or a read of it failed. Where it stops, what
+/// was dealt is stored first.
 pub(crate) fn list_input<
     F: Send + Drop,
     X: Drop,
@@ -438,20 +437,11 @@ where
     ensures out { OutAre opener.new.library.each (S.out store.new) }
     ensures lists { InputEnds S.Folder.has S.Folder.Shelf.kept schema.now given.now (I.left input.old) (I.left input.new) (S.has store.old) (S.has store.new) opener.new.library crew.new.passes.items crew.new.jobs.items (Finished S.Folder.Shelf.kept) result }
     ensures to_end { IfSome (I.left input.old) (λ octets. OnOk result (I.left input.new ≡ Some [])) }
-    ensures calm { OnOk result (I.faults input.new ≡ I.faults input.old) }
-    ensures read { IfErr result (λ e. is_unread e ≡ true → Rose (I.faults input.old) (I.faults input.new)) }
-    ensures read_quiet { IfErr result (λ e. is_calm e ≡ true → I.faults input.new ≡ I.faults input.old) }
+    ensures causes { HasCauses (I.faults input.old) (I.faults input.new) (S.faults store.old) (S.faults store.new) result }
     ensures jobs { length crew.new.jobs.items ≡ length crew.old.jobs.items }
-    ensures cause { IfErr result (λ e. OnStore e (Rose (S.faults store.old) (S.faults store.new))) }
     ensures told { is_some (S.has store.new) ≡ is_some (S.has store.old) }
-    ensures later { S.faults store.old ≤ S.faults store.new }
 {
-    let found = archive_input(rt, alloc, input, given, schema, crew, opener, store, gate);
-    if !is_listed(&found) {
-        return found;
-    }
-    match crew.list_all(rt, alloc, opener, store) {
-        Ok(()) => found,
-        Err(fault) => Err(fault),
-    }
+    let dealt = deal_input(rt, alloc, input, given, schema, crew, opener, store, gate);
+    let stored = store_dealt(rt, alloc, dealt, crew, opener, store, gate);
+    list_stored(rt, alloc, stored, crew, opener, store)
 }

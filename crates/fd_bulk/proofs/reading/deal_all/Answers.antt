@@ -5,6 +5,7 @@ use Rattle.fd_bulk.specs.Inputs.{Midway}
 use Rattle.fd_sheets.proofs.Ahead.{stops_end, stops_on}
 use Rattle.fd_bulk.proofs.Naming.{none_opened}
 use Rattle.fd_bulk.proofs.Readings.{begun, has_room}
+use Rattle.fd_bulk.proofs.Standing.{store_before}
 use Rattle.fd_bulk.proofs.reading.deal_all.Goals as goal
 
 pub loop-init : goal.loop-init
@@ -27,11 +28,25 @@ deal_batch-requires-clause-can g c κs within = let m = c.loop.invariant.midway 
 pub returns-in-Err-clause-deals : goal.returns-in-Err-clause-deals
 returns-in-Err-clause-deals g c = c.in-Err.ensures.deals (g.I.Source.left c.args.input.now) (g.S.Store.has c.args.store.now) c.loop.invariant.midway
 
-pub returns-in-Err-clause-read : goal.returns-in-Err-clause-read
-returns-in-Err-clause-read g c = λ is. subst (λ n. Rose n (g.I.Source.faults c.deal_batch.new.input)) c.loop.invariant.read (c.in-Err.ensures.read is)
+pub returns-in-Err-clause-causes : goal.returns-in-Err-clause-causes
+returns-in-Err-clause-causes g c =
+    let i = c.loop.invariant in
+    let e = c.in-Err.ensures.causes in
+    let before = i.later in
+    let later = e.later in
+    record {
+      calm = tt;
+      read = λ is. subst (λ n. Rose n (g.I.Source.faults c.deal_batch.new.input)) i.read (e.read is);
+      read_quiet = λ is. e.read_quiet is ∙ i.read;
+      cause = store_before (g.S.Store.faults c.args.store.now) (g.S.Store.faults c.loop.store) (g.S.Store.faults c.deal_batch.new.store) c.in-Err.fault before e.cause;
+      later = omega (arith, before, later);
+    }
 
-pub returns-in-Err-clause-read_quiet : goal.returns-in-Err-clause-read_quiet
-returns-in-Err-clause-read_quiet g c = λ is. c.in-Err.ensures.read_quiet is ∙ c.loop.invariant.read
+pub returns-then-is_end-clause-causes : goal.returns-then-is_end-clause-causes
+returns-then-is_end-clause-causes g c =
+    let before = c.loop.invariant.later in
+    let later = c.in-Ok.ensures.causes.later in
+    record { calm = c.in-Ok.ensures.causes.calm ∙ c.loop.invariant.read; read = tt; read_quiet = tt; cause = tt; later = omega (arith, before, later) }
 
 pub returns-then-is_end-clause-deals : goal.returns-then-is_end-clause-deals
 returns-then-is_end-clause-deals g c =
@@ -51,11 +66,11 @@ loop-preserved g c =
       midway = subst (λ t. Midway g.S.Folder.Folder.has g.S.Folder.Shelf.Shelf.kept c.args.schema.now c.args.given.now (g.I.Source.left c.args.input.now) t (g.S.Store.has c.args.store.now) (g.S.Store.has c.deal_batch.new.store) c.deal_batch.new.opener.library c.deal_batch.new.crew.passes.items c.deal_batch.new.crew.jobs.items c.deal_batch.new.crew.parcels.items c.deal_batch.new.reader) (sym s.1) b.midway;
       out = d.out;
       told = d.told ∙ i.told;
-      later = omega (arith, i.later, d.later);
+      later = let later = d.causes.later in omega (arith, i.later, later);
       jobs = d.jobs ∙ i.jobs;
       few = b.few;
       room = has_room g.S.Folder.Folder.has g.S.Folder.Shelf.Shelf.kept c.args.schema.now c.args.given.now (g.I.Source.left c.args.input.now) (g.S.Store.has c.args.store.now) (g.S.Store.has c.deal_batch.new.store) b.mid c.deal_batch.new.opener.library c.deal_batch.new.crew.passes.items c.deal_batch.new.crew.jobs.items c.deal_batch.new.crew.parcels.items c.deal_batch.new.reader b.midway;
       turns = omega (arith, i.turns, further);
       opened = d.opened;
-      read = d.calm ∙ i.read;
+      read = d.causes.calm ∙ i.read;
     }

@@ -1,41 +1,44 @@
-use Rattle.std.proofs.Common.{◌∙◌, Option, Err, sym, subst}
-use Rattle.fd_disk.specs.Folders.{Holdings}
-use Rattle.fd_bulk.specs.Crewing.{Finished}
-use Rattle.fd_bulk.specs.Inputs.{InputEnds, is_calm, is_unread}
-use Rattle.fd_bulk.proofs.Readings.{not_both}
-use Rattle.fd_bulk.proofs.Settling.{can_finish, full_listing, listed, not_calm, not_unread_full, stopped_listing, unlisted}
+use Rattle.std.proofs.Common.{◌≡◌, [], Some}
+use Rattle.fd_bulk.proofs.Standing.{causes_stand, end_stands}
 use Rattle.fd_bulk.proofs.reading.list_input.Goals as goal
 
-pub returns-then-not-is_listed-clause-lists : goal.returns-then-not-is_listed-clause-lists
-returns-then-not-is_listed-clause-lists g c = unlisted g.S.Folder.Folder.has g.S.Folder.Shelf.Shelf.kept c.args.schema.now c.args.given.now (g.I.Source.left c.args.input.now) (g.I.Source.left c.archive_input-found.new.input) (g.S.Store.has c.args.store.now) (g.S.Store.has c.archive_input-found.new.store) c.archive_input-found.new.opener.library c.archive_input-found.new.crew.passes.items c.archive_input-found.new.crew.jobs.items c.archive_input-found.result (sym c.is_listed.ensures ∙ c.if-not-is_listed.true) c.archive_input-found.ensures.stores
+pub store_dealt-requires-clause-dealt : goal.store_dealt-requires-clause-dealt
+store_dealt-requires-clause-dealt g c κs within = record {
+  rules = c.args.schema.now;
+  given = c.args.given.now;
+  left = g.I.Source.left c.args.input.now;
+  after = g.I.Source.left c.deal_input-dealt.new.input;
+  start = g.S.Store.has c.args.store.now;
+  dealt = c.deal_input-dealt.ensures.deals;
+}
 
-pub list_all-requires-clause-can : goal.list_all-requires-clause-can
-list_all-requires-clause-can g c κs within = can_finish g.S.Folder.Folder.has g.S.Folder.Shelf.Shelf.kept c.args.schema.now c.args.given.now (g.I.Source.left c.args.input.now) (g.I.Source.left c.archive_input-found.new.input) (g.S.Store.has c.args.store.now) (g.S.Store.has c.archive_input-found.new.store) c.archive_input-found.new.opener.library c.archive_input-found.new.crew.passes.items c.archive_input-found.new.crew.jobs.items c.archive_input-found.result (sym c.is_listed.ensures ∙ c.if-not-is_listed.false) c.archive_input-found.ensures.stores
+pub list_stored-requires-clause-stored : goal.list_stored-requires-clause-stored
+list_stored-requires-clause-stored g c κs within = record {
+  rules = c.args.schema.now;
+  given = c.args.given.now;
+  left = g.I.Source.left c.args.input.now;
+  after = g.I.Source.left c.deal_input-dealt.new.input;
+  start = g.S.Store.has c.args.store.now;
+  stored = c.store_dealt-stored.ensures.stores c.args.schema.now c.args.given.now (g.I.Source.left c.args.input.now) (g.I.Source.left c.deal_input-dealt.new.input) (g.S.Store.has c.args.store.now) c.deal_input-dealt.ensures.deals;
+}
 
-pub returns-in-Ok-clause-lists : goal.returns-in-Ok-clause-lists
-returns-in-Ok-clause-lists g c =
-    let m = c.archive_input-found.ensures.stores in
-    let r = c.in-Ok.ensures in
-    subst (λ (n : Option Holdings). InputEnds g.S.Folder.Folder.has g.S.Folder.Shelf.Shelf.kept c.args.schema.now c.args.given.now (g.I.Source.left c.args.input.now) (g.I.Source.left c.archive_input-found.new.input) (g.S.Store.has c.args.store.now) n c.archive_input-found.new.opener.library c.list_all.new.self.passes.items c.list_all.new.self.jobs.items (Finished g.S.Folder.Shelf.Shelf.kept) c.archive_input-found.result) (sym r.has)
-    (listed g.S.Folder.Folder.has g.S.Folder.Shelf.Shelf.kept c.args.schema.now c.args.given.now (g.I.Source.left c.args.input.now) (g.I.Source.left c.archive_input-found.new.input) (g.S.Store.has c.args.store.now) (g.S.Store.has c.archive_input-found.new.store) c.archive_input-found.new.opener.library c.archive_input-found.new.crew.passes.items c.archive_input-found.new.crew.jobs.items c.list_all.new.self.passes.items c.list_all.new.self.jobs.items c.archive_input-found.result (sym c.is_listed.ensures ∙ c.if-not-is_listed.false) m (λ crewed. r.lists (g.S.Store.has c.args.store.now) (g.S.Store.has c.archive_input-found.new.store) m.lost m.all crewed))
+pub returns-clause-lists : goal.returns-clause-lists
+returns-clause-lists g c =
+    let rules = c.args.schema.now in
+    let given = c.args.given.now in
+    let left = g.I.Source.left c.args.input.now in
+    let after = g.I.Source.left c.deal_input-dealt.new.input in
+    let start = g.S.Store.has c.args.store.now in
+    c.list_stored.ensures.lists rules given left after start (c.store_dealt-stored.ensures.stores rules given left after start c.deal_input-dealt.ensures.deals)
 
-pub returns-in-Err-clause-lists : goal.returns-in-Err-clause-lists
-returns-in-Err-clause-lists g c =
-    let m = c.archive_input-found.ensures.stores in
-    let r = c.in-Err.ensures in
-    subst (λ (n : Option Holdings). InputEnds g.S.Folder.Folder.has g.S.Folder.Shelf.Shelf.kept c.args.schema.now c.args.given.now (g.I.Source.left c.args.input.now) (g.I.Source.left c.archive_input-found.new.input) (g.S.Store.has c.args.store.now) n c.archive_input-found.new.opener.library c.list_all.new.self.passes.items c.list_all.new.self.jobs.items (Finished g.S.Folder.Shelf.Shelf.kept) (Err c.in-Err.fault)) (sym r.has)
-    (stopped_listing g.S.Folder.Folder.has g.S.Folder.Shelf.Shelf.kept c.args.schema.now c.args.given.now (g.I.Source.left c.args.input.now) (g.I.Source.left c.archive_input-found.new.input) (g.S.Store.has c.args.store.now) (g.S.Store.has c.archive_input-found.new.store) c.archive_input-found.new.opener.library c.archive_input-found.new.crew.passes.items c.archive_input-found.new.crew.jobs.items c.list_all.new.self.passes.items c.list_all.new.self.jobs.items c.archive_input-found.result c.in-Err.fault (sym c.is_listed.ensures ∙ c.if-not-is_listed.false) m (λ crewed. r.lists (g.S.Store.has c.args.store.now) (g.S.Store.has c.archive_input-found.new.store) m.lost m.all crewed))
+pub returns-clause-to_end : goal.returns-clause-to_end
+returns-clause-to_end g c =
+    let left = g.I.Source.left c.args.input.now in
+    let e = g.I.Source.left c.deal_input-dealt.new.input ≡ Some [] in
+    end_stands left e _ _ c.store_dealt-stored.result c.list_stored.result c.list_stored.ensures.stands
+    (end_stands left e _ _ c.deal_input-dealt.result c.store_dealt-stored.result c.store_dealt-stored.ensures.stands c.deal_input-dealt.ensures.to_end)
 
-pub returns-in-Err-clause-read : goal.returns-in-Err-clause-read
-returns-in-Err-clause-read g c =
-    let m = c.archive_input-found.ensures.stores in
-    let r = c.in-Err.ensures in
-    let full = full_listing g.S.Folder.Folder.has g.S.Folder.Shelf.Shelf.kept c.args.schema.now c.args.given.now (g.I.Source.left c.args.input.now) (g.I.Source.left c.archive_input-found.new.input) (g.S.Store.has c.args.store.now) (g.S.Store.has c.archive_input-found.new.store) c.archive_input-found.new.opener.library c.archive_input-found.new.crew.passes.items c.archive_input-found.new.crew.jobs.items c.list_all.new.self.passes.items c.list_all.new.self.jobs.items c.archive_input-found.result c.in-Err.fault (sym c.is_listed.ensures ∙ c.if-not-is_listed.false) m (λ crewed. r.lists (g.S.Store.has c.args.store.now) (g.S.Store.has c.archive_input-found.new.store) m.lost m.all crewed) in
-    λ is. not_both (is_unread c.in-Err.fault) _ (not_unread_full c.list_all.new.self.jobs.items c.in-Err.fault full) is
-
-pub returns-in-Err-clause-read_quiet : goal.returns-in-Err-clause-read_quiet
-returns-in-Err-clause-read_quiet g c =
-    let m = c.archive_input-found.ensures.stores in
-    let r = c.in-Err.ensures in
-    let full = full_listing g.S.Folder.Folder.has g.S.Folder.Shelf.Shelf.kept c.args.schema.now c.args.given.now (g.I.Source.left c.args.input.now) (g.I.Source.left c.archive_input-found.new.input) (g.S.Store.has c.args.store.now) (g.S.Store.has c.archive_input-found.new.store) c.archive_input-found.new.opener.library c.archive_input-found.new.crew.passes.items c.archive_input-found.new.crew.jobs.items c.list_all.new.self.passes.items c.list_all.new.self.jobs.items c.archive_input-found.result c.in-Err.fault (sym c.is_listed.ensures ∙ c.if-not-is_listed.false) m (λ crewed. r.lists (g.S.Store.has c.args.store.now) (g.S.Store.has c.archive_input-found.new.store) m.lost m.all crewed) in
-    λ is. not_both (is_calm c.in-Err.fault) _ (not_calm c.list_all.new.self.jobs.items c.in-Err.fault full) is
+pub returns-clause-causes : goal.returns-clause-causes
+returns-clause-causes g c =
+    causes_stand _ _ _ _ _ c.store_dealt-stored.result c.list_stored.result
+    (causes_stand _ _ _ _ _ c.deal_input-dealt.result c.store_dealt-stored.result c.deal_input-dealt.ensures.causes c.store_dealt-stored.ensures.stands) c.list_stored.ensures.stands
