@@ -303,8 +303,8 @@ where
     Err(BulkFault::InputLimit)
 }
 
-// The fields of the input are dealt, up to its end or to where it stops.
-fn deal_input<
+/// Deals the fields of the input, up to its end or to where it stops.
+pub(crate) fn deal_input<
     F: Send + Drop,
     X: Drop,
     S: Store<F>,
@@ -355,8 +355,8 @@ where
     }
 }
 
-// Stores what is dealt, behind what was found of the input. A refusal of a worker is that of a message before.
-fn store_dealt<F: Send + Drop, X: Drop, S: Store<F>, G: Gate, R: Threads + Wait + Sync>(
+/// Stores what is dealt, behind what was found of the input. A refusal of a worker is that of a message before.
+pub(crate) fn store_dealt<F: Send + Drop, X: Drop, S: Store<F>, G: Gate, R: Threads + Wait + Sync>(
     rt: &R,
     alloc: Global,
     found: Result<Counts, BulkFault<X>>,
@@ -383,8 +383,8 @@ where
     }
 }
 
-// Lists what is stored, where the input is at its end or refused, or a read of it failed.
-fn list_stored<F: Send + Drop, X: Drop, S: Store<F>, R: Threads + Wait + Sync>(
+/// Lists what is stored, where the input is at its end or refused, or a read of it failed.
+pub(crate) fn list_stored<F: Send + Drop, X: Drop, S: Store<F>, R: Threads + Wait + Sync>(
     rt: &R,
     alloc: Global,
     found: Result<Counts, BulkFault<X>>,
@@ -408,40 +408,4 @@ where
         Ok(()) => found,
         Err(fault) => Err(fault),
     }
-}
-
-/// Stores the fields of the input, and lists them, where the input is at its end or refused, or a read of it failed. Where it stops, what
-/// was dealt is stored first.
-pub(crate) fn list_input<
-    F: Send + Drop,
-    X: Drop,
-    S: Store<F>,
-    I: Source<X>,
-    G: Gate,
-    R: Threads + Wait + Sync,
->(
-    rt: &R,
-    alloc: Global,
-    input: &mut I,
-    given: &Given,
-    schema: &Schema,
-    crew: &mut Crew<F, S>,
-    opener: &mut Opener<F, S>,
-    store: &mut S,
-    gate: &G,
-) -> Result<Counts, BulkFault<X>>
-where
-    requires schema { IsSchema schema.now }
-    requires out { OutAre opener.old.library.each (S.out store.old) }
-    requires begun { Deals S.Folder.has S.Folder.Shelf.kept (S.has store.old) (S.has store.old) [] [] [] opener.old.library crew.old.passes.items crew.old.jobs.items crew.old.parcels.items }
-    ensures out { OutAre opener.new.library.each (S.out store.new) }
-    ensures lists { InputEnds S.Folder.has S.Folder.Shelf.kept schema.now given.now (I.left input.old) (I.left input.new) (S.has store.old) (S.has store.new) opener.new.library crew.new.passes.items crew.new.jobs.items (Finished S.Folder.Shelf.kept) result }
-    ensures to_end { IfSome (I.left input.old) (λ octets. OnOk result (I.left input.new ≡ Some [])) }
-    ensures causes { HasCauses (I.faults input.old) (I.faults input.new) (S.faults store.old) (S.faults store.new) result }
-    ensures jobs { length crew.new.jobs.items ≡ length crew.old.jobs.items }
-    ensures told { is_some (S.has store.new) ≡ is_some (S.has store.old) }
-{
-    let dealt = deal_input(rt, alloc, input, given, schema, crew, opener, store, gate);
-    let stored = store_dealt(rt, alloc, dealt, crew, opener, store, gate);
-    list_stored(rt, alloc, stored, crew, opener, store)
 }
