@@ -9,7 +9,7 @@ ghost use Rattle.fd_bulk.specs.declared.bulk.BulkFault.TheVariants as faults;
 ghost use Rattle.fd_bulk.specs.Archived.{Archived, IsRead, OnDisk, OnInput};
 
 use crate::crew::Crew;
-use crate::reading::{Counts, deal_input, list_stored, store_dealt};
+use crate::reading::{Counts, Terms};
 use fd_bytes::NoMemory;
 use fd_disk::{Folder, Store};
 use fd_io::{Gate, Source};
@@ -145,11 +145,16 @@ where
     let Ok(mut crew) = Crew::new(alloc, workers) else {
         return Err(BulkFault::NoMemory);
     };
-    let dealt = deal_input(
-        rt, alloc, input, given, schema, &mut crew, opener, store, gate,
-    );
-    let stored = store_dealt(rt, alloc, dealt, &mut crew, opener, store, gate);
-    let found = list_stored(rt, alloc, stored, &mut crew, opener, store);
+    let terms = Terms {
+        rt,
+        alloc,
+        given,
+        schema,
+        gate,
+    };
+    let dealt = terms.deal_input(input, &mut crew, opener, store);
+    let stored = terms.store_dealt(dealt, &mut crew, opener, store);
+    let found = terms.list_stored(stored, &mut crew, opener, store);
     let datasets = opener.datasets().len() as u32;
     crew.end(rt, opener);
     match found {
