@@ -10,7 +10,7 @@ ghost use Rattle.fd_library.specs.Open.{OutAre, names_of};
 ghost use Rattle.fd_bulk.specs.{Halting.{OnStore}, Batches.{AllDealt, BatchEnds}, Inputs.{CanGo, EndsOf, Going, GoesOn, InputDealt, InputEnds, Midway, is_calm, is_listed}, Standing.{HasCauses, StandsOr, WasDealt, WasStored}, Naming.{AreOpened, Notes}, Sheets.{CanDeal, IsTold, ToldAs}, Crewing.{Deals, Finished, Running}};
 ghost use Rattle.fd_sheets.specs.{Names.{IsKnown}, Reading.{ReadOn}, Sheets.{Placed}};
 
-use crate::bulk::BulkFault;
+use crate::bulk::{BulkFault, Terms};
 use crate::crew::Crew;
 use fd_disk::{Folder, Store};
 use fd_io::{Gate, Source};
@@ -157,28 +157,6 @@ fn end_of<X>(reader: Reader) -> Result<Counts, BulkFault<X>>
     match reader.finish() {
         Ok((fields, junk)) => Ok(Counts { fields, junk }),
         Err(cut) => Err(BulkFault::Cut(cut)),
-    }
-}
-
-/// What an input is archived by: the host's threads, what memory is asked of, the pairs and the rules of its keys, and what the workers
-/// pass on their way.
-pub(crate) struct Terms<'a, G, R> {
-    pub(crate) rt: &'a R,
-    pub(crate) alloc: Global,
-    pub(crate) given: &'a Given,
-    pub(crate) schema: &'a Schema,
-    pub(crate) gate: &'a G,
-}
-
-impl<G, R> Drop for Terms<'_, G, R> {
-    fn drop(self) {
-        let Terms {
-            rt: _,
-            alloc: _,
-            given: _,
-            schema: _,
-            gate: _,
-        } = self;
     }
 }
 

@@ -1,6 +1,6 @@
 use Rattle.fd_bulk.proofs.Overlaps.{ran_goes, ran_stopped}
 use Rattle.fd_bulk.proofs.Gone.{can_run}
-use Rattle.fd_bulk.proofs.reading.Terms.read_batch.Goals as goal
+use Rattle.fd_bulk.proofs.bulk.Terms.read_batch.Goals as goal
 
 pub run_reading-requires-clause-can : goal.run_reading-requires-clause-can
 run_reading-requires-clause-can g c κs within =

@@ -3,7 +3,7 @@ use Rattle.fd_sections.specs.Splitting.{start}
 use Rattle.fd_outcome.specs.Positions.{at_message}
 use Rattle.fd_bulk.proofs.Readings.{begun, ended_at_end, none_behind, some_end, starved}
 use Rattle.fd_bulk.proofs.Standing.{causes_end, causes_starved, causes_told}
-use Rattle.fd_bulk.proofs.reading.Terms.deal_input.Goals as goal
+use Rattle.fd_bulk.proofs.bulk.Terms.deal_input.Goals as goal
 
 pub returns-in_default-clause-deals : goal.returns-in_default-clause-deals
 returns-in_default-clause-deals g c =

@@ -3,7 +3,7 @@ use Rattle.fd_disk.specs.Folders.{Holdings}
 use Rattle.fd_bulk.specs.Crewing.{Finished}
 use Rattle.fd_bulk.specs.Inputs.{InputEnds}
 use Rattle.fd_bulk.proofs.Settling.{can_finish, full_listing, listed, not_calm, not_unread_full, stopped_listing, unlisted}
-use Rattle.fd_bulk.proofs.reading.Terms.list_stored.Goals as goal
+use Rattle.fd_bulk.proofs.bulk.Terms.list_stored.Goals as goal
 
 pub returns-then-not-is_listed-clause-lists : goal.returns-then-not-is_listed-clause-lists
 returns-then-not-is_listed-clause-lists g c = λ rules given left after start m.

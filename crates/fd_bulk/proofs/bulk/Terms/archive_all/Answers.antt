@@ -3,10 +3,10 @@ use Rattle.fd_bytes.specs.Causes.{Rose}
 use Rattle.fd_bulk.proofs.Finishing.{can_end, deals_none, disk_of, few_open, input_of, read_of, starved_first, told, whole}
 use Rattle.fd_bulk.proofs.Sparing.{parts_of, parts_spared, same_spared}
 use Rattle.fd_bulk.proofs.Standing.{causes_stand, end_stands}
-use Rattle.fd_bulk.proofs.bulk.archive_all.Goals as goal
+use Rattle.fd_bulk.proofs.bulk.Terms.archive_all.Goals as goal
 
 pub returns-in_default-clause-archived : goal.returns-in_default-clause-archived
-returns-in_default-clause-archived g c = starved_first _ g.S.Folder.Folder.has c.args.workers c.args.schema.now c.args.given.now (g.I.Source.left c.args.input.now) (g.I.Source.left c.args.input.now) (g.S.Store.has c.args.store.now) c.args.opener.now.library.each c.requires.none.0
+returns-in_default-clause-archived g c = starved_first _ g.S.Folder.Folder.has c.args.workers c.args.self.now.schema.now c.args.self.now.given.now (g.I.Source.left c.args.input.now) (g.I.Source.left c.args.input.now) (g.S.Store.has c.args.store.now) c.args.opener.now.library.each c.requires.none.0
 
 pub returns-in_default-clause-spares : goal.returns-in_default-clause-spares
 returns-in_default-clause-spares g c = same_spared (g.S.Store.has c.args.store.now)
@@ -18,8 +18,8 @@ deal_input-requires-clause-begun g c κs within =
 
 pub store_dealt-requires-clause-dealt : goal.store_dealt-requires-clause-dealt
 store_dealt-requires-clause-dealt g c κs within = record {
-  rules = c.args.schema.now;
-  given = c.args.given.now;
+  rules = c.args.self.now.schema.now;
+  given = c.args.self.now.given.now;
   left = g.I.Source.left c.args.input.now;
   after = g.I.Source.left c.deal_input-dealt.new.input;
   start = g.S.Store.has c.args.store.now;
@@ -28,33 +28,33 @@ store_dealt-requires-clause-dealt g c κs within = record {
 
 pub list_stored-requires-clause-stored : goal.list_stored-requires-clause-stored
 list_stored-requires-clause-stored g c κs within = record {
-  rules = c.args.schema.now;
-  given = c.args.given.now;
+  rules = c.args.self.now.schema.now;
+  given = c.args.self.now.given.now;
   left = g.I.Source.left c.args.input.now;
   after = g.I.Source.left c.deal_input-dealt.new.input;
   start = g.S.Store.has c.args.store.now;
-  stored = c.store_dealt-stored.ensures.stores c.args.schema.now c.args.given.now (g.I.Source.left c.args.input.now) (g.I.Source.left c.deal_input-dealt.new.input) (g.S.Store.has c.args.store.now) c.deal_input-dealt.ensures.deals;
+  stored = c.store_dealt-stored.ensures.stores c.args.self.now.schema.now c.args.self.now.given.now (g.I.Source.left c.args.input.now) (g.I.Source.left c.deal_input-dealt.new.input) (g.S.Store.has c.args.store.now) c.deal_input-dealt.ensures.deals;
 }
 
 pub overflow_cast-datasets : goal.overflow_cast-datasets
 overflow_cast-datasets g c =
-    let few = few_open g.S.Folder.Folder.has g.S.Folder.Shelf.Shelf.kept c.args.schema.now c.args.given.now (g.I.Source.left c.args.input.now) (g.I.Source.left c.deal_input-dealt.new.input) (g.S.Store.has c.args.store.now) (g.S.Store.has c.list_stored-found.new.store) c.deal_input-dealt.new.opener.library c.list_stored-found.new.crew.passes.items c.list_stored-found.new.crew.jobs.items c.list_stored-found.result (c.list_stored-found.ensures.lists c.args.schema.now c.args.given.now (g.I.Source.left c.args.input.now) (g.I.Source.left c.deal_input-dealt.new.input) (g.S.Store.has c.args.store.now) (c.store_dealt-stored.ensures.stores c.args.schema.now c.args.given.now (g.I.Source.left c.args.input.now) (g.I.Source.left c.deal_input-dealt.new.input) (g.S.Store.has c.args.store.now) c.deal_input-dealt.ensures.deals)) in
+    let few = few_open g.S.Folder.Folder.has g.S.Folder.Shelf.Shelf.kept c.args.self.now.schema.now c.args.self.now.given.now (g.I.Source.left c.args.input.now) (g.I.Source.left c.deal_input-dealt.new.input) (g.S.Store.has c.args.store.now) (g.S.Store.has c.list_stored-found.new.store) c.deal_input-dealt.new.opener.library c.list_stored-found.new.crew.passes.items c.list_stored-found.new.crew.jobs.items c.list_stored-found.result (c.list_stored-found.ensures.lists c.args.self.now.schema.now c.args.self.now.given.now (g.I.Source.left c.args.input.now) (g.I.Source.left c.deal_input-dealt.new.input) (g.S.Store.has c.args.store.now) (c.store_dealt-stored.ensures.stores c.args.self.now.schema.now c.args.self.now.given.now (g.I.Source.left c.args.input.now) (g.I.Source.left c.deal_input-dealt.new.input) (g.S.Store.has c.args.store.now) c.deal_input-dealt.ensures.deals)) in
     let is : length c.datasets.result.now ≡ length c.deal_input-dealt.new.opener.library.boards = ap length c.datasets.ensures in
     search (rules, few, is)
 
 pub end-requires-clause-can : goal.end-requires-clause-can
-end-requires-clause-can g c κs within = can_end g.S.Folder.Folder.has g.S.Folder.Shelf.Shelf.kept c.args.schema.now c.args.given.now (g.I.Source.left c.args.input.now) (g.I.Source.left c.deal_input-dealt.new.input) (g.S.Store.has c.args.store.now) (g.S.Store.has c.list_stored-found.new.store) c.deal_input-dealt.new.opener.library c.list_stored-found.new.crew.passes.items c.list_stored-found.new.crew.jobs.items c.list_stored-found.result (c.list_stored-found.ensures.lists c.args.schema.now c.args.given.now (g.I.Source.left c.args.input.now) (g.I.Source.left c.deal_input-dealt.new.input) (g.S.Store.has c.args.store.now) (c.store_dealt-stored.ensures.stores c.args.schema.now c.args.given.now (g.I.Source.left c.args.input.now) (g.I.Source.left c.deal_input-dealt.new.input) (g.S.Store.has c.args.store.now) c.deal_input-dealt.ensures.deals))
+end-requires-clause-can g c κs within = can_end g.S.Folder.Folder.has g.S.Folder.Shelf.Shelf.kept c.args.self.now.schema.now c.args.self.now.given.now (g.I.Source.left c.args.input.now) (g.I.Source.left c.deal_input-dealt.new.input) (g.S.Store.has c.args.store.now) (g.S.Store.has c.list_stored-found.new.store) c.deal_input-dealt.new.opener.library c.list_stored-found.new.crew.passes.items c.list_stored-found.new.crew.jobs.items c.list_stored-found.result (c.list_stored-found.ensures.lists c.args.self.now.schema.now c.args.self.now.given.now (g.I.Source.left c.args.input.now) (g.I.Source.left c.deal_input-dealt.new.input) (g.S.Store.has c.args.store.now) (c.store_dealt-stored.ensures.stores c.args.self.now.schema.now c.args.self.now.given.now (g.I.Source.left c.args.input.now) (g.I.Source.left c.deal_input-dealt.new.input) (g.S.Store.has c.args.store.now) c.deal_input-dealt.ensures.deals))
 
 pub returns-in-Ok-found-clause-archived : goal.returns-in-Ok-found-clause-archived
 returns-in-Ok-found-clause-archived g c =
     let e = c.end.ensures in
     let counts = c.in-Ok-found.field-0 in
-    whole g.S.Folder.Folder.has g.S.Folder.Shelf.Shelf.kept c.args.schema.now c.args.given.now (g.I.Source.left c.args.input.now) (g.I.Source.left c.deal_input-dealt.new.input) (g.S.Store.has c.args.store.now) (g.S.Store.has c.list_stored-found.new.store) c.deal_input-dealt.new.opener.library c.list_stored-found.new.crew.passes.items c.list_stored-found.new.crew.jobs.items c.args.workers (c.list_stored-found.ensures.jobs ∙ c.store_dealt-stored.ensures.jobs ∙ c.deal_input-dealt.ensures.jobs ∙ c.in-Ok.ensures.workers) c.end.new.opener.library.each e.grows e.all e.full {Z = g.row.X.Denot} counts (record { fields = counts.fields; datasets = length c.datasets.result.now; junk = counts.junk }) (c.in-Ok-found.ensures.lists c.args.schema.now c.args.given.now (g.I.Source.left c.args.input.now) (g.I.Source.left c.deal_input-dealt.new.input) (g.S.Store.has c.args.store.now) (c.store_dealt-stored.ensures.stores c.args.schema.now c.args.given.now (g.I.Source.left c.args.input.now) (g.I.Source.left c.deal_input-dealt.new.input) (g.S.Store.has c.args.store.now) c.deal_input-dealt.ensures.deals)) refl refl (ap length c.datasets.ensures)
+    whole g.S.Folder.Folder.has g.S.Folder.Shelf.Shelf.kept c.args.self.now.schema.now c.args.self.now.given.now (g.I.Source.left c.args.input.now) (g.I.Source.left c.deal_input-dealt.new.input) (g.S.Store.has c.args.store.now) (g.S.Store.has c.list_stored-found.new.store) c.deal_input-dealt.new.opener.library c.list_stored-found.new.crew.passes.items c.list_stored-found.new.crew.jobs.items c.args.workers (c.list_stored-found.ensures.jobs ∙ c.store_dealt-stored.ensures.jobs ∙ c.deal_input-dealt.ensures.jobs ∙ c.in-Ok.ensures.workers) c.end.new.opener.library.each e.grows e.all e.full {Z = g.row.X.Denot} counts (record { fields = counts.fields; datasets = length c.datasets.result.now; junk = counts.junk }) (c.in-Ok-found.ensures.lists c.args.self.now.schema.now c.args.self.now.given.now (g.I.Source.left c.args.input.now) (g.I.Source.left c.deal_input-dealt.new.input) (g.S.Store.has c.args.store.now) (c.store_dealt-stored.ensures.stores c.args.self.now.schema.now c.args.self.now.given.now (g.I.Source.left c.args.input.now) (g.I.Source.left c.deal_input-dealt.new.input) (g.S.Store.has c.args.store.now) c.deal_input-dealt.ensures.deals)) refl refl (ap length c.datasets.ensures)
 
 pub returns-in-Ok-found-clause-spares : goal.returns-in-Ok-found-clause-spares
 returns-in-Ok-found-clause-spares g c =
     let each = c.end.new.opener.library.each in
-    parts_spared each (g.S.Store.has c.args.store.now) (g.S.Store.has c.list_stored-found.new.store) (parts_of g.S.Folder.Folder.has c.args.workers c.args.schema.now c.args.given.now (g.I.Source.left c.args.input.now) (g.I.Source.left c.deal_input-dealt.new.input) (g.S.Store.has c.args.store.now) (g.S.Store.has c.list_stored-found.new.store) each _ (returns-in-Ok-found-clause-archived g c))
+    parts_spared each (g.S.Store.has c.args.store.now) (g.S.Store.has c.list_stored-found.new.store) (parts_of g.S.Folder.Folder.has c.args.workers c.args.self.now.schema.now c.args.self.now.given.now (g.I.Source.left c.args.input.now) (g.I.Source.left c.deal_input-dealt.new.input) (g.S.Store.has c.args.store.now) (g.S.Store.has c.list_stored-found.new.store) each _ (returns-in-Ok-found-clause-archived g c))
 
 pub returns-in-Ok-found-clause-to_end : goal.returns-in-Ok-found-clause-to_end
 returns-in-Ok-found-clause-to_end g c =
@@ -78,12 +78,12 @@ returns-in-Ok-found-clause-later g c =
 pub returns-in-Err-clause-archived : goal.returns-in-Err-clause-archived
 returns-in-Err-clause-archived g c =
     let e = c.end.ensures in
-    told g.S.Folder.Folder.has g.S.Folder.Shelf.Shelf.kept c.args.schema.now c.args.given.now (g.I.Source.left c.args.input.now) (g.I.Source.left c.deal_input-dealt.new.input) (g.S.Store.has c.args.store.now) (g.S.Store.has c.list_stored-found.new.store) c.deal_input-dealt.new.opener.library c.list_stored-found.new.crew.passes.items c.list_stored-found.new.crew.jobs.items c.args.workers (c.list_stored-found.ensures.jobs ∙ c.store_dealt-stored.ensures.jobs ∙ c.deal_input-dealt.ensures.jobs ∙ c.in-Ok.ensures.workers) c.end.new.opener.library.each e.grows e.all e.full c.in-Err.fault (c.in-Err.ensures.lists c.args.schema.now c.args.given.now (g.I.Source.left c.args.input.now) (g.I.Source.left c.deal_input-dealt.new.input) (g.S.Store.has c.args.store.now) (c.store_dealt-stored.ensures.stores c.args.schema.now c.args.given.now (g.I.Source.left c.args.input.now) (g.I.Source.left c.deal_input-dealt.new.input) (g.S.Store.has c.args.store.now) c.deal_input-dealt.ensures.deals))
+    told g.S.Folder.Folder.has g.S.Folder.Shelf.Shelf.kept c.args.self.now.schema.now c.args.self.now.given.now (g.I.Source.left c.args.input.now) (g.I.Source.left c.deal_input-dealt.new.input) (g.S.Store.has c.args.store.now) (g.S.Store.has c.list_stored-found.new.store) c.deal_input-dealt.new.opener.library c.list_stored-found.new.crew.passes.items c.list_stored-found.new.crew.jobs.items c.args.workers (c.list_stored-found.ensures.jobs ∙ c.store_dealt-stored.ensures.jobs ∙ c.deal_input-dealt.ensures.jobs ∙ c.in-Ok.ensures.workers) c.end.new.opener.library.each e.grows e.all e.full c.in-Err.fault (c.in-Err.ensures.lists c.args.self.now.schema.now c.args.self.now.given.now (g.I.Source.left c.args.input.now) (g.I.Source.left c.deal_input-dealt.new.input) (g.S.Store.has c.args.store.now) (c.store_dealt-stored.ensures.stores c.args.self.now.schema.now c.args.self.now.given.now (g.I.Source.left c.args.input.now) (g.I.Source.left c.deal_input-dealt.new.input) (g.S.Store.has c.args.store.now) c.deal_input-dealt.ensures.deals))
 
 pub returns-in-Err-clause-spares : goal.returns-in-Err-clause-spares
 returns-in-Err-clause-spares g c =
     let each = c.end.new.opener.library.each in
-    parts_spared each (g.S.Store.has c.args.store.now) (g.S.Store.has c.list_stored-found.new.store) (parts_of g.S.Folder.Folder.has c.args.workers c.args.schema.now c.args.given.now (g.I.Source.left c.args.input.now) (g.I.Source.left c.deal_input-dealt.new.input) (g.S.Store.has c.args.store.now) (g.S.Store.has c.list_stored-found.new.store) each _ (returns-in-Err-clause-archived g c))
+    parts_spared each (g.S.Store.has c.args.store.now) (g.S.Store.has c.list_stored-found.new.store) (parts_of g.S.Folder.Folder.has c.args.workers c.args.self.now.schema.now c.args.self.now.given.now (g.I.Source.left c.args.input.now) (g.I.Source.left c.deal_input-dealt.new.input) (g.S.Store.has c.args.store.now) (g.S.Store.has c.list_stored-found.new.store) each _ (returns-in-Err-clause-archived g c))
 
 pub returns-in-Err-clause-calm : goal.returns-in-Err-clause-calm
 returns-in-Err-clause-calm g c =

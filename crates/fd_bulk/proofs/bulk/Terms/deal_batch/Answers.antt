@@ -7,7 +7,7 @@ use Rattle.fd_sheets.specs.Reading.{StopsAs, is_unread as sheets_unread}
 use Rattle.fd_bulk.specs.Inputs.{is_calm, is_unread}
 use Rattle.fd_bulk.proofs.Readings.{batch_dealt_at, deal_quiet, fed_going, few_middle, going_batch, not_both, not_unread, ok_so, stayed, stop_ends, stop_quiet, stop_read, stopped_batch, stopped_here, went_batch}
 use Rattle.fd_bulk.proofs.Standing.{stop_store, store_before}
-use Rattle.fd_bulk.proofs.reading.Terms.deal_batch.Goals as goal
+use Rattle.fd_bulk.proofs.bulk.Terms.deal_batch.Goals as goal
 
 pub deal_sheets-requires-clause-can : goal.deal_sheets-requires-clause-can
 deal_sheets-requires-clause-can g c κs within =

@@ -6,7 +6,7 @@ use Rattle.fd_sheets.proofs.Ahead.{stops_end, stops_on}
 use Rattle.fd_bulk.proofs.Naming.{none_opened}
 use Rattle.fd_bulk.proofs.Readings.{begun, has_room}
 use Rattle.fd_bulk.proofs.Standing.{store_before}
-use Rattle.fd_bulk.proofs.reading.Terms.deal_all.Goals as goal
+use Rattle.fd_bulk.proofs.bulk.Terms.deal_all.Goals as goal
 
 pub loop-init : goal.loop-init
 loop-init g c = record {

@@ -3,7 +3,7 @@ use Rattle.std.specs.Prelude.{is_some}
 use Rattle.fd_library.specs.Open.{OutAre, names_of}
 use Rattle.fd_bulk.specs.Inputs.{Midway}
 use Rattle.fd_bulk.specs.Naming.{AreOpened}
-use Rattle.fd_bulk.proofs.reading.Terms.deal_all.Given as goal
+use Rattle.fd_bulk.proofs.bulk.Terms.deal_all.Given as goal
 
 abbrev pub invariant-loop : goal.invariant-loop
 invariant-loop g l = record {

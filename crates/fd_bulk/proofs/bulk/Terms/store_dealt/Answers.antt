@@ -3,7 +3,7 @@ use Rattle.fd_disk.specs.Folders.{Holdings}
 use Rattle.fd_bulk.specs.Crewing.{Running}
 use Rattle.fd_bulk.specs.Inputs.{InputEnds}
 use Rattle.fd_bulk.proofs.Settling.{can_run, full_round, no_parcels, not_calm, not_unread_full, stopped_round, stored_empty, stored_round}
-use Rattle.fd_bulk.proofs.reading.Terms.store_dealt.Goals as goal
+use Rattle.fd_bulk.proofs.bulk.Terms.store_dealt.Goals as goal
 
 pub returns-then-is_empty-clause-stores : goal.returns-then-is_empty-clause-stores
 returns-then-is_empty-clause-stores g c = λ rules given left after start m.
