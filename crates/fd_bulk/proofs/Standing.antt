@@ -1,5 +1,5 @@
 -- What was found of an input stands, or a worker's refusal comes in its place: the causes of both.
-use Rattle.std.proofs.Common.{◌≡◌, ◌∙◌, ◌≤◌, ℕ, true, false, List, Option, Some, None, Result, Ok, Err, OnOk, refl, sym, ap, subst, inl, inr, arith}
+use Rattle.std.proofs.Common.{◌≡◌, ◌≤◌, ℕ, List, Option, Some, None, Result, Ok, Err, OnOk, sym, ap, subst, inl, inr, arith}
 use Rattle.std.specs.Prelude.{◌⊎◌, IfSome}
 use Rattle.fd_bytes.specs.Causes.{Rose}
 use Rattle.fd_outcome.specs.Positions.{Position}
@@ -16,7 +16,7 @@ use Rattle.fd_bulk.proofs.Lowest.{rose_before, rose_later, store_weaker}
 use Rattle.fd_bulk.proofs.Readings.{not_both}
 
 -- nothing was read for want of memory
-pub causes_starved : {A Z : Type 0} (before first : ℕ) → HasCauses {A = A} before before first first (Err (faults.NoMemory {X = Z}))
+pub causes_starved : {A Z : Type 0} (before first : ℕ) → HasCauses {A = A} {Z = Z} before before first first (Err faults.NoMemory)
 causes_starved before first = record {
   calm = tt;
   read = λ is. absurd (cc is);
@@ -32,21 +32,21 @@ causes_told before after first last fault h = record { calm = tt; read = h.read;
 -- the last message may be cut
 pub causes_end : {A Z : Type 0} (before after first last : ℕ) (done : A) (reader : Position) (result : Result Counts (BulkFault Z)) → HasCauses {Z = Z} before after first last (Ok done) → EndsOf result reader → HasCauses before after first last result
 causes_end before after first last done reader (Ok counts) h ends = record { calm = h.calm; read = tt; read_quiet = tt; cause = tt; later = h.later }
-causes_end before after first last done reader (Err fault) h ends = record {
+causes_end {Z = Z} before after first last done reader (Err fault) h ends = record {
   calm = tt;
   read = λ is. not_both (is_unread fault) (Rose before after) (ap is_unread ends.1) is;
   read_quiet = λ is. h.calm;
-  cause = subst (λ e. OnStore e (Rose first last)) (sym ends.1) tt;
+  cause = subst (λ (e : BulkFault Z). OnStore e (Rose first last)) (sym ends.1) tt;
   later = h.later;
 }
 
 -- no reader's reason is a fault of the store
 pub stop_store : {Z : Type 0} (P : Type 0) (stop : Stop Z) (fault : BulkFault Z) → IsTold stop fault → OnStore fault P
-stop_store P (stops.Input f) fault told = subst (λ e. OnStore e P) (sym told) tt
-stop_store P (stops.Message at) fault told = subst (λ e. OnStore e P) (sym told) tt
-stop_store P (stops.NoMap number field) fault told = subst (λ e. OnStore e P) (sym told) tt
-stop_store P stops.InputLimit fault told = subst (λ e. OnStore e P) (sym told) tt
-stop_store P stops.NoMemory fault told = subst (λ e. OnStore e P) (sym told) tt
+stop_store {Z = Z} P (stops.Input f) fault told = subst (λ (e : BulkFault Z). OnStore e P) (sym told) tt
+stop_store {Z = Z} P (stops.Message at) fault told = subst (λ (e : BulkFault Z). OnStore e P) (sym told) tt
+stop_store {Z = Z} P (stops.NoMap number field) fault told = subst (λ (e : BulkFault Z). OnStore e P) (sym told) tt
+stop_store {Z = Z} P stops.InputLimit fault told = subst (λ (e : BulkFault Z). OnStore e P) (sym told) tt
+stop_store {Z = Z} P stops.NoMemory fault told = subst (λ (e : BulkFault Z). OnStore e P) (sym told) tt
 
 -- the store's count rose earlier, or later
 pub store_later : {Z : Type 0} (first middle last : ℕ) (fault : BulkFault Z) → middle ≤ last → OnStore fault (Rose first middle) → OnStore fault (Rose first last)
@@ -65,11 +65,11 @@ module _ {A Z : Type 0} (before after first middle last : ℕ) where
   causes_stand found result h s = go s.stands
     where
       go : (result ≡ found) ⊎ ((fault : BulkFault Z) × (result ≡ Err fault) × IsRefusal middle last fault) → HasCauses before after first last result
-      go (inl is) = subst (λ r. HasCauses before after first last r) (sym is) (causes_later found h s.later)
+      go (inl is) = subst (λ (x : Result A (BulkFault Z)). HasCauses before after first last x) (sym is) (causes_later found h s.later)
       go (inr r) =
           let e = h.later in
           let later = s.later in
-          subst (λ r. HasCauses before after first last r) (sym r.1) (record {
+          subst (λ (x : Result A (BulkFault Z)). HasCauses before after first last x) (sym r.1) (record {
             calm = tt;
             read = λ is. not_both (is_unread r.0) (Rose before after) r.2.unread is;
             read_quiet = λ is. not_both (is_calm r.0) (after ≡ before) r.2.calm is;
@@ -82,8 +82,8 @@ pub ok_stands : {A Z : Type 0} (P : Type 0) (first last : ℕ) (found result : R
 ok_stands {A = A} {Z = Z} P first last found result s h = go s.stands
   where
     go : (result ≡ found) ⊎ ((fault : BulkFault Z) × (result ≡ Err fault) × IsRefusal first last fault) → OnOk result P
-    go (inl is) = subst (λ r. OnOk r P) (sym is) h
-    go (inr r) = subst (λ r. OnOk r P) (sym r.1) tt
+    go (inl is) = subst (λ (x : Result A (BulkFault Z)). OnOk x P) (sym is) h
+    go (inr r) = subst (λ (x : Result A (BulkFault Z)). OnOk x P) (sym r.1) tt
 
 pub end_stands : {A Z : Type 0} (left : Option (List ℕ)) (P : Type 0) (first last : ℕ) (found result : Result A (BulkFault Z)) → StandsOr first last found result → IfSome left (λ octets. OnOk found P) → IfSome left (λ octets. OnOk result P)
 end_stands None P first last found result s h = tt

@@ -1,5 +1,8 @@
-use Rattle.std.proofs.Common.{rules, ◌≡◌, ◌∙◌, [], Some, Ok, Err, length, ap, refl}
+use Rattle.std.proofs.Common.{rules, ◌≡◌, ◌∙◌, ℕ, Bool, true, List, [], Option, Some, Ok, Err, length, ap, refl, subst, sym}
+use Rattle.std.specs.Prelude.{is_some}
 use Rattle.fd_bytes.specs.Causes.{Rose}
+use Rattle.fd_disk.specs.Folders.{Holdings}
+use Rattle.fd_library.specs.Open.{among}
 use Rattle.fd_bulk.proofs.Finishing.{can_end, deals_none, disk_of, few_open, input_of, read_of, starved_first, told, whole}
 use Rattle.fd_bulk.proofs.Sparing.{parts_of, parts_spared, same_spared}
 use Rattle.fd_bulk.proofs.Standing.{causes_stand, end_stands}
@@ -108,3 +111,26 @@ returns-in-Err-clause-later g c =
     let h = causes_stand _ _ _ _ _ c.store_dealt-stored.result (Err c.in-Err.fault)
     (causes_stand _ _ _ _ _ c.deal_input-dealt.result c.store_dealt-stored.result c.deal_input-dealt.ensures.causes c.store_dealt-stored.ensures.stands) c.in-Err.ensures.stands in
     h.later
+
+pub returns-in-Ok-found-clause-out : goal.returns-in-Ok-found-clause-out
+returns-in-Ok-found-clause-out g c = λ n is.
+    subst (λ (ns : List (List ℕ)). among n ns ≡ true) (sym c.end.ensures.names)
+    (c.deal_input-dealt.ensures.out n (subst (λ (out : List ℕ → Bool). out n ≡ true) (c.list_stored-found.ensures.out ∙ c.store_dealt-stored.ensures.out) is))
+
+pub returns-in-Ok-found-clause-told : goal.returns-in-Ok-found-clause-told
+returns-in-Ok-found-clause-told g c = ap (λ (h : Option Holdings). is_some h) (c.list_stored-found.ensures.has ∙ c.store_dealt-stored.ensures.has) ∙ c.deal_input-dealt.ensures.told
+
+pub returns-in-Err-clause-out : goal.returns-in-Err-clause-out
+returns-in-Err-clause-out g c = λ n is.
+    subst (λ (ns : List (List ℕ)). among n ns ≡ true) (sym c.end.ensures.names)
+    (c.deal_input-dealt.ensures.out n (subst (λ (out : List ℕ → Bool). out n ≡ true) (c.list_stored-found.ensures.out ∙ c.store_dealt-stored.ensures.out) is))
+
+pub returns-in-Err-clause-told : goal.returns-in-Err-clause-told
+returns-in-Err-clause-told g c = ap (λ (h : Option Holdings). is_some h) (c.list_stored-found.ensures.has ∙ c.store_dealt-stored.ensures.has) ∙ c.deal_input-dealt.ensures.told
+
+pub returns-in-Err-clause-to_end : goal.returns-in-Err-clause-to_end
+returns-in-Err-clause-to_end g c =
+    let left = g.I.Source.left c.args.input.now in
+    let e = g.I.Source.left c.deal_input-dealt.new.input ≡ Some [] in
+    end_stands left e _ _ c.store_dealt-stored.result (Err c.in-Err.fault) c.in-Err.ensures.stands
+    (end_stands left e _ _ c.deal_input-dealt.result c.store_dealt-stored.result c.store_dealt-stored.ensures.stands c.deal_input-dealt.ensures.to_end)

@@ -1,4 +1,4 @@
-use Rattle.std.proofs.Common.{◌≡◌, ◌∙◌, length, refl, sym, ap, subst, arith}
+use Rattle.std.proofs.Common.{◌∙◌, refl, sym, ap, subst, arith}
 use Rattle.fd_bytes.specs.Causes.{Rose}
 use Rattle.fd_library.specs.Open.{names_of}
 use Rattle.fd_bulk.specs.Inputs.{Midway}

@@ -1,5 +1,4 @@
-use Rattle.std.proofs.Common.{rules, ◌≡◌, ◌∙◌, All, IfErr, Err, Ok, true, false, refl, sym, ap, subst, arith}
-use Rattle.std.specs.Prelude.{is_some}
+use Rattle.std.proofs.Common.{◌≡◌, All, IfErr, true, false, refl, subst, arith}
 use Rattle.fd_bytes.specs.Causes.{Rose}
 use Rattle.fd_outcome.specs.Positions.{fed_at}
 use Rattle.fd_sheets.specs.Names.{IsKnown}
