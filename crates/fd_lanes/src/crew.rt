@@ -15,7 +15,7 @@ use crate::steps::run_lane;
 use fd_archiver::Archiver;
 use fd_bytes::{Bytes, Items, NoMemory};
 use fd_dataset::{Dataset, DatasetPass};
-use fd_disk::{Disk, Shelf};
+use fd_disk::{Disk, Sealed, Shelf};
 use fd_io::Gate;
 use fd_retriever::Lenses;
 use fd_schema::{Place, Schema};
@@ -93,6 +93,26 @@ where
     Ok(all)
 }
 
+// All that is listed, as a number.
+fn settled<F: Send, T: Disk<F>, Z: Sealed<F>, R: Wait>(
+    rt: &R,
+    alloc: Global,
+    dataset: &Dataset<F, T, Z>,
+    pass: &mut DatasetPass<F, T, Z>,
+) -> Result<u32, NoMemory>
+    requires own { IsOf dataset.now pass.old }
+    requires free { (view pass.old).lock ≡ Free }
+    requires all { (view pass.old).parts ≡ all_parts }
+    ensures own { IsSame pass.old pass.new }
+    ensures keeps { Keeps (view pass.old) (view pass.new) }
+    ensures amount { (view pass.new).amount ≡ (view pass.old).amount }
+    ensures doubts { (view pass.new).doubts ≡ (view pass.old).doubts }
+    ensures number { IfOk result (λ n. (n ≡ length (view pass.new).history) × (n ≡ (view pass.old).opening + (view pass.old).amount)) }
+{
+    let snapshot = dataset.snapshot(rt, alloc, pass)?;
+    Ok(snapshot.len())
+}
+
 type Vacant<J, A, E> = (Vec<J>, Vec<A>, Vec<E>);
 
 // Room for so many of each.
@@ -136,7 +156,7 @@ where
     ensures jobs { IfOk result (λ m. (m.jobs.items ≡ []) × (vec_capacity m.jobs ≡ n)) }
     ensures back { IfOk result (λ m. (m.back.items ≡ []) × (vec_capacity m.back ≡ n) × (m.ends.items ≡ []) × (vec_capacity m.ends ≡ n)) }
 {
-    let before = dataset.snapshot(rt, alloc, pass)?.len();
+    let before = settled(rt, alloc, dataset, pass)?;
     let rooms = rooms::<F, H>(alloc, n)?;
     match vacant(alloc, n) {
         Ok((jobs, back, ends)) => Ok(Means {
