@@ -1,5 +1,5 @@
 -- What sealing and keeping a batch leave of an archiver.
-use Rattle.std.proofs.Common.{◌≡◌, ◌≢◌, ◌++◌, ◌<◌, ◌≤◌, ℕ, Bool, true, false, List, [], ◌∷◌, refl, sym, ap, ◌∙◌, subst, arith, Option, Some, None, Result, Ok, Err, OnOk, OnErr, IfSome, IsSome, is_some, IsTrue, ◌↔◌}
+use Rattle.std.proofs.Common.{rules, ◌≡◌, ◌≢◌, ◌++◌, ◌<◌, ◌≤◌, ℕ, Bool, true, false, List, [], ◌∷◌, refl, sym, ap, ◌∙◌, subst, arith, Option, Some, None, Result, Ok, Err, OnOk, OnErr, IfSome, IsSome, is_some, IsTrue, ◌↔◌}
 use Rattle.fd_disk.specs.declared.folders.FileName.{FileName}
 use Rattle.fd_disk.specs.declared.folders.FileKind.{FileKind}
 use Rattle.fd_disk.specs.declared.folders.FileKind.TheVariants.{Fields, Index}
@@ -87,6 +87,12 @@ pub whole_put : {E : Type 0} (r : Result (Unit {0}) E) (o : Owner) (d e : Fillin
 whole_put (Ok done) o d e n None p none origin keys bytes ok err is = whole_now o d e n origin keys bytes (is.pairs ++ p ∷ []) (ok is.pairs is.pending) is
 whole_put (Err x) o d e n None p none origin keys bytes ok err is = whole_now o d e n origin keys bytes is.pairs (err is.pairs is.pending) is
 whole_put r o d e n (Some s) p none origin keys bytes ok err is = absurd (cc none)
+
+-- nothing waits
+pub none_waits : (b : Bool) (u : Option Standing) → b ≡ false → (IsTrue b ↔ IsSome u) → u ≡ None
+none_waits true u e waits = absurd (cc e)
+none_waits false None e waits = refl
+none_waits false (Some s) e waits = let h = waits.1 (search rules) in absurd (cc h)
 
 -- the shelf was called, and tells as before
 pub whole_kept : (w keys bytes last : ℕ) (name name' : List ℕ) (told told' : Bool) (d : Filling) (n : Option Filling) (u u' : Option Standing) → name' ≡ name → told' ≡ told → u' ≡ u

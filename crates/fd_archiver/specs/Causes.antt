@@ -3,6 +3,8 @@ use Rattle.std.specs.Prelude.{◌≡◌, ◌⊎◌, ◌<◌, ◌≤◌, ℕ, Lis
 use Rattle.fd_index.specs.declared.fault.Full.{Full}
 use Rattle.fd_entries.specs.declared.batch.Listing.{Listing}
 use Rattle.fd_segment.specs.Held.{Standing}
+use Rattle.fd_segment.specs.declared.fault.PutFault.{PutFault}
+use Rattle.fd_segment.specs.declared.fault.PutFault.TheVariants as puts
 use Rattle.fd_turn.specs.Views.{View}
 use Rattle.fd_dataset.specs.Listed.{listing}
 use Rattle.fd_dataset.specs.Causes.{AreFewer}
@@ -21,6 +23,11 @@ FullAs room (Ok done) = room ≡ Ok tt
 FullAs room (Err archives.Unlisted) = Unit {0}
 FullAs room (Err (archives.Full keys left)) = room ≡ Err (record { keys = keys; left = left })
 FullAs room (Err (archives.Disk f)) = room ≡ Ok tt
+
+-- why a field wasn't put into the batch
+abbrev pub RefusedAs : {F : Type 0} → PutFault F → ArchiveFault F → Type 0
+RefusedAs (puts.Full keys left) refused = refused ≡ archives.Full keys left
+RefusedAs (puts.Fault f) refused = refused ≡ archives.Disk f
 
 abbrev pub OnArchiveDisk : {F : Type 0} → ArchiveFault F → Type 0 → Type 0
 OnArchiveDisk archives.Unlisted P = Unit {0}

@@ -5,7 +5,7 @@ ghost use Rattle.fd_entries.specs.{declared.batch.Pair.{Pair}, Batches.{distinct
 ghost use Rattle.fd_index.specs.Builder.{room_for};
 ghost use Rattle.fd_segment.specs.Filling.{Puts};
 ghost use Rattle.fd_schema.specs.{Rules.{file_key}, Reading.{seen_place}};
-ghost use Rattle.fd_archiver.specs.{Causes.{FullAs, OnArchiveDisk, OnUntouched}, Whole.{Created}, Writing.{IsKept, IsPending}};
+ghost use Rattle.fd_archiver.specs.{Causes.{FullAs, OnArchiveDisk, OnUntouched, RefusedAs}, Whole.{Created}, Writing.{IsKept, IsPending}};
 
 use crate::fault::ArchiveFault;
 use fd_disk::{Down, Sealed, Shelf};
@@ -24,6 +24,16 @@ pub(crate) enum Unlisted<F: Send, Z: Sealed<F>> {
     Sealed(Segment<F, Z>),
     /// The shelf keeps its files.
     Kept(Arc<Segment<F, Z>>),
+}
+
+// Why a field wasn't put into the batch.
+fn refused<F: Send>(fault: PutFault<F>) -> ArchiveFault<F>
+    ensures { RefusedAs fault result }
+{
+    match fault {
+        PutFault::Full { keys, left } => ArchiveFault::Full { keys, left },
+        PutFault::Fault(fault) => ArchiveFault::Disk(fault),
+    }
 }
 
 /// One writer of a dataset.
@@ -145,7 +155,11 @@ impl<F: Send, H: Shelf<F>> Archiver<F, H> {
         if self.unlisted() {
             return Err(ArchiveFault::Unlisted);
         }
-        self.put(place, bytes)
+        let key = place.short_key();
+        match self.draft.put(key.as_str().as_bytes(), bytes) {
+            Ok(()) => Ok(()),
+            Err(fault) => Err(refused(fault)),
+        }
     }
 
     /// The same for a field whose digest was perhaps looked for: where it was, none is computed here.
@@ -166,60 +180,13 @@ impl<F: Send, H: Shelf<F>> Archiver<F, H> {
         ensures room { (self.new.draft.held.keys ≡ self.old.draft.held.keys) × (self.new.draft.held.bytes ≡ self.old.draft.held.bytes) }
         ensures rest { self.new ≡ record self.old { draft = self.new.draft } }
     {
-        let is_waiting = self.unlisted();
-        if is_waiting {
+        if self.unlisted() {
             return Err(ArchiveFault::Unlisted);
         }
-        self.put_field(place, field)
-    }
-
-    // Puts a field into the batch, where none waits.
-    fn put(&mut self, place: &Place, bytes: &[u8]) -> Result<(), ArchiveFault<F>>
-        requires none { self.old.unlisted ≡ None }
-        requires key { length (file_key (seen_place place.now)) ≤ 256 }
-        requires sum { self.old.draft.end + (length bytes.now + 32) < 2 ^ 63 }
-        ensures listed { result ≢ Err ArchiveFault.Unlisted }
-        ensures ok { OnOk result ((b : List Pair) → IsPending self.old b → IsPending self.new (b ++ record { key = file_key (seen_place place.now); bytes = bytes.now } ∷ [])) }
-        ensures end { OnOk result (self.new.draft.end ≡ self.old.draft.end + (length bytes.now + 32)) }
-        ensures err { OnErr result ((b : List Pair) → IsPending self.old b → IsPending self.new b) }
-        ensures refused { OnErr result ((self.new.draft.held ≡ self.old.draft.held) × (self.new.draft.end ≡ self.old.draft.end)) }
-        ensures untouched { IfErr result (λ e. OnUntouched e (self.new ≡ self.old)) }
-        ensures full { FullAs (room_for self.old.draft.held (file_key (seen_place place.now))) result }
-        ensures cause { IfErr result (λ e. OnArchiveDisk e (Rose self.old.draft.field_faults self.new.draft.field_faults)) }
-        ensures origin { self.new.draft.origin ≡ self.old.draft.origin }
-        ensures room { (self.new.draft.held.keys ≡ self.old.draft.held.keys) × (self.new.draft.held.bytes ≡ self.old.draft.held.bytes) }
-        ensures rest { self.new ≡ record self.old { draft = self.new.draft } }
-    {
-        let key = place.short_key();
-        match self.draft.put(key.as_str().as_bytes(), bytes) {
-            Ok(()) => Ok(()),
-            Err(PutFault::Full { keys, left }) => Err(ArchiveFault::Full { keys, left }),
-            Err(PutFault::Fault(fault)) => Err(ArchiveFault::Disk(fault)),
-        }
-    }
-
-    // The same for a field whose digest was perhaps looked for.
-    fn put_field(&mut self, place: &Place, field: &Field) -> Result<(), ArchiveFault<F>>
-        requires none { self.old.unlisted ≡ None }
-        requires key { length (file_key (seen_place place.now)) ≤ 256 }
-        requires sum { self.old.draft.end + (length field.now + 32) < 2 ^ 63 }
-        ensures listed { result ≢ Err ArchiveFault.Unlisted }
-        ensures ok { OnOk result ((b : List Pair) → IsPending self.old b → IsPending self.new (b ++ record { key = file_key (seen_place place.now); bytes = field.now } ∷ [])) }
-        ensures end { OnOk result (self.new.draft.end ≡ self.old.draft.end + (length field.now + 32)) }
-        ensures err { OnErr result ((b : List Pair) → IsPending self.old b → IsPending self.new b) }
-        ensures refused { OnErr result ((self.new.draft.held ≡ self.old.draft.held) × (self.new.draft.end ≡ self.old.draft.end)) }
-        ensures untouched { IfErr result (λ e. OnUntouched e (self.new ≡ self.old)) }
-        ensures full { FullAs (room_for self.old.draft.held (file_key (seen_place place.now))) result }
-        ensures cause { IfErr result (λ e. OnArchiveDisk e (Rose self.old.draft.field_faults self.new.draft.field_faults)) }
-        ensures origin { self.new.draft.origin ≡ self.old.draft.origin }
-        ensures room { (self.new.draft.held.keys ≡ self.old.draft.held.keys) × (self.new.draft.held.bytes ≡ self.old.draft.held.bytes) }
-        ensures rest { self.new ≡ record self.old { draft = self.new.draft } }
-    {
         let key = place.short_key();
         match self.draft.put_field(key.as_str().as_bytes(), field) {
             Ok(()) => Ok(()),
-            Err(PutFault::Full { keys, left }) => Err(ArchiveFault::Full { keys, left }),
-            Err(PutFault::Fault(fault)) => Err(ArchiveFault::Disk(fault)),
+            Err(fault) => Err(refused(fault)),
         }
     }
 

@@ -210,31 +210,47 @@ where
     jobs
 }
 
+// What lanes are to do: their steps, and what these name.
+#[derive(Drop)]
+struct Orders<'a> {
+    lanes: &'a [Lane],
+    schema: &'a Schema,
+    messages: &'a [Bytes],
+    places: &'a [Place],
+}
+
 // The steps of one lane.
 fn run_at<F: Send, T: Disk<F>, H: Shelf<F>, G: Gate, R: Wait>(
     rt: &R,
     alloc: Global,
     gate: &G,
-    lanes: &[Lane],
-    schema: &Schema,
-    messages: &[Bytes],
-    places: &[Place],
+    orders: &Orders<'_>,
     dataset: &Dataset<F, T, H::Sealed>,
     i: usize,
     job: &mut LaneJob<F, T, H>,
 )
 where
-    requires lane { (i < length lanes.now) × (length lanes.now ≤ 8) }
-    requires short { All (λ l. length l.steps ≤ 4096) lanes.now }
-    requires steps { LanesFit schema.now messages.now (view job.old.pass).subject (map seen_place places.now) lanes.now }
+    requires lane { (i < length orders.now.lanes.now) × (length orders.now.lanes.now ≤ 8) }
+    requires short { All (λ l. length l.steps ≤ 4096) orders.now.lanes.now }
+    requires steps { LanesFit orders.now.schema.now orders.now.messages.now (view job.old.pass).subject (map seen_place orders.now.places.now) orders.now.lanes.now }
     requires fresh { IsFresh dataset.now job.old }
-    ensures ran { RanAt H.kept dataset.now schema.now messages.now (map seen_place places.now) lanes.now i job.old job.new }
+    ensures ran { RanAt H.kept dataset.now orders.now.schema.now orders.now.messages.now (map seen_place orders.now.places.now) orders.now.lanes.now i job.old job.new }
 {
-    let own = places_at(lanes, i, places);
+    let lanes = orders.lanes;
+    let own = places_at(lanes, i, orders.places);
     let number = i as u32 + 1;
     let steps = lanes[i].steps.as_slice();
     run_lane(
-        rt, alloc, gate, number, steps, schema, messages, own, dataset, job,
+        rt,
+        alloc,
+        gate,
+        number,
+        steps,
+        orders.schema,
+        orders.messages,
+        own,
+        dataset,
+        job,
     )
 }
 
@@ -243,33 +259,26 @@ fn run_all<F: Send, T: Disk<F>, H: Shelf<F>, G: Gate, R: Threads + Wait + Sync>(
     rt: &R,
     alloc: Global,
     gate: &G,
-    lanes: &[Lane],
-    schema: &Schema,
-    messages: &[Bytes],
-    places: &[Place],
+    orders: &Orders<'_>,
     dataset: &Dataset<F, T, H::Sealed>,
     jobs: &mut [LaneJob<F, T, H>],
 )
 where
-    requires lanes { (length jobs.old ≡ length lanes.now) × (length lanes.now ≤ 8) }
-    requires short { All (λ l. length l.steps ≤ 4096) lanes.now }
+    requires lanes { (length jobs.old ≡ length orders.now.lanes.now) × (length orders.now.lanes.now ≤ 8) }
+    requires short { All (λ l. length l.steps ≤ 4096) orders.now.lanes.now }
     requires fresh { All (IsFresh dataset.now) jobs.old }
-    requires steps { All (λ j. LanesFit schema.now messages.now (view j.pass).subject (map seen_place places.now) lanes.now) jobs.old }
+    requires steps { All (λ j. LanesFit orders.now.schema.now orders.now.messages.now (view j.pass).subject (map seen_place orders.now.places.now) orders.now.lanes.now) jobs.old }
     ensures long { length jobs.new ≡ length jobs.old }
-    ensures ran { (i : ℕ) (e : _) → i < length jobs.old → RanAt H.kept dataset.now schema.now messages.now (map seen_place places.now) lanes.now i (slice_index_or jobs.old i e) (slice_index_or jobs.new i e) }
+    ensures ran { (i : ℕ) (e : _) → i < length jobs.old → RanAt H.kept dataset.now orders.now.schema.now orders.now.messages.now (map seen_place orders.now.places.now) orders.now.lanes.now i (slice_index_or jobs.old i e) (slice_index_or jobs.new i e) }
 {
     thread::for_each_mut(
         rt,
         jobs,
         8,
         &|i: usize, job: &mut LaneJob<F, T, H>|
-            requires { (i < length lanes.now) × (length lanes.now ≤ 8) × All (λ l. length l.steps ≤ 4096) lanes.now × LanesFit schema.now messages.now (view job.old.pass).subject (map seen_place places.now) lanes.now × IsFresh dataset.now job.old }
-            ensures { RanAt H.kept dataset.entry.now schema.entry.now messages.entry.now (map seen_place places.entry.now) lanes.entry.now i job.old job.new }
-        {
-            run_at(
-                rt, alloc, gate, lanes, schema, messages, places, dataset, i, job,
-            )
-        },
+            requires { (i < length orders.now.lanes.now) × (length orders.now.lanes.now ≤ 8) × All (λ l. length l.steps ≤ 4096) orders.now.lanes.now × LanesFit orders.now.schema.now orders.now.messages.now (view job.old.pass).subject (map seen_place orders.now.places.now) orders.now.lanes.now × IsFresh dataset.now job.old }
+            ensures { RanAt H.kept dataset.entry.now orders.entry.now.schema.now orders.entry.now.messages.now (map seen_place orders.entry.now.places.now) orders.entry.now.lanes.now i job.old job.new }
+        { run_at(rt, alloc, gate, orders, dataset, i, job) },
     );
 }
 
@@ -314,10 +323,7 @@ fn run_crew<F: Send, T: Disk<F>, H: Shelf<F>, G: Gate, R: Threads + Wait + Sync>
     rt: &R,
     alloc: Global,
     gate: &G,
-    lanes: &[Lane],
-    schema: &Schema,
-    messages: &[Bytes],
-    places: &[Place],
+    orders: &Orders<'_>,
     dataset: &Dataset<F, T, H::Sealed>,
     pass: &mut DatasetPass<F, T, H::Sealed>,
     archivers: Vec<Archiver<F, H>>,
@@ -332,33 +338,23 @@ where
     requires all { (view pass.old).parts ≡ all_parts }
     requires sure { (view pass.old).doubts ≡ [] }
     requires number { (view pass.old).opening + (view pass.old).amount ≡ length (view pass.old).history }
-    requires lanes { (length archivers.items ≡ length lanes.now) × (length lanes.now ≤ 8) }
-    requires short { All (λ l. length l.steps ≤ 4096) lanes.now }
+    requires lanes { (length archivers.items ≡ length orders.now.lanes.now) × (length orders.now.lanes.now ≤ 8) }
+    requires short { All (λ l. length l.steps ≤ 4096) orders.now.lanes.now }
     requires writers { Differ (writers_of archivers.items) }
     requires archivers { All (MayBegin (view pass.old).subject (length (view pass.old).history)) archivers.items }
-    requires steps { LanesFit schema.now messages.now (view pass.old).subject (map seen_place places.now) lanes.now }
+    requires steps { LanesFit orders.now.schema.now orders.now.messages.now (view pass.old).subject (map seen_place orders.now.places.now) orders.now.lanes.now }
     requires rooms { (length rooms.items ≡ length archivers.items) × All IsRoom rooms.items }
     requires jobs { (jobs.items ≡ []) × (vec_capacity jobs ≡ length archivers.items) }
     requires back { (back.items ≡ []) × (vec_capacity back ≡ length archivers.items) × (ends.items ≡ []) × (vec_capacity ends ≡ length archivers.items) }
     ensures own { IsSame pass.old pass.new }
-    ensures ran { Ran (view pass.old) (view pass.new) (length (view pass.old).history) (all_acts schema.now messages.now (map seen_place places.now) lanes.now) result.1.items }
+    ensures ran { Ran (view pass.old) (view pass.new) (length (view pass.old).history) (all_acts orders.now.schema.now orders.now.messages.now (map seen_place orders.now.places.now) orders.now.lanes.now) result.1.items }
     ensures writers { writers_of result.0.items ≡ writers_of archivers.items }
     ensures owners { owners_of result.0.items ≡ owners_of archivers.items }
     ensures files { AreKeptFrom H.kept result.0.items (length (view pass.old).history) (view pass.new).history }
     ensures doubted { AllKept H.kept result.0.items (view pass.new).doubts }
 {
     let mut jobs = sent_out(dataset, pass, archivers, rooms, jobs);
-    run_all(
-        rt,
-        alloc,
-        gate,
-        lanes,
-        schema,
-        messages,
-        places,
-        dataset,
-        jobs.as_mut_slice(),
-    );
+    run_all(rt, alloc, gate, orders, dataset, jobs.as_mut_slice());
     let gathered = taken_in(dataset, pass, jobs, back, ends);
     dataset.catch_up(rt, pass);
     gathered
@@ -417,9 +413,14 @@ where
         ends,
     } = means;
     let its = script.lanes();
+    let orders = Orders {
+        lanes: its,
+        schema,
+        messages,
+        places,
+    };
     let (archivers, ends) = run_crew(
-        rt, alloc, gate, its, schema, messages, places, dataset, &mut pass, archivers, rooms, jobs,
-        back, ends,
+        rt, alloc, gate, &orders, dataset, &mut pass, archivers, rooms, jobs, back, ends,
     );
     let lanes = Items::from_vec(ends);
     Ok(Outcome {

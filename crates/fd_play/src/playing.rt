@@ -41,28 +41,34 @@ where
     hand_back(library, archivers, store);
 }
 
+/// What is played: a script, and what its lines name.
+#[derive(Drop)]
+struct Play<'a> {
+    schema: &'a Schema,
+    script: &'a Script,
+    messages: &'a [Bytes],
+    places: &'a [Place],
+}
+
 /// Runs the lanes over the one dataset that is open, with these archivers, one for each, and gives all back.
 fn run_lanes<F: Send, S: Store<F>, G: Gate, R: Threads + Wait + Sync>(
     rt: &R,
     alloc: Global,
-    schema: &Schema,
-    script: &Script,
-    messages: &[Bytes],
-    places: &[Place],
+    play: &Play<'_>,
     mut library: Library<F, S>,
     archivers: Archivers<F, S>,
     store: &mut S,
     gate: &G,
 ) -> Result<Transcript<F>, OpenFault<F>>
 where
-    requires staffs { (b : BoardId) × (h : OpenDataset S.Folder) × Staffs S.Folder.has b h library archivers.items × IsOpened script.now.dataset b h }
-    requires long { length archivers.items ≡ length script.now.lanes }
+    requires staffs { (b : BoardId) × (h : OpenDataset S.Folder) × Staffs S.Folder.has b h library archivers.items × IsOpened play.now.script.now.dataset b h }
+    requires long { length archivers.items ≡ length play.now.script.now.lanes }
     requires out { OutAre library.each (S.out store.old) }
-    requires steps { LanesFit schema.now messages.now script.now.dataset (map seen_place places.now) script.now.lanes }
-    requires places { ArePlaces schema.now messages.now script.now.lanes (map seen_place places.now) }
+    requires steps { LanesFit play.now.schema.now play.now.messages.now play.now.script.now.dataset (map seen_place play.now.places.now) play.now.script.now.lanes }
+    requires places { ArePlaces play.now.schema.now play.now.messages.now play.now.script.now.lanes (map seen_place play.now.places.now) }
     ensures home { (n : List ℕ) → S.out store.new n ≡ false }
-    ensures played { IfOk result (λ t. (b : BoardId) (h : OpenDataset S.Folder) → Staffs S.Folder.has b h library archivers.items → IsOpened script.now.dataset b h → PlayedOpen S.Folder.has S.Folder.Shelf.kept schema.now messages.now script.now t.before t.lanes b h (S.has store.old) (S.has store.new)) }
-    ensures idle { OnErr result ((b : BoardId) (h : OpenDataset S.Folder) → Staffs S.Folder.has b h library archivers.items → IsOpened script.now.dataset b h → WhereTold (S.has store.old) (S.has store.new) (HoldsOpened S.Folder.has h)) }
+    ensures played { IfOk result (λ t. (b : BoardId) (h : OpenDataset S.Folder) → Staffs S.Folder.has b h library archivers.items → IsOpened play.now.script.now.dataset b h → PlayedOpen S.Folder.has S.Folder.Shelf.kept play.now.schema.now play.now.messages.now play.now.script.now t.before t.lanes b h (S.has store.old) (S.has store.new)) }
+    ensures idle { OnErr result ((b : BoardId) (h : OpenDataset S.Folder) → Staffs S.Folder.has b h library archivers.items → IsOpened play.now.script.now.dataset b h → WhereTold (S.has store.old) (S.has store.new) (HoldsOpened S.Folder.has h)) }
     ensures refused { IfErr result IsPlain }
     ensures later { S.faults store.old ≤ S.faults store.new }
 {
@@ -71,7 +77,15 @@ where
     let dataset = &boards[0];
     let crew = Crew { archivers, pass };
     match lanes(
-        rt, alloc, script, schema, messages, places, dataset, crew, gate,
+        rt,
+        alloc,
+        play.script,
+        play.schema,
+        play.messages,
+        play.places,
+        dataset,
+        crew,
+        gate,
     ) {
         Ok(outcome) => {
             let Outcome { transcript, crew } = outcome;
@@ -90,33 +104,28 @@ where
 fn play_opened<F: Send, S: Store<F>, G: Gate, R: Threads + Wait + Sync>(
     rt: &R,
     alloc: Global,
-    schema: &Schema,
-    script: &Script,
-    messages: &[Bytes],
-    places: &[Place],
+    play: &Play<'_>,
     mut library: Library<F, S>,
     mut archivers: Archivers<F, S>,
     store: &mut S,
     gate: &G,
 ) -> Result<Transcript<F>, OpenFault<F>>
 where
-    requires sole { (b : BoardId) × (h : OpenDataset S.Folder) × IsSole library b h × IsOpened script.now.dataset b h }
-    requires room { (archivers.items ≡ []) × (vec_capacity archivers ≡ length script.now.lanes) }
+    requires sole { (b : BoardId) × (h : OpenDataset S.Folder) × IsSole library b h × IsOpened play.now.script.now.dataset b h }
+    requires room { (archivers.items ≡ []) × (vec_capacity archivers ≡ length play.now.script.now.lanes) }
     requires out { OutAre library.each (S.out store.old) }
-    requires steps { LanesFit schema.now messages.now script.now.dataset (map seen_place places.now) script.now.lanes }
-    requires places { ArePlaces schema.now messages.now script.now.lanes (map seen_place places.now) }
+    requires steps { LanesFit play.now.schema.now play.now.messages.now play.now.script.now.dataset (map seen_place play.now.places.now) play.now.script.now.lanes }
+    requires places { ArePlaces play.now.schema.now play.now.messages.now play.now.script.now.lanes (map seen_place play.now.places.now) }
     ensures home { (n : List ℕ) → S.out store.new n ≡ false }
-    ensures played { IfOk result (λ t. (b : BoardId) (h : OpenDataset S.Folder) → IsSole library b h → IsOpened script.now.dataset b h → PlayedOpen S.Folder.has S.Folder.Shelf.kept schema.now messages.now script.now t.before t.lanes b h (S.has store.old) (S.has store.new)) }
-    ensures idle { OnErr result ((b : BoardId) (h : OpenDataset S.Folder) → IsSole library b h → IsOpened script.now.dataset b h → WhereTold (S.has store.old) (S.has store.new) (HoldsOpened S.Folder.has h)) }
+    ensures played { IfOk result (λ t. (b : BoardId) (h : OpenDataset S.Folder) → IsSole library b h → IsOpened play.now.script.now.dataset b h → PlayedOpen S.Folder.has S.Folder.Shelf.kept play.now.schema.now play.now.messages.now play.now.script.now t.before t.lanes b h (S.has store.old) (S.has store.new)) }
+    ensures idle { OnErr result ((b : BoardId) (h : OpenDataset S.Folder) → IsSole library b h → IsOpened play.now.script.now.dataset b h → WhereTold (S.has store.old) (S.has store.new) (HoldsOpened S.Folder.has h)) }
     ensures refused { IfErr result IsPlain }
     ensures later { S.faults store.old ≤ S.faults store.new }
 {
-    let its = script.lanes();
+    let its = play.script.lanes();
     let count = its.len();
     match add_archivers(alloc, &mut library, count, &mut archivers) {
-        Ok(()) => run_lanes(
-            rt, alloc, schema, script, messages, places, library, archivers, store, gate,
-        ),
+        Ok(()) => run_lanes(rt, alloc, play, library, archivers, store, gate),
         Err(fault) => {
             hand_back(library, archivers, store);
             Err(fault)
@@ -159,9 +168,15 @@ where
     };
     let name = script.dataset();
     match library.dataset(alloc, store, name, true) {
-        Ok(Some(_number)) => play_opened(
-            rt, alloc, schema, script, messages, places, library, archivers, store, gate,
-        ),
+        Ok(Some(_number)) => {
+            let play = Play {
+                schema,
+                script,
+                messages,
+                places,
+            };
+            play_opened(rt, alloc, &play, library, archivers, store, gate)
+        }
         Ok(None) => unreachable!(),
         Err(fault) => {
             library.give_back(store);

@@ -29,7 +29,7 @@ returns-in-Ok-clause-idle g c = on_err c.run_lanes.result _ _ (λ p b h s o. p b
 pub hand_back-requires-clause-sole : goal.hand_back-requires-clause-sole
 hand_back-requires-clause-sole g c κs within =
     let r = c.requires.sole in
-    tried_ready g.S.Folder.Folder.has c.args.script.now.dataset r.0 r.1 c.add_archivers.new.library c.add_archivers.new.archivers.items r.3 (c.in-Err.ensures.err r.0 r.1 r.2)
+    tried_ready g.S.Folder.Folder.has c.args.play.now.script.now.dataset r.0 r.1 c.add_archivers.new.library c.add_archivers.new.archivers.items r.3 (c.in-Err.ensures.err r.0 r.1 r.2)
 
 pub hand_back-requires-clause-out : goal.hand_back-requires-clause-out
 hand_back-requires-clause-out g c κs within =
@@ -39,5 +39,5 @@ hand_back-requires-clause-out g c κs within =
 
 pub returns-in-Err-clause-idle : goal.returns-in-Err-clause-idle
 returns-in-Err-clause-idle g c = λ b h s o.
-    tried_idle g.S.Folder.Folder.has g.S.Folder.Shelf.Shelf.kept c.args.script.now.dataset b h c.add_archivers.new.library c.add_archivers.new.archivers.items (g.S.Store.has c.args.store.now) (g.S.Store.has c.hand_back.new.store) o (c.in-Err.ensures.err b h s)
+    tried_idle g.S.Folder.Folder.has g.S.Folder.Shelf.Shelf.kept c.args.play.now.script.now.dataset b h c.add_archivers.new.library c.add_archivers.new.archivers.items (g.S.Store.has c.args.store.now) (g.S.Store.has c.hand_back.new.store) o (c.in-Err.ensures.err b h s)
     c.hand_back.ensures.back
