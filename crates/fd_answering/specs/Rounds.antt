@@ -1,5 +1,5 @@
 -- The answer of a request in rounds: what one of them does.
-use Rattle.std.specs.Prelude.{◌≤◌, ◌<◌, ◌-◌, ℕ, List, Option, Result, Ok, Err, IfErr, IfOk, OnOk}
+use Rattle.std.specs.Prelude.{◌≤◌, ◌<◌, ◌-◌, ℕ, List, length, Option, Result, Ok, Err, IfErr, IfOk, OnOk}
 use Rattle.fd_key.specs.Pairs as keys
 use Rattle.fd_ahead.specs.declared.located.Located.{Located}
 use Rattle.fd_outcome.specs.Asking.{Answer}
@@ -41,3 +41,15 @@ module _ {F X : Type 0} (os : List Open) (ks : List (List keys.Pair)) (located :
   abbrev pub IsStep : Result (ℕ × ℕ) (Halt F X) → Type 0
   IsStep (Ok r) = (from < r.0) × (r.0 ≤ to) × IsRound {F = F} {X = X} os ks located from r.0 found output report (Ok r.1)
   IsStep (Err e) = IsRound os ks located from to found output report (Err e)
+
+module _ {F X : Type 0} (os : List Open) (ks : List (List keys.Pair)) (located : List (Option Located)) (output report : Object (List ℕ)) where
+  -- All keys were answered, and those found and those missed were counted; or why not all of them.
+  pub record IsWhole (result : Result (ℕ × ℕ) (Halt F X)) : Type 0 where
+    pub answered : IfOk result (λ r. (xs : List Answer) → AreAt os ks xs located → IsAnswered xs (length xs) output.before output.now report.before report.now r.0 r.1)
+    pub halted : IfErr result (λ e. (xs : List Answer) → AreAt os ks xs located → IsAnsweredInPart xs output.before output.now report.before report.now)
+    pub output_later : output.faults_before ≤ output.faults_now
+    pub calm : OnOk result (IsCalm output)
+    pub report_later : report.faults_before ≤ report.faults_now
+    pub cause : IfErr result (λ e. OnUnwritten e (Failed output) (Failed report))
+    pub damaged : IfErr result (λ e. OnDamaged e (IsDamagedAt os))
+    pub grew : TookSome report.before report.now

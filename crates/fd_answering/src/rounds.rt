@@ -1,11 +1,10 @@
 // The answer of a request, in rounds.
-ghost use Rattle.std.specs.Prelude.{◌≡◌, ◌≤◌, ◌<◌, ◌^◌, All, List, length, IfOk, IfErr, OnOk};
-ghost use Rattle.fd_bytes.specs.Causes.{Rose};
+ghost use Rattle.std.specs.Prelude.{◌≡◌, ◌≤◌, ◌<◌, ◌^◌, All, List, length};
 ghost use Rattle.fd_request.specs.Expansion.{expand};
-ghost use Rattle.fd_outcome.specs.{Asking.{Answer}, Objects.{object}};
+ghost use Rattle.fd_outcome.specs.Objects.{object};
 ghost use Rattle.fd_objects.specs.Given.{sink_of};
 ghost use Rattle.fd_ahead.specs.{Places.{AreIn, Open}, Reading.{IsJob, IsStock}};
-ghost use Rattle.fd_answering.specs.{Damages.{IsDamagedAt}, Located.{AreAt}, Finding.{IsAnswered, IsAnsweredInPart, OnDamaged, OnUnwritten, TookSome}, Rounds.{IsRound}};
+ghost use Rattle.fd_answering.specs.Rounds.{IsRound, IsWhole};
 
 use crate::answering::{Halt, answer_some};
 use fd_ahead::{Located, Opened, ReadJob, ReadStock, Stock, deal, jobs_for, read_beside};
@@ -108,17 +107,7 @@ where
     requires within { AreIn opened.now located.now }
     requires jobs { All (IsJob opened.now) jobs.old }
     requires stock { IsStock opened.now stock.old }
-    ensures answered { IfOk result (λ r. (xs : List Answer) → AreAt opened.now (expand request.now) xs located.now
-        → IsAnswered xs (length xs) (K.taken output.old) (K.taken output.new) (E.taken report.old) (E.taken report.new) r.0 r.1) }
-    ensures halted { IfErr result (λ e. (xs : List Answer) → AreAt opened.now (expand request.now) xs located.now
-        → IsAnsweredInPart xs (K.taken output.old) (K.taken output.new) (E.taken report.old) (E.taken report.new)) }
-    ensures output { K.faults output.old ≤ K.faults output.new }
-    ensures calm { OnOk result (K.faults output.new ≡ K.faults output.old) }
-    ensures report { E.faults report.old ≤ E.faults report.new }
-    ensures cause { IfErr result (λ e. OnUnwritten e (Rose (K.faults output.old) (K.faults output.new))
-        (Rose (E.faults report.old) (E.faults report.new))) }
-    ensures damaged { IfErr result (λ e. OnDamaged e (IsDamagedAt opened.now)) }
-    ensures grew { TookSome (E.taken report.old) (E.taken report.new) }
+    ensures whole { IsWhole opened.now (expand request.now) located.now (sink_of K.Sink output) (sink_of E.Sink report) result }
 {
     let count = request.count();
     let mut found = 0;
@@ -155,17 +144,7 @@ pub fn answer_all<F: Send + Drop, X, Z: Sealed<F>, K: Sink<X>, E: Sink<X>, R: Th
 where
     requires count { length located.now ≡ length (expand request.now) }
     requires within { AreIn opened.now located.now }
-    ensures answered { IfOk result (λ r. (xs : List Answer) → AreAt opened.now (expand request.now) xs located.now
-        → IsAnswered xs (length xs) (K.taken output.old) (K.taken output.new) (E.taken report.old) (E.taken report.new) r.0 r.1) }
-    ensures halted { IfErr result (λ e. (xs : List Answer) → AreAt opened.now (expand request.now) xs located.now
-        → IsAnsweredInPart xs (K.taken output.old) (K.taken output.new) (E.taken report.old) (E.taken report.new)) }
-    ensures output { K.faults output.old ≤ K.faults output.new }
-    ensures calm { OnOk result (K.faults output.new ≡ K.faults output.old) }
-    ensures report { E.faults report.old ≤ E.faults report.new }
-    ensures cause { IfErr result (λ e. OnUnwritten e (Rose (K.faults output.old) (K.faults output.new))
-        (Rose (E.faults report.old) (E.faults report.new))) }
-    ensures damaged { IfErr result (λ e. OnDamaged e (IsDamagedAt opened.now)) }
-    ensures grew { TookSome (E.taken report.old) (E.taken report.new) }
+    ensures whole { IsWhole opened.now (expand request.now) located.now (sink_of K.Sink output) (sink_of E.Sink report) result }
 {
     let Ok(mut jobs) = jobs_for(alloc, workers) else {
         return Err(Halt::NoMemory);

@@ -152,25 +152,19 @@ impl Turns {
         }
     }
 
+    /// Counts a step among those of its own, and holds it.
+    fn count_step(&self, lane: u32, step: u32, own: &AtomicU64, other: &AtomicU64) {
+        own.fetch_add(1, Ordering::SeqCst);
+        self.hold(lane, step, other);
+    }
+
     /// A step of a lane, or a read of the input.
     fn come(&self, lane: u32, step: u32) {
         match lane {
-            0 => {
-                self.reads.fetch_add(1, Ordering::SeqCst);
-                self.hold(lane, step, &self.third);
-            }
-            1 => {
-                self.first.fetch_add(1, Ordering::SeqCst);
-                self.hold(lane, step, &self.second);
-            }
-            2 => {
-                self.second.fetch_add(1, Ordering::SeqCst);
-                self.hold(lane, step, &self.first);
-            }
-            3 => {
-                self.third.fetch_add(1, Ordering::SeqCst);
-                self.hold(lane, step, &self.reads);
-            }
+            0 => self.count_step(lane, step, &self.reads, &self.third),
+            1 => self.count_step(lane, step, &self.first, &self.second),
+            2 => self.count_step(lane, step, &self.second, &self.first),
+            3 => self.count_step(lane, step, &self.third, &self.reads),
             _ => {}
         }
     }

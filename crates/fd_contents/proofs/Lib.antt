@@ -8,6 +8,7 @@ mod Partial
 mod Exits
 mod Noticed
 mod Firmly
+mod Listed
 mod Gathered
 mod Askable
 mod CubeExits

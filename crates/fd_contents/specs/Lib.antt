@@ -6,3 +6,4 @@ pub mod Told
 pub mod Recorded
 pub mod Gathering
 pub mod Printed
+pub mod Listing

@@ -3,13 +3,13 @@ ghost use Rattle.std.specs.Prelude.{◌≡◌, ◌⊎◌, List, ℕ, Option, IfS
 ghost use Rattle.fd_disk.specs.Folders.{Holdings};
 ghost use Rattle.fd_words.specs.declared.command.Command.{Command};
 ghost use Rattle.fd_words.specs.declared.command.Command.TheVariants as commands;
-ghost use Rattle.fd_outcome.specs.{declared.status.Status.TheVariants.{Done, Missed}, Noticing.{AnswersFirmly, Notices, ReadsFitly}, Ran.{Ran}, Rows.{axes_text, list_text}, Store.{AreNames}};
+ghost use Rattle.fd_outcome.specs.{declared.status.Status.TheVariants.{Done, Missed}, Noticing.{AnswersFirmly, Notices}, Ran.{Ran}, Rows.{axes_text, list_text}, Store.{AreNames}};
 ghost use Rattle.fd_objects.specs.Objects.{Over, since, until};
 ghost use Rattle.fd_retrieve.specs.Ready.{AreFirmOf};
-ghost use Rattle.fd_contents.specs.{Asked.{Begins}, Printed.{PrintsAll}, Recorded.{CountsRecords, ListsRecords}};
+ghost use Rattle.fd_contents.specs.{Asked.{Begins}, Listing.{Lists, command_with, keys_text}, Printed.{PrintsAll}, Recorded.{CountsRecords}};
 
 use crate::datasets::{Halt, print};
-use crate::lines::Lines;
+use crate::lines::{KeyLines, Lines, lines_with};
 use crate::reading::{partial, ruled};
 use fd_objects::{Objects, World};
 use fd_outcome::{Status, tell_output_failed};
@@ -22,25 +22,10 @@ use fd_words::Root;
 /// the store. At 0 all tables are firm then, so what was listed outlasts a crash.
 pub fn list<W: World>(objects: &mut Objects<W>, root: &Root) -> Status
     requires home { (name : List ℕ) → W.Store.out objects.old.store name ≡ false }
-    ensures ran { Over W.Store.Store W.Input.Source W.Output.Sink W.Report.Sink objects (Ran (commands.List root.now) result) }
-    ensures notices { Over W.Store.Store W.Input.Source W.Output.Sink W.Report.Sink objects (Notices (commands.List root.now) result) }
-    ensures firm { Over W.Store.Store W.Input.Source W.Output.Sink W.Report.Sink objects
-        (λ store input _ _. AnswersFirmly (commands.List root.now) result store input) }
-    ensures recorded { Over W.Store.Store W.Input.Source W.Output.Sink W.Report.Sink objects
-        (λ store input output _. ListsRecords list_text result input.before store.before output) }
-    ensures unread { Over W.Store.Store W.Input.Source W.Output.Sink W.Report.Sink objects
-        (λ store input _ _. ReadsFitly (commands.List root.now) store input) }
+    ensures lists { Over W.Store.Store W.Input.Source W.Output.Sink W.Report.Sink objects (Lists (commands.List root.now) list_text result) }
     ensures home { (name : List ℕ) → W.Store.out objects.new.store name ≡ false }
 {
-    match partial(
-        objects.alloc,
-        root.as_str(),
-        &mut objects.store,
-        &mut objects.input,
-    ) {
-        Ok(partial) => printed(objects, &Lines::List(partial)),
-        Err(stop) => tell_stop(objects.alloc, &mut objects.store, &mut objects.report, stop),
-    }
+    listed(objects, root, KeyLines::List)
 }
 
 /// Writes a line for each index text of the keys that the partial request on the input asks for, and each name in their
@@ -48,25 +33,10 @@ pub fn list<W: World>(objects: &mut Objects<W>, root: &Root) -> Status
 /// No folder of the store is out, and none is out afterwards; nothing is made in the store.
 pub fn axes<W: World>(objects: &mut Objects<W>, root: &Root) -> Status
     requires home { (name : List ℕ) → W.Store.out objects.old.store name ≡ false }
-    ensures ran { Over W.Store.Store W.Input.Source W.Output.Sink W.Report.Sink objects (Ran (commands.Axes root.now) result) }
-    ensures notices { Over W.Store.Store W.Input.Source W.Output.Sink W.Report.Sink objects (Notices (commands.Axes root.now) result) }
-    ensures firm { Over W.Store.Store W.Input.Source W.Output.Sink W.Report.Sink objects
-        (λ store input _ _. AnswersFirmly (commands.Axes root.now) result store input) }
-    ensures recorded { Over W.Store.Store W.Input.Source W.Output.Sink W.Report.Sink objects
-        (λ store input output _. ListsRecords axes_text result input.before store.before output) }
-    ensures unread { Over W.Store.Store W.Input.Source W.Output.Sink W.Report.Sink objects
-        (λ store input _ _. ReadsFitly (commands.Axes root.now) store input) }
+    ensures lists { Over W.Store.Store W.Input.Source W.Output.Sink W.Report.Sink objects (Lists (commands.Axes root.now) axes_text result) }
     ensures home { (name : List ℕ) → W.Store.out objects.new.store name ≡ false }
 {
-    match partial(
-        objects.alloc,
-        root.as_str(),
-        &mut objects.store,
-        &mut objects.input,
-    ) {
-        Ok(partial) => printed(objects, &Lines::Axes(partial)),
-        Err(stop) => tell_stop(objects.alloc, &mut objects.store, &mut objects.report, stop),
-    }
+    listed(objects, root, KeyLines::Axes)
 }
 
 /// Writes a line for each dataset that has a table: `DATASET entries n fields f keys k bytes b`, in byte order. The input isn't
@@ -84,6 +54,27 @@ pub fn stats<W: World>(objects: &mut Objects<W>, root: &Root) -> Status
 {
     match ruled(objects.alloc, root.as_str(), &mut objects.store) {
         Ok(()) => printed(objects, &Lines::Stats),
+        Err(stop) => tell_stop(objects.alloc, &mut objects.store, &mut objects.report, stop),
+    }
+}
+
+/// Writes such lines of the keys that the partial request on the input asks for.
+fn listed<W: World>(objects: &mut Objects<W>, root: &Root, kind: KeyLines) -> Status
+    requires home { (name : List ℕ) → W.Store.out objects.old.store name ≡ false }
+    ensures lists { Over W.Store.Store W.Input.Source W.Output.Sink W.Report.Sink objects
+        (Lists (command_with kind root.now) (keys_text kind) result) }
+    ensures home { (name : List ℕ) → W.Store.out objects.new.store name ≡ false }
+{
+    match partial(
+        objects.alloc,
+        root.as_str(),
+        &mut objects.store,
+        &mut objects.input,
+    ) {
+        Ok(partial) => {
+            let lines = lines_with(kind, partial);
+            printed(objects, &lines)
+        }
         Err(stop) => tell_stop(objects.alloc, &mut objects.store, &mut objects.report, stop),
     }
 }

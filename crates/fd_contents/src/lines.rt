@@ -4,7 +4,7 @@ ghost use Rattle.fd_disk.specs.Folders.{Holdings};
 ghost use Rattle.fd_io.specs.Streams.{TakesFront};
 ghost use Rattle.fd_inventory.specs.{Indexes.{IsAmongBad, OnLines}, Written.{HasLinesCause}};
 ghost use Rattle.fd_retrieve.specs.Open.{IsOpenIn};
-ghost use Rattle.fd_contents.specs.{Printed.{TakesText}, Texts.{text_for}};
+ghost use Rattle.fd_contents.specs.{Listing.{lines_with}, Printed.{TakesText}, Texts.{text_for}};
 
 use fd_disk::Sealed;
 use fd_inventory::{LinesFault, axes, list, stats};
@@ -12,6 +12,15 @@ use fd_io::Sink;
 use fd_request::Partial;
 use fd_retrieve::Opened;
 use std::alloc::Global;
+
+/// What is written of the keys that a partial request asks for.
+#[derive(Clone, Copy)]
+pub(crate) enum KeyLines {
+    /// A line for each key.
+    List,
+    /// A line for each name in the keys, with its values.
+    Axes,
+}
 
 /// What is written of each dataset.
 #[derive(Drop)]
@@ -22,6 +31,16 @@ pub(crate) enum Lines {
     Axes(Partial),
     /// One line, with the numbers of the whole.
     Stats,
+}
+
+/// Such lines of the keys that this partial request asks for.
+pub(crate) fn lines_with(kind: KeyLines, partial: Partial) -> Lines
+    ensures { result ≡ lines_with kind partial }
+{
+    match kind {
+        KeyLines::List => Lines::List(partial),
+        KeyLines::Axes => Lines::Axes(partial),
+    }
 }
 
 /// Writes the lines of a dataset.

@@ -5,8 +5,10 @@
 mod dealing;
 mod finding;
 mod looking;
+mod places;
 mod searching;
 mod spot;
 
 pub use finding::find_all;
+pub use places::again;
 pub use spot::Spot;

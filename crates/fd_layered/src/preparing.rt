@@ -12,23 +12,15 @@ ghost use Rattle.fd_telling.specs.Stops.{IsOfRequest, IsRefused, OnInput, OnRefu
 ghost use Rattle.fd_layered.specs.{Chains.{AreChains}, Ready.{IsReady, laid_in, laid_with}};
 
 use crate::placing::places_over;
-use fd_disk::{Folder, Sealed, Store};
+use fd_disk::{Folder, Store};
 use fd_io::Source;
 use fd_outcome::{Unruled, stored_schema};
 use fd_request::Request;
-use fd_retrieve::{Opened, open_all, request_of, tables_of};
+use fd_retrieve::{Ready, open_all, request_of, tables_of};
 use fd_schema::Place;
 use fd_telling::Stop;
 use fd_words::Layers;
 use std::alloc::Global;
-
-/// A request, the places of its keys with those under the layers behind each, and the datasets of the places that have tables.
-#[derive(Drop)]
-pub(crate) struct Ready<F: Send, Z: Sealed<F>> {
-    pub(crate) request: Request,
-    pub(crate) places: Vec<Place>,
-    pub(crate) opened: Vec<Opened<F, Z>>,
-}
 
 /// Reads the request, and opens the datasets of its keys and those under them. Each is given back.
 pub(crate) fn prepared<F: Send, X: Drop, S: Store<F>, I: Source<X>>(

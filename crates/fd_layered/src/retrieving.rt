@@ -10,11 +10,11 @@ ghost use Rattle.fd_retrieve.specs.{Commands.{Begins}, Open.{table_in}};
 ghost use Rattle.fd_layered.specs.{Chains.{AreChains}, Ready.{IsReady, laid_with}};
 
 use crate::nearest::locate_over;
-use crate::preparing::{Ready, prepared};
+use crate::preparing::prepared;
 use fd_disk::Sealed;
 use fd_objects::{Objects, World};
 use fd_outcome::Status;
-use fd_retrieve::answer_located;
+use fd_retrieve::{Ready, answer_located};
 use fd_telling::tell_stop;
 use fd_words::{Layers, Root};
 use std::sync::Wait;

@@ -11,7 +11,7 @@ use crate::spot::{FindFault, LayerSpot};
 use fd_bytes::NoMemory;
 use fd_dataset::Snapshot;
 use fd_disk::Sealed;
-use fd_finding::{Spot, find_all};
+use fd_finding::{Spot, again, find_all};
 use fd_io::Gate;
 use fd_schema::Place;
 use fd_segment::LensFault;
@@ -28,18 +28,6 @@ fn nowhere(alloc: Global, places: &[Place]) -> Result<Vec<Option<LayerSpot>>, No
         spots.push(None)?;
     }
     Ok(spots)
-}
-
-/// A place of the same texts.
-fn again(alloc: Global, place: &Place) -> Result<Place, NoMemory>
-    ensures { IfOk result (λ p. seen_place p ≡ seen_place place.now) }
-{
-    Ok(Place {
-        rule: place.rule,
-        dataset: String::from_str(alloc, place.dataset.as_str())?,
-        index: String::from_str(alloc, place.index.as_str())?,
-        datum: String::from_str(alloc, place.datum.as_str())?,
-    })
 }
 
 /// Puts a place of the same texts behind the others, unless its spot is known.

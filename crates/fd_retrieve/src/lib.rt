@@ -14,6 +14,6 @@ pub use counting::{Counted, count_found};
 pub use fd_ahead::{Located, Opened};
 pub use locating::{Lost, locate};
 pub use opened::open;
-pub use preparing::{open_all, unopened};
+pub use preparing::{Ready, open_all, unopened};
 pub use retrieving::{answer_located, retrieve};
 pub use tables::{has_table, tables_of};

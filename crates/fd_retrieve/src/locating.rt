@@ -1,13 +1,12 @@
 // Where the newest fields of a request's keys stand.
 ghost use Rattle.std.specs.{Prelude.{◌≡◌, ◌≤◌, ◌<◌, ◌+◌, ◌++◌, ◌∷◌, [], List, ℕ, Option, Some, None, cond, length, slice_get, slice_index_or, IfOk, IfErr, IfSome, OnOk}, BTreeMap.{get_by_text}, Str.{bytes_eq}};
-ghost use Rattle.fd_schema.specs.Reading.{seen_place};
 ghost use Rattle.fd_retrieve.specs.Located.{AreDealt, AreGroups, AreLocated, AreLocatedBy, AreNumbersOf, ArePlacesOf, AreWithin, IsFilled, IsNumberOf, OnLost, keys_in, located_in};
 ghost use Rattle.fd_answering.specs.Damages.{IsDamagedAt};
 
 use fd_ahead::{Located, Opened};
 use fd_bytes::NoMemory;
 use fd_disk::Sealed;
-use fd_finding::{Spot, find_all};
+use fd_finding::{Spot, again, find_all};
 use fd_io::Gate;
 use fd_schema::Place;
 use fd_segment::{Damage, LensFault};
@@ -245,18 +244,6 @@ fn keys_of(groups: &[Vec<usize>], number: usize) -> &[usize]
     ensures { result.now ≡ keys_in groups.now number }
 {
     groups[number].as_slice()
-}
-
-/// A place of the same texts.
-fn again(alloc: Global, place: &Place) -> Result<Place, NoMemory>
-    ensures { IfOk result (λ p. seen_place p ≡ seen_place place.now) }
-{
-    Ok(Place {
-        rule: place.rule,
-        dataset: String::from_str(alloc, place.dataset.as_str())?,
-        index: String::from_str(alloc, place.index.as_str())?,
-        datum: String::from_str(alloc, place.datum.as_str())?,
-    })
 }
 
 /// The key at a place of these, which are among so many.

@@ -25,10 +25,13 @@ use std::alloc::Global;
 
 /// A request, the places of its keys, and the datasets of the places that have tables.
 #[derive(Drop)]
-pub(crate) struct Ready<F: Send, Z: Sealed<F>> {
-    pub(crate) request: Request,
-    pub(crate) places: Vec<Place>,
-    pub(crate) opened: Vec<Opened<F, Z>>,
+pub struct Ready<F: Send, Z: Sealed<F>> {
+    /// The request.
+    pub request: Request,
+    /// The places of its keys, in its order; over layers, each with those under the layers behind it.
+    pub places: Vec<Place>,
+    /// The datasets of the places that have tables.
+    pub opened: Vec<Opened<F, Z>>,
 }
 
 /// Reads the request, and opens the datasets of its keys. Each is given back.

@@ -29,6 +29,7 @@ use Rattle.fd_outcome.specs.declared.refusal.Refusal.{Refusal}
 use Rattle.fd_outcome.specs.declared.refusal.Refusal.TheVariants as refusals
 use Rattle.fd_outcome.specs.declared.status.Status.{Status}
 use Rattle.fd_outcome.specs.declared.status.Status.TheVariants as statuses
+use Rattle.fd_outcome.specs.declared.stored.Unruled.{Unruled}
 use Rattle.fd_outcome.specs.declared.stored.Unruled.TheVariants as unruled
 use Rattle.fd_outcome.specs.Asking.{rules_of}
 use Rattle.fd_outcome.specs.Causes.{BadFile, BadTable, Broken, InStored, SchemaMissing, Telling, TooManyDatasets, damaged_line, is_schema_limit, telling}
@@ -36,8 +37,9 @@ use Rattle.fd_outcome.specs.Objects.{IsCalm, Object, object}
 use Rattle.fd_outcome.specs.Refusals.{refusal_line, refusal_status}
 use Rattle.fd_outcome.specs.Store.{Stands}
 use Rattle.fd_outcome.specs.Told.{ToldOrNoMemory}
+use Rattle.fd_outcome.specs.Unruled as rulings
 use Rattle.fd_outcome.specs.Unruled.{IsUnruled}
-use Rattle.fd_telling.specs.Stops.{ToldSome}
+use Rattle.fd_telling.specs.Stops.{ToldSome, ToldUnruled}
 use Rattle.fd_lanes.specs.declared.end.End.{End}
 use Rattle.fd_outcome.specs.Noticing.{SparesDamaged}
 use Rattle.fd_play.specs.Plays.{HoldsSame, IsUnopened, LeavesUnplayed, Played}
@@ -146,6 +148,14 @@ module _ (s : Status) (now : Option Holdings) (i j : ℕ) (input : Object (List 
       Refuses (telling (InStored text fault)) (inl (stored_can text fault))
       (both_some (λ octets. Unit {0}) (λ (x : Unit {0}). Unit {0}) (λ octets x. Refused h octets (telling (InStored text fault))) input.before (Some tt) (any_some input.before) tt
       (λ octets x y z. BySchema (InStored text fault) (rw (is, first.place) refl) refl)) calm (all text fault first)
+
+module _ {F : Type 0} (s : Status) (before now : Option Holdings) (i k j : ℕ) (input : Object (List ℕ)) (calm : IsCalm input) (c d : Option (List ℕ)) (m n : ℕ) where
+  -- why the store has no rules was told; it counted i faults first, k once its schema was asked for, and counts j now
+  pub unruled_halts : (e : Unruled F) → IfSome before (λ h. IsUnruled h.schema e) → ToldUnruled e s c d m n → i ≤ k → rulings.OnDisk e (Rose k j) → Halts s (object before now i j) input (object c d m n)
+  unruled_halts (unruled.Disk f) is told le rose = Unheld (rose_behind i k j le rose) told
+  unruled_halts unruled.Missing is told le rose = Refuses (telling SchemaMissing) (inl refl) (missing_is input.before before is) calm (inl told)
+  unruled_halts (unruled.At line kind) is told le rose = schema_halts s now i j input calm c d m n before F line kind is told.0 told.1
+  unruled_halts unruled.NoMemory is told le rose = Starves told
 
 -- ---- the input isn't accepted
 

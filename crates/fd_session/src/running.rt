@@ -19,14 +19,13 @@ use fd_io::Sink;
 use fd_lanes::Transcript;
 use fd_objects::{Objects, World};
 use fd_outcome::{
-    Status, Unruled, stored_schema, tell, tell_disk_failed, tell_input_failed, tell_no_memory,
-    tell_refusal,
+    Status, stored_schema, tell, tell_disk_failed, tell_input_failed, tell_no_memory, tell_refusal,
 };
 use fd_play::play;
 use fd_recovery::OpenFault;
 use fd_schema::{Place, Schema};
 use fd_script::ScriptFault;
-use fd_telling::{Broken, tell_broken, tell_schema};
+use fd_telling::{Broken, tell_broken, tell_unruled};
 use fd_words::Root;
 use std::alloc::Global;
 use std::sync::Wait;
@@ -49,22 +48,12 @@ pub fn session<W: World, R: Threads + Wait + Sync>(
 {
     match stored_schema(objects.alloc, &mut objects.store, root.as_str()) {
         Ok(schema) => session_by(rt, objects, &schema),
-        Err(Unruled::Disk(fault)) => {
-            objects.store.note(fault);
-            tell_disk_failed(&mut objects.report)
-        }
-        Err(Unruled::Missing) => tell(
-            &mut objects.report,
-            "refused SchemaMissing\n",
-            Status::Refused,
-        ),
-        Err(Unruled::At { line, kind }) => tell_schema(
+        Err(unruled) => tell_unruled(
             objects.alloc,
+            &mut objects.store,
             &mut objects.report,
-            line,
-            &kind,
+            unruled,
         ),
-        Err(Unruled::NoMemory) => tell_no_memory(&mut objects.report),
     }
 }
 

@@ -50,8 +50,8 @@ returns-in-Ok-answer_all-clause-ran g c = λ root over before faults left reads 
     let there : (xs : List Answer) → o ≡ Some xs → AreAt c.args.opened.now (expand c.args.request.now) xs c.in-Ok.located.items = rw c.in-Ok.is at at in
     counted_ran root over c.args.workers before _ _ faults _ _ input (object (g.W.Output.Sink.taken c.args.objects.now.output) (g.W.Output.Sink.taken c.answer_all.new.output) (g.W.Output.Sink.faults c.args.objects.now.output) (g.W.Output.Sink.faults c.answer_all.new.output))
     (object (g.W.Report.Sink.taken c.args.objects.now.report) (g.W.Report.Sink.taken c.tell_counts.new.report) (g.W.Report.Sink.faults c.args.objects.now.report) (g.W.Report.Sink.faults c.tell_counts.new.report))
-    c.args.opened.now o begins refl (g.W.Report.Sink.taken c.answer_all.new.report) (g.W.Report.Sink.faults c.answer_all.new.report) c.tell_counts.result c.in-Ok-answer_all.ensures.report
-    c.in-Ok-answer_all.found c.in-Ok-answer_all.missed c.tell_counts.ensures c.in-Ok-answer_all.ensures.calm (λ xs e. c.in-Ok-answer_all.ensures.answered xs (subst (AreAt c.args.opened.now (expand c.args.request.now) xs) (sym c.deref.ensures.value) (there xs e))) c.in-Ok-answer_all.ensures.grew
+    c.args.opened.now o begins refl (g.W.Report.Sink.taken c.answer_all.new.report) (g.W.Report.Sink.faults c.answer_all.new.report) c.tell_counts.result c.in-Ok-answer_all.ensures.whole.report_later
+    c.in-Ok-answer_all.found c.in-Ok-answer_all.missed c.tell_counts.ensures c.in-Ok-answer_all.ensures.whole.calm (λ xs e. c.in-Ok-answer_all.ensures.whole.answered xs (subst (AreAt c.args.opened.now (expand c.args.request.now) xs) (sym c.deref.ensures.value) (there xs e))) c.in-Ok-answer_all.ensures.whole.grew
 
 pub returns-in-Err-Disk-answer_all-clause-ran : goal.returns-in-Err-Disk-answer_all-clause-ran
 returns-in-Err-Disk-answer_all-clause-ran g c = λ root over before faults left reads o begins at.
@@ -59,8 +59,8 @@ returns-in-Err-Disk-answer_all-clause-ran g c = λ root over before faults left 
     let there : (xs : List Answer) → o ≡ Some xs → AreAt c.args.opened.now (expand c.args.request.now) xs c.in-Ok.located.items = rw c.in-Ok.is at at in
     disk_ran root over c.args.workers before _ _ faults _ _ input (object (g.W.Output.Sink.taken c.args.objects.now.output) (g.W.Output.Sink.taken c.answer_all.new.output) (g.W.Output.Sink.faults c.args.objects.now.output) (g.W.Output.Sink.faults c.answer_all.new.output))
     (object (g.W.Report.Sink.taken c.args.objects.now.report) (g.W.Report.Sink.taken c.tell_disk_failed-in-Err-Disk-answer_all.new.report) (g.W.Report.Sink.faults c.args.objects.now.report) (g.W.Report.Sink.faults c.tell_disk_failed-in-Err-Disk-answer_all.new.report))
-    c.args.opened.now o begins c.note-in-Err-Disk-answer_all.ensures.has (g.W.Report.Sink.taken c.answer_all.new.report) (g.W.Report.Sink.faults c.answer_all.new.report) c.tell_disk_failed-in-Err-Disk-answer_all.result c.in-Err-Disk-answer_all.ensures.report
-    c.tell_disk_failed-in-Err-Disk-answer_all.ensures (rose_later faults _ _ begins.later c.note-in-Err-Disk-answer_all.ensures.cause) (λ xs e. c.in-Err-Disk-answer_all.ensures.halted xs (subst (AreAt c.args.opened.now (expand c.args.request.now) xs) (sym c.deref.ensures.value) (there xs e))) c.in-Err-Disk-answer_all.ensures.grew
+    c.args.opened.now o begins c.note-in-Err-Disk-answer_all.ensures.has (g.W.Report.Sink.taken c.answer_all.new.report) (g.W.Report.Sink.faults c.answer_all.new.report) c.tell_disk_failed-in-Err-Disk-answer_all.result c.in-Err-Disk-answer_all.ensures.whole.report_later
+    c.tell_disk_failed-in-Err-Disk-answer_all.ensures (rose_later faults _ _ begins.later c.note-in-Err-Disk-answer_all.ensures.cause) (λ xs e. c.in-Err-Disk-answer_all.ensures.whole.halted xs (subst (AreAt c.args.opened.now (expand c.args.request.now) xs) (sym c.deref.ensures.value) (there xs e))) c.in-Err-Disk-answer_all.ensures.whole.grew
 
 pub returns-in-Err-Unwritten-clause-ran : goal.returns-in-Err-Unwritten-clause-ran
 returns-in-Err-Unwritten-clause-ran g c = λ root over before faults left reads o begins at.
@@ -68,8 +68,8 @@ returns-in-Err-Unwritten-clause-ran g c = λ root over before faults left reads 
     let there : (xs : List Answer) → o ≡ Some xs → AreAt c.args.opened.now (expand c.args.request.now) xs c.in-Ok.located.items = rw c.in-Ok.is at at in
     unwritten_ran root over c.args.workers before _ _ faults _ _ input (object (g.W.Output.Sink.taken c.args.objects.now.output) (g.W.Output.Sink.taken c.answer_all.new.output) (g.W.Output.Sink.faults c.args.objects.now.output) (g.W.Output.Sink.faults c.answer_all.new.output))
     (object (g.W.Report.Sink.taken c.args.objects.now.report) (g.W.Report.Sink.taken c.tell_output_failed.new.report) (g.W.Report.Sink.faults c.args.objects.now.report) (g.W.Report.Sink.faults c.tell_output_failed.new.report))
-    c.args.opened.now o begins refl (g.W.Report.Sink.taken c.answer_all.new.report) (g.W.Report.Sink.faults c.answer_all.new.report) c.tell_output_failed.result c.in-Err-Unwritten.ensures.report
-    c.tell_output_failed.ensures (rw c.in-Err-Unwritten.field-0-is at c.in-Err-Unwritten.ensures.cause) (λ xs e. c.in-Err-Unwritten.ensures.halted xs (subst (AreAt c.args.opened.now (expand c.args.request.now) xs) (sym c.deref.ensures.value) (there xs e))) c.in-Err-Unwritten.ensures.grew
+    c.args.opened.now o begins refl (g.W.Report.Sink.taken c.answer_all.new.report) (g.W.Report.Sink.faults c.answer_all.new.report) c.tell_output_failed.result c.in-Err-Unwritten.ensures.whole.report_later
+    c.tell_output_failed.ensures (rw c.in-Err-Unwritten.field-0-is at c.in-Err-Unwritten.ensures.whole.cause) (λ xs e. c.in-Err-Unwritten.ensures.whole.halted xs (subst (AreAt c.args.opened.now (expand c.args.request.now) xs) (sym c.deref.ensures.value) (there xs e))) c.in-Err-Unwritten.ensures.whole.grew
 
 pub returns-in-Err-Untold-clause-ran : goal.returns-in-Err-Untold-clause-ran
 returns-in-Err-Untold-clause-ran g c = λ root over before faults left reads o begins at.
@@ -77,19 +77,19 @@ returns-in-Err-Untold-clause-ran g c = λ root over before faults left reads o b
     let there : (xs : List Answer) → o ≡ Some xs → AreAt c.args.opened.now (expand c.args.request.now) xs c.in-Ok.located.items = rw c.in-Ok.is at at in
     untold_ran root over c.args.workers before _ _ faults _ _ input (object (g.W.Output.Sink.taken c.args.objects.now.output) (g.W.Output.Sink.taken c.answer_all.new.output) (g.W.Output.Sink.faults c.args.objects.now.output) (g.W.Output.Sink.faults c.answer_all.new.output))
     (object (g.W.Report.Sink.taken c.args.objects.now.report) (g.W.Report.Sink.taken c.answer_all.new.report) (g.W.Report.Sink.faults c.args.objects.now.report) (g.W.Report.Sink.faults c.answer_all.new.report))
-    c.args.opened.now o begins refl (g.W.Report.Sink.taken c.answer_all.new.report) (g.W.Report.Sink.faults c.answer_all.new.report) _ c.in-Err-Untold.ensures.report
-    refl refl (rw c.in-Err-Untold.field-0-is at c.in-Err-Untold.ensures.cause) (λ xs e. c.in-Err-Untold.ensures.halted xs (subst (AreAt c.args.opened.now (expand c.args.request.now) xs) (sym c.deref.ensures.value) (there xs e)))
+    c.args.opened.now o begins refl (g.W.Report.Sink.taken c.answer_all.new.report) (g.W.Report.Sink.faults c.answer_all.new.report) _ c.in-Err-Untold.ensures.whole.report_later
+    refl refl (rw c.in-Err-Untold.field-0-is at c.in-Err-Untold.ensures.whole.cause) (λ xs e. c.in-Err-Untold.ensures.whole.halted xs (subst (AreAt c.args.opened.now (expand c.args.request.now) xs) (sym c.deref.ensures.value) (there xs e)))
 
 pub returns-in-Err-Damaged-answer_all-clause-ran : goal.returns-in-Err-Damaged-answer_all-clause-ran
 returns-in-Err-Damaged-answer_all-clause-ran g c = λ root over before faults left reads o begins at.
     let input = object left (g.W.Input.Source.left c.args.objects.now.input) reads (g.W.Input.Source.faults c.args.objects.now.input) in
     let there : (xs : List Answer) → o ≡ Some xs → AreAt c.args.opened.now (expand c.args.request.now) xs c.in-Ok.located.items = rw c.in-Ok.is at at in
-    let bad : IsDamagedAt c.args.opened.now c.in-Err-Damaged-answer_all.number c.in-Err-Damaged-answer_all.damage = rw c.in-Err-Damaged-answer_all.field-0-is at c.in-Err-Damaged-answer_all.ensures.damaged in
+    let bad : IsDamagedAt c.args.opened.now c.in-Err-Damaged-answer_all.number c.in-Err-Damaged-answer_all.damage = rw c.in-Err-Damaged-answer_all.field-0-is at c.in-Err-Damaged-answer_all.ensures.whole.damaged in
     damaged_ran root over c.args.workers before _ _ faults _ _ input (object (g.W.Output.Sink.taken c.args.objects.now.output) (g.W.Output.Sink.taken c.answer_all.new.output) (g.W.Output.Sink.faults c.args.objects.now.output) (g.W.Output.Sink.faults c.answer_all.new.output))
     (object (g.W.Report.Sink.taken c.args.objects.now.report) (g.W.Report.Sink.taken c.tell_damaged-in-Err-Damaged-answer_all.new.report) (g.W.Report.Sink.faults c.args.objects.now.report) (g.W.Report.Sink.faults c.tell_damaged-in-Err-Damaged-answer_all.new.report))
-    c.args.opened.now o begins refl (g.W.Report.Sink.taken c.answer_all.new.report) (g.W.Report.Sink.faults c.answer_all.new.report) c.tell_damaged-in-Err-Damaged-answer_all.result c.in-Err-Damaged-answer_all.ensures.report
+    c.args.opened.now o begins refl (g.W.Report.Sink.taken c.answer_all.new.report) (g.W.Report.Sink.faults c.answer_all.new.report) c.tell_damaged-in-Err-Damaged-answer_all.result c.in-Err-Damaged-answer_all.ensures.whole.report_later
     c.in-Err-Damaged-answer_all.number c.index-opened-number-in-Err-Damaged-answer_all.result c.in-Err-Damaged-answer_all.damage (at_get c.args.opened.now c.in-Err-Damaged-answer_all.number c.index-opened-number-in-Err-Damaged-answer_all.result bad.inside c.index-opened-number-in-Err-Damaged-answer_all.is) bad
-    c.tell_damaged-in-Err-Damaged-answer_all.ensures.told (λ xs e. c.in-Err-Damaged-answer_all.ensures.halted xs (subst (AreAt c.args.opened.now (expand c.args.request.now) xs) (sym c.deref.ensures.value) (there xs e))) c.in-Err-Damaged-answer_all.ensures.grew
+    c.tell_damaged-in-Err-Damaged-answer_all.ensures.told (λ xs e. c.in-Err-Damaged-answer_all.ensures.whole.halted xs (subst (AreAt c.args.opened.now (expand c.args.request.now) xs) (sym c.deref.ensures.value) (there xs e))) c.in-Err-Damaged-answer_all.ensures.whole.grew
 
 pub returns-clause-ran : goal.returns-clause-ran
 returns-clause-ran g c = λ root over before faults left reads o begins at.
@@ -97,8 +97,8 @@ returns-clause-ran g c = λ root over before faults left reads o begins at.
     let there : (xs : List Answer) → o ≡ Some xs → AreAt c.args.opened.now (expand c.args.request.now) xs c.in-Ok.located.items = rw c.in-Ok.is at at in
     starved_ran root over c.args.workers before _ _ faults _ _ input (object (g.W.Output.Sink.taken c.args.objects.now.output) (g.W.Output.Sink.taken c.answer_all.new.output) (g.W.Output.Sink.faults c.args.objects.now.output) (g.W.Output.Sink.faults c.answer_all.new.output))
     (object (g.W.Report.Sink.taken c.args.objects.now.report) (g.W.Report.Sink.taken c.tell_no_memory-in-Err-NoMemory-answer_all.new.report) (g.W.Report.Sink.faults c.args.objects.now.report) (g.W.Report.Sink.faults c.tell_no_memory-in-Err-NoMemory-answer_all.new.report))
-    c.args.opened.now o begins refl (g.W.Report.Sink.taken c.answer_all.new.report) (g.W.Report.Sink.faults c.answer_all.new.report) c.tell_no_memory-in-Err-NoMemory-answer_all.result c.in-Err-NoMemory-answer_all.ensures.report
-    c.tell_no_memory-in-Err-NoMemory-answer_all.ensures (λ xs e. c.in-Err-NoMemory-answer_all.ensures.halted xs (subst (AreAt c.args.opened.now (expand c.args.request.now) xs) (sym c.deref.ensures.value) (there xs e))) c.in-Err-NoMemory-answer_all.ensures.grew
+    c.args.opened.now o begins refl (g.W.Report.Sink.taken c.answer_all.new.report) (g.W.Report.Sink.faults c.answer_all.new.report) c.tell_no_memory-in-Err-NoMemory-answer_all.result c.in-Err-NoMemory-answer_all.ensures.whole.report_later
+    c.tell_no_memory-in-Err-NoMemory-answer_all.ensures (λ xs e. c.in-Err-NoMemory-answer_all.ensures.whole.halted xs (subst (AreAt c.args.opened.now (expand c.args.request.now) xs) (sym c.deref.ensures.value) (there xs e))) c.in-Err-NoMemory-answer_all.ensures.whole.grew
 
 pub returns-in-Err-Disk-clause-located : goal.returns-in-Err-Disk-clause-located
 returns-in-Err-Disk-clause-located g c = λ whole. never_whole _ c.tell_disk_failed.result (told_not_whole DiskFault c.tell_disk_failed.result disk_failed _ _ _ _ refl c.tell_disk_failed.ensures) whole
@@ -160,4 +160,4 @@ returns-in-Ok-answer_all-clause-told g c = λ whole.
     let last = g.W.Report.Sink.taken c.tell_counts.new.report in
     subst (λ r. IfOk r (λ v. (xs : List Answer) → AreAt c.args.opened.now (expand c.args.request.now) xs v.items → Tells c.tell_counts.result (answered xs) a b first last)) (sym c.in-Ok.is)
     (λ xs at. counted_tells xs a b first mid last c.tell_counts.result c.in-Ok-answer_all.found c.in-Ok-answer_all.missed _ _
-    (c.in-Ok-answer_all.ensures.answered xs (subst (AreAt c.args.opened.now (expand c.args.request.now) xs) (sym c.deref.ensures.value) at)) c.tell_counts.ensures whole)
+    (c.in-Ok-answer_all.ensures.whole.answered xs (subst (AreAt c.args.opened.now (expand c.args.request.now) xs) (sym c.deref.ensures.value) at)) c.tell_counts.ensures whole)

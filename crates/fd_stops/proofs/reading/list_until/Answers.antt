@@ -3,8 +3,8 @@ use Rattle.fd_stops.proofs.ReadLemmas.{answered, before}
 use Rattle.fd_stops.proofs.reading.list_until.Goals as goal
 
 pub returns-clause-before : goal.returns-clause-before
-returns-clause-before g c = before (g.W.Store.Store.has c.args.objects.now.store.inner) (g.W.Store.Store.has c.list.new.objects.store.inner) c.list.ensures.ran.store_is
+returns-clause-before g c = before (g.W.Store.Store.has c.args.objects.now.store.inner) (g.W.Store.Store.has c.list.new.objects.store.inner) c.list.ensures.lists.ran.store_is
 
 pub returns-clause-answered : goal.returns-clause-answered
 returns-clause-answered g c = λ whole.
-    answered (commands.List c.args.root.now) (g.W.Input.Source.left c.args.objects.now.input) (g.W.Store.Store.has c.args.objects.now.store.inner) (g.W.Store.Store.has c.list.new.objects.store.inner) c.list.ensures.ran.store_is (c.list.ensures.firm whole)
+    answered (commands.List c.args.root.now) (g.W.Input.Source.left c.args.objects.now.input) (g.W.Store.Store.has c.args.objects.now.store.inner) (g.W.Store.Store.has c.list.new.objects.store.inner) c.list.ensures.lists.ran.store_is (c.list.ensures.lists.firm whole)

@@ -29,10 +29,10 @@ pub returns-in-RetrieveOver-clause-did : goal.returns-in-RetrieveOver-clause-did
 returns-in-RetrieveOver-clause-did g c = did_by _ _ _ _ _ _ _ _ c.in-RetrieveOver.is (record { ran = c.retrieve_over.ensures.ran; session = tt; cubes = tt; recorded = tt; notices = c.retrieve_over.ensures.notices; unread = c.retrieve_over.ensures.unread; spares = λ stores. absurd stores; outlasts = tt; firm = λ answers. c.retrieve_over.ensures.firm })
 
 pub returns-in-List-clause-did : goal.returns-in-List-clause-did
-returns-in-List-clause-did g c = did_by _ _ _ _ _ _ _ _ c.in-List.is (record { ran = c.list.ensures.ran; session = tt; cubes = tt; recorded = c.list.ensures.recorded; notices = c.list.ensures.notices; unread = c.list.ensures.unread; spares = λ stores. absurd stores; outlasts = tt; firm = λ answers. c.list.ensures.firm })
+returns-in-List-clause-did g c = did_by _ _ _ _ _ _ _ _ c.in-List.is (record { ran = c.list.ensures.lists.ran; session = tt; cubes = tt; recorded = c.list.ensures.lists.recorded; notices = c.list.ensures.lists.notices; unread = c.list.ensures.lists.unread; spares = λ stores. absurd stores; outlasts = tt; firm = λ answers. c.list.ensures.lists.firm })
 
 pub returns-in-Axes-clause-did : goal.returns-in-Axes-clause-did
-returns-in-Axes-clause-did g c = did_by _ _ _ _ _ _ _ _ c.in-Axes.is (record { ran = c.axes.ensures.ran; session = tt; cubes = tt; recorded = c.axes.ensures.recorded; notices = c.axes.ensures.notices; unread = c.axes.ensures.unread; spares = λ stores. absurd stores; outlasts = tt; firm = λ answers. c.axes.ensures.firm })
+returns-in-Axes-clause-did g c = did_by _ _ _ _ _ _ _ _ c.in-Axes.is (record { ran = c.axes.ensures.lists.ran; session = tt; cubes = tt; recorded = c.axes.ensures.lists.recorded; notices = c.axes.ensures.lists.notices; unread = c.axes.ensures.lists.unread; spares = λ stores. absurd stores; outlasts = tt; firm = λ answers. c.axes.ensures.lists.firm })
 
 pub returns-in-Stats-clause-did : goal.returns-in-Stats-clause-did
 returns-in-Stats-clause-did g c = did_by _ _ _ _ _ _ _ _ c.in-Stats.is (counted _ _ _ _ _ _ _ c.stats.ensures.ran c.stats.ensures.notices c.stats.ensures.recorded c.stats.ensures.firm)
