@@ -118,7 +118,11 @@ pub fn serve<R: Threads + Sync, P: Item + Send + Sync, J: Send, F: Fn(&[P], usiz
     requires accepts { AcceptsAll F.Fn each.now items.old jobs.old }
     ensures changed { AreShown F.Fn each.now items.old jobs.old jobs.new }
 {
-    let threads = if jobs.len() > 1 { jobs.len().saturating_mul(2) } else { 1 };
+    let threads = if jobs.len() > 1 {
+        jobs.len().saturating_mul(2)
+    } else {
+        1
+    };
     prepare_all(rt, threads, items);
     change_all_shown(rt, each, &*items, jobs);
     let_go_all(alloc, items);
