@@ -17,3 +17,4 @@ pub mod CountingLemmas
 pub mod Plain
 pub mod RetrieveExits
 pub mod StopExits
+pub mod Sought

@@ -6,3 +6,4 @@ pub mod Counting
 pub mod Located
 pub mod Telling
 pub mod Looking
+pub mod Seats

@@ -1,22 +1,41 @@
 // The keys that a request asks for, and where they belong.
-ghost use Rattle.std.specs.Prelude.{◌≡◌, ◌⊎◌, ◌≤◌, ◌<◌, [], List, ℕ, Some, Ok, length, map, slice_get, IfOk, IfErr, IfSome, OnOk};
+ghost use Rattle.std.specs.Prelude.{◌≡◌, ◌⊎◌, ◌≤◌, ◌<◌, [], List, ℕ, Some, Ok, length, map, slice_get, ◌^◌, IfOk, IfErr, IfSome, OnOk};
 ghost use Rattle.fd_bytes.specs.Causes.{Rose};
 ghost use Rattle.fd_key.specs.Pairs.{Pair};
 ghost use Rattle.fd_schema.specs.{Reading.{seen_place}, Rules.{place_from}};
 ghost use Rattle.fd_request.specs.Expansion.{expand};
 ghost use Rattle.fd_outcome.specs.Asking.{placed, request_in};
 ghost use Rattle.fd_answering.specs.Finding.{asked_of_all};
-ghost use Rattle.fd_telling.specs.Stops.{LacksPlace, LacksRule, OnInput, OnRefusal, OnRequest};
+ghost use Rattle.fd_telling.specs.Stops.{LacksRule, OnInput, OnRefusal, OnRequest};
+ghost use Rattle.fd_retrieve.specs.Seats.{AreSought, IsSought, IsUnplaced};
 
+use fd_bytes::NoMemory;
 use fd_io::Source;
 use fd_outcome::{Unread, read_front};
 use fd_request::{Request, RequestFault};
 use fd_schema::{Place, PlaceFault, Schema};
 use fd_telling::Stop;
 use std::alloc::Global;
+use std::thread;
+use std::thread::Threads;
 
 /// How many octets of the input are read at most.
 const MOST: u64 = 68_719_476_736;
+
+/// From how many keys on their places are looked for in several threads, whose start takes as long as one needs for some thirty keys.
+const ENOUGH: u32 = 256;
+
+/// Why a key has no place.
+#[derive(Drop)]
+pub(crate) enum Unplaced {
+    /// No rule admits it. It has this text.
+    NoRule(String),
+    /// An allocation was refused.
+    NoMemory,
+}
+
+/// What was found for a key: its place, or why it has none.
+type Seat = Result<Place, Unplaced>;
 
 /// The request that the input is.
 pub fn request_of<F, X: Drop, I: Source<X>>(
@@ -41,21 +60,29 @@ pub fn request_of<F, X: Drop, I: Source<X>>(
     }
 }
 
-/// The places of a request's keys, in its order. The first key that no rule admits is refused.
-pub(crate) fn places_of<F>(
+/// The places of a request's keys, in its order, for which so many threads look where there are enough keys for several. The first key
+/// that no rule admits is refused.
+pub(crate) fn places_of<F, R: Threads + Sync>(
+    rt: &R,
     alloc: Global,
     schema: &Schema,
     request: &Request,
+    workers: u32,
 ) -> Result<Vec<Place>, Stop<F>>
+    requires workers { 0 < workers }
     ensures count { IfOk result (λ v. length v.items ≡ length (expand request.now)) }
     ensures placed { IfOk result (λ v. placed schema.now (expand request.now) ≡ Ok (asked_of_all (expand request.now) (map seen_place v.items))) }
     ensures refused { IfErr result (λ e. LacksRule e (placed schema.now (expand request.now))) }
 {
+    let Ok(seats) = seats_of(rt, alloc, schema, request, workers) else {
+        return Err(Stop::NoMemory);
+    };
     let mut places = Vec::new(alloc);
-    for i in 0..request.count() {
-        let place = match place_of(alloc, schema, request, i) {
+    for seat in seats {
+        let place = match seat {
             Ok(place) => place,
-            Err(stop) => return Err(stop),
+            Err(Unplaced::NoRule(text)) => return Err(Stop::NoRule(text)),
+            Err(Unplaced::NoMemory) => return Err(Stop::NoMemory),
         };
         match places.push(place) {
             Ok(()) => {}
@@ -65,26 +92,66 @@ pub(crate) fn places_of<F>(
     Ok(places)
 }
 
-/// The place of the key with this number.
-fn place_of<F>(
+/// What is found for each key of the request, in its order.
+fn seats_of<R: Threads + Sync>(
+    rt: &R,
     alloc: Global,
     schema: &Schema,
     request: &Request,
-    number: u32,
-) -> Result<Place, Stop<F>>
+    workers: u32,
+) -> Result<Vec<Seat>, NoMemory>
+    requires workers { 0 < workers }
+    ensures { IfOk result (λ v. AreSought schema.now (expand request.now) v.items) }
+{
+    let count = request.count();
+    let mut seats = Vec::new(alloc);
+    for _number in 0..count {
+        seats.push(Err(Unplaced::NoMemory))?;
+    }
+    let threads = if count < ENOUGH { 1 } else { workers };
+    seek_all(rt, alloc, schema, request, threads, seats.as_mut_slice());
+    Ok(seats)
+}
+
+/// Looks for the place of each key of the request, by so many threads.
+fn seek_all<R: Threads + Sync>(
+    rt: &R,
+    alloc: Global,
+    schema: &Schema,
+    request: &Request,
+    threads: u32,
+    seats: &mut [Seat],
+)
+    requires threads { 0 < threads }
+    requires long { length seats.old ≡ length (expand request.now) }
+    requires few { length (expand request.now) < 2 ^ 32 }
+    ensures { AreSought schema.now (expand request.now) seats.new }
+{
+    thread::for_each_mut(
+        rt,
+        seats,
+        threads as usize,
+        &|i: usize, seat: &mut Seat|
+            requires { (i < length (expand request.now)) × (length (expand request.now) < 2 ^ 32) }
+            ensures { IsSought schema.entry.now (expand request.entry.now) i seat.new }
+        { *seat = place_of(alloc, schema, request, i as u32) },
+    );
+}
+
+/// The place of the key with this number.
+fn place_of(alloc: Global, schema: &Schema, request: &Request, number: u32) -> Seat
     requires { number < length (expand request.now) }
-    ensures place { IfOk result (λ p. (key : List Pair) → slice_get (expand request.now) number ≡ Some key → place_from 0 schema.now key ≡ Some (seen_place p)) }
-    ensures refused { IfErr result (λ e. (key : List Pair) → slice_get (expand request.now) number ≡ Some key → LacksPlace e key (place_from 0 schema.now key)) }
+    ensures { IsSought schema.now (expand request.now) number result }
 {
     let Ok(key) = request.key(alloc, number) else {
-        return Err(Stop::NoMemory);
+        return Err(Unplaced::NoMemory);
     };
     match schema.place(alloc, &key) {
         Ok(place) => Ok(place),
         Err(PlaceFault::NoRule) => match key.text(alloc) {
-            Ok(text) => Err(Stop::NoRule(text)),
-            Err(_) => Err(Stop::NoMemory),
+            Ok(text) => Err(Unplaced::NoRule(text)),
+            Err(_) => Err(Unplaced::NoMemory),
         },
-        Err(PlaceFault::NoMemory) => Err(Stop::NoMemory),
+        Err(PlaceFault::NoMemory) => Err(Unplaced::NoMemory),
     }
 }

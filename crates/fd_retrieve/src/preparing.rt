@@ -1,5 +1,5 @@
 // What stands ready before the first key is answered.
-ghost use Rattle.std.specs.Prelude.{◌≡◌, ◌≤◌, [], ◌∷◌, List, ℕ, Some, Ok, false, length, IfOk, IfErr, IfSome, IsErr, OnOk};
+ghost use Rattle.std.specs.Prelude.{◌≡◌, ◌≤◌, ◌<◌, [], ◌∷◌, List, ℕ, Some, Ok, false, length, IfOk, IfErr, IfSome, IsErr, OnOk};
 ghost use Rattle.fd_bytes.specs.Causes.{Rose};
 ghost use Rattle.fd_disk.specs.Folders.{WhereTold, folder_at};
 ghost use Rattle.fd_spelling.specs.Texts.{texts};
@@ -22,6 +22,7 @@ use fd_request::Request;
 use fd_schema::Place;
 use fd_telling::{Broken, Stop};
 use std::alloc::Global;
+use std::thread::Threads;
 
 /// A request, the places of its keys, and the datasets of the places that have tables.
 #[derive(Drop)]
@@ -34,14 +35,17 @@ pub struct Ready<F: Send, Z: Sealed<F>> {
     pub opened: Vec<Opened<F, Z>>,
 }
 
-/// Reads the request, and opens the datasets of its keys. Each is given back.
-pub(crate) fn prepared<F: Send, X: Drop, S: Store<F>, I: Source<X>>(
+/// Reads the request, for the places of whose keys so many threads look, and opens their datasets. Each is given back.
+pub(crate) fn prepared<F: Send, X: Drop, S: Store<F>, I: Source<X>, R: Threads + Sync>(
+    rt: &R,
     alloc: Global,
     root: &str,
+    workers: u32,
     store: &mut S,
     input: &mut I,
 ) -> Result<Ready<F, <S::Folder as Folder<F>>::Sealed>, Stop<F>>
 where
+    requires workers { 0 < workers }
     requires home { (n : List ℕ) → S.out store.old n ≡ false }
     ensures prepared { IfOk result (λ r. IfSome (S.has store.old)
         (λ h. IfSome (I.left input.old) (λ octets. IsReady h octets r.request r.places.items r.opened.items))) }
@@ -59,7 +63,7 @@ where
     ensures home { (n : List ℕ) → S.out store.new n ≡ false }
     ensures later { S.faults store.old ≤ S.faults store.new }
 {
-    let (request, places) = match placed(alloc, root, store, input) {
+    let (request, places) = match placed(rt, alloc, root, workers, store, input) {
         Ok(pair) => pair,
         Err(stop) => return Err(stop),
     };
@@ -77,14 +81,17 @@ where
     }
 }
 
-/// Reads the request, and finds the places of its keys by the stored schema.
+/// Reads the request, and finds the places of its keys by the stored schema, by so many threads.
 #[tactic(auto, using(crate::proofs::Unread::unread))]
-fn placed<F: Send, X: Drop, S: Store<F>, I: Source<X>>(
+fn placed<F: Send, X: Drop, S: Store<F>, I: Source<X>, R: Threads + Sync>(
+    rt: &R,
     alloc: Global,
     root: &str,
+    workers: u32,
     store: &mut S,
     input: &mut I,
 ) -> Result<(Request, Vec<Place>), Stop<F>>
+    requires workers { 0 < workers }
     ensures placed { IfOk result (λ r. IfSome (S.has store.old)
         (λ h. IfSome (I.left input.old) (λ octets. placed_of h octets ≡ Ok (asked_at r.0 r.1.items)))) }
     ensures count { IfOk result (λ r. length r.1.items ≡ length (expand r.0)) }
@@ -110,7 +117,7 @@ fn placed<F: Send, X: Drop, S: Store<F>, I: Source<X>>(
         Ok(request) => request,
         Err(stop) => return Err(stop),
     };
-    match places_of(alloc, &schema, &request) {
+    match places_of(rt, alloc, &schema, &request, workers) {
         Ok(places) => Ok((request, places)),
         Err(stop) => Err(stop),
     }

@@ -49,8 +49,10 @@ pub fn retrieve<W: World, R: Threads + Wait + Sync>(
     ensures home { (name : List ℕ) → W.Store.out objects.new.store name ≡ false }
 {
     match prepared(
+        rt,
         objects.alloc,
         root.as_str(),
+        workers,
         &mut objects.store,
         &mut objects.input,
     ) {

@@ -4,8 +4,10 @@ use Rattle.fd_schema.specs.Reading.{seen_place}
 use Rattle.fd_retrieve.proofs.ReadyLemmas.{HavePlaces}
 use Rattle.fd_retrieve.proofs.asking.places_of.Given as goal
 
-abbrev pub invariant-loop-i : goal.invariant-loop-i
-invariant-loop-i g l = record {
-  long : length l.places.items ≡ l.i;
+abbrev pub invariant-loop-seat : goal.invariant-loop-seat
+invariant-loop-seat g l = record {
+  next : (goal.iterator-loop-seat g).can_next l.seat-iterator;
+  ends : (goal.iterator-loop-seat g).is_finite l.seat-iterator;
+  long : length l.places.items ≡ length l.yielded;
   so_far : HavePlaces l.schema (expand l.request) (map seen_place l.places.items);
 }
