@@ -38,8 +38,8 @@ rounds-preserved g c =
       report = omega (arith, later, told);
     }
 
-pub returns-in-Err-clause-whole : goal.returns-in-Err-clause-whole
-returns-in-Err-clause-whole g c =
+pub returns-in-Err : goal.returns-in-Err
+returns-in-Err g c =
     let inv = c.rounds.invariant in
     let one = c.in-Err.ensures.round in
     let before = inv.output in
@@ -47,33 +47,37 @@ returns-in-Err-clause-whole g c =
     let out = one.output_later in
     let told = one.report_later in
     record {
-      answered = tt;
-      halted = λ xs there. one.halted xs (g.K.Sink.taken c.args.output.now) (g.E.Sink.taken c.args.report.now) there (inv.answered xs there);
-      output_later = omega (arith, before, out);
-      calm = tt;
-      report_later = omega (arith, later, told);
-      cause = search rules;
-      damaged = one.damaged;
-      grew = took_both (g.E.Sink.taken c.args.report.now) (g.E.Sink.taken c.rounds.report) (g.E.Sink.taken c.answer_round.new.report) inv.grew one.grew;
+      whole = record {
+        answered = tt;
+        halted = λ xs there. one.halted xs (g.K.Sink.taken c.args.output.now) (g.E.Sink.taken c.args.report.now) there (inv.answered xs there);
+        output_later = omega (arith, before, out);
+        calm = tt;
+        report_later = omega (arith, later, told);
+        cause = search rules;
+        damaged = one.damaged;
+        grew = took_both (g.E.Sink.taken c.args.report.now) (g.E.Sink.taken c.rounds.report) (g.E.Sink.taken c.answer_round.new.report) inv.grew one.grew;
+      };
     }
 
-pub returns-clause-whole : goal.returns-clause-whole
-returns-clause-whole g c =
+pub returns : goal.returns
+returns g c =
     let inv = c.rounds.invariant in
     let before = inv.output in
     record {
-      answered = λ xs there.
-          let many = there.long in
-          let up = inv.done in
-          let to = inv.next in
-          let all : c.rounds.done ≡ length xs = omega (arith, many, up, to, c.count-count.ensures, c.rounds-test.false) in
-          let last : c.rounds.done ≡ c.count-count.result = omega (arith, up, to, c.rounds-test.false) in
-          as_whole xs c.rounds.done c.count-count.result _ _ _ _ c.rounds.found all last (inv.answered xs there);
-      halted = tt;
-      output_later = omega (arith, before);
-      calm = before;
-      report_later = inv.report;
-      cause = tt;
-      damaged = tt;
-      grew = inv.grew;
+      whole = record {
+        answered = λ xs there.
+            let many = there.long in
+            let up = inv.done in
+            let to = inv.next in
+            let all : c.rounds.done ≡ length xs = omega (arith, many, up, to, c.count-count.ensures, c.rounds-test.false) in
+            let last : c.rounds.done ≡ c.count-count.result = omega (arith, up, to, c.rounds-test.false) in
+            as_whole xs c.rounds.done c.count-count.result _ _ _ _ c.rounds.found all last (inv.answered xs there);
+        halted = tt;
+        output_later = omega (arith, before);
+        calm = before;
+        report_later = inv.report;
+        cause = tt;
+        damaged = tt;
+        grew = inv.grew;
+      };
     }
