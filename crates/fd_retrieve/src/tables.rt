@@ -9,6 +9,7 @@ ghost use Rattle.fd_telling.specs.Stops.{NotRefused, OnTooMany};
 
 use fd_disk::{Down, Folder, Store};
 use fd_schema::Place;
+use fd_spelling::is_one_of;
 use fd_telling::Stop;
 use std::alloc::Global;
 use std::collections::BTreeMap;
@@ -119,18 +120,6 @@ fn is_where_noted(names: &[String], noted: &Noted, text: &str) -> bool
     let place = *place;
     if place < names.len() {
         return text == names[place].as_str();
-    }
-    false
-}
-
-/// Tells that one of the names is this text.
-fn is_one_of(names: &[String], text: &str) -> bool
-    ensures { result ≡ is_among (texts names.now) text.now }
-{
-    for name in names {
-        if text == name.as_str() {
-            return true;
-        }
     }
     false
 }
