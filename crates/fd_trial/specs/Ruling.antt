@@ -1,10 +1,13 @@
 -- Why a trial has no rules, and what that leaves.
-use Rattle.std.specs.Prelude.{◌≡◌, ◌⊎◌, ℕ, List, Some, None, Err, unwrap_or}
-use Rattle.fd_disk.specs.Folders.{Holdings, planted}
+use Rattle.std.specs.Prelude.{◌≡◌, ◌⊎◌, ℕ, List, Option, Some, None, Vec, Result, Err, IfErr, IfOk, OnErr, unwrap_or}
+use Rattle.std.specs.declared.alloc.Global.{Global}
+use Rattle.fd_bytes.specs.Causes.{Rose}
+use Rattle.fd_disk.specs.Folders.{Holdings, WhereTold, planted}
 use Rattle.fd_schema.specs.Grammar.{Fault}
 use Rattle.fd_schema.specs.Reading.{IsFirst}
 use Rattle.fd_outcome.specs.Asking.{rules_of, ◌then◌}
 use Rattle.fd_outcome.specs.Causes.{SchemaDifferent}
+use Rattle.fd_outcome.specs.Ends.{IsPlanted}
 use Rattle.fd_outcome.specs.Store.{Plants, Stays}
 use Rattle.fd_outcome.specs.Trying.{if_trial, trial_schema}
 use Rattle.fd_trial.specs.declared.ruling.Unruled.{Unruled}
@@ -30,6 +33,14 @@ OnDisk unruled.Disk P = P
 OnDisk unruled.Different P = Unit {0}
 OnDisk (unruled.At line kind) P = Unit {0}
 OnDisk unruled.NoMemory P = Unit {0}
+
+-- The text of the store's schema is given, which the store has then; or why it isn't, and what that leaves.
+pub record HasText (before now : Option Holdings) (first last : ℕ) (result : Result (Vec ℕ Global) Unruled) : Type 0 where
+  pub text : IfOk result (λ t. WhereTold before now (λ h m. IsPlanted h m × (t.items ≡ unwrap_or h.schema trial_schema)))
+  pub left : OnErr result (WhereTold before now IsLeft)
+  pub kept : WhereTold before now IsPlantedOnly
+  pub of : IfErr result IsOfStore
+  pub disk : IfErr result (λ e. OnDisk e (Rose first last))
 
 -- what is wrong with the text of a schema
 abbrev pub IsUnruledBy : List ℕ → Unruled → Type 0

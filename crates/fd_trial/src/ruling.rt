@@ -1,10 +1,10 @@
 //! The schema that a trial goes by.
-ghost use Rattle.std.specs.Prelude.{◌≡◌, ◌≤◌, None, Ok, Some, IfErr, IfOk, IfSome, OnErr, unwrap_or};
+ghost use Rattle.std.specs.Prelude.{◌≡◌, ◌≤◌, None, Ok, Some, IfErr, IfOk, IfSome};
 ghost use Rattle.fd_bytes.specs.Causes.{Rose};
 ghost use Rattle.fd_disk.specs.Folders.{WhereTold};
 ghost use Rattle.fd_schema.specs.Grammar.{IsSchema};
-ghost use Rattle.fd_outcome.specs.{Asking.{rules_of, ◌then◌}, Trying.{if_trial, trial_rules, trial_schema}, Ends.{IsPlanted}};
-ghost use Rattle.fd_trial.specs.Ruling.{IsLeft, IsOfStore, IsPlantedOnly, IsUnruledBy, IsUnruledIn, OnDisk};
+ghost use Rattle.fd_outcome.specs.{Asking.{rules_of, ◌then◌}, Trying.{if_trial, trial_rules}, Ends.{IsPlanted}};
+ghost use Rattle.fd_trial.specs.Ruling.{HasText, IsLeft, IsPlantedOnly, IsUnruledBy, IsUnruledIn, OnDisk};
 
 use fd_disk::{Down, Store};
 use fd_schema::{Schema, SchemaFault, SchemaKind};
@@ -39,11 +39,7 @@ pub(crate) enum Unruled {
 /// Plants the schema of a trial in a store that has none, and gives its text.
 fn plant<F: Send, S: Store<F>>(alloc: Global, store: &mut S) -> Result<Vec<u8>, Unruled>
     requires none { IfSome (S.has store.old) (λ h. h.schema ≡ None) }
-    ensures text { IfOk result (λ t. WhereTold (S.has store.old) (S.has store.new) (λ h m. IsPlanted h m × (t.items ≡ unwrap_or h.schema trial_schema))) }
-    ensures left { OnErr result (WhereTold (S.has store.old) (S.has store.new) IsLeft) }
-    ensures kept { WhereTold (S.has store.old) (S.has store.new) IsPlantedOnly }
-    ensures of { IfErr result IsOfStore }
-    ensures disk { IfErr result (λ e. OnDisk e (Rose (S.faults store.old) (S.faults store.new))) }
+    ensures text { HasText (S.has store.old) (S.has store.new) (S.faults store.old) (S.faults store.new) result }
     ensures out { S.out store.new ≡ S.out store.old }
     ensures later { S.faults store.old ≤ S.faults store.new }
 {
@@ -67,11 +63,7 @@ fn text_in<F: Send, S: Store<F>>(
     store: &mut S,
     root: &str,
 ) -> Result<Vec<u8>, Unruled>
-    ensures text { IfOk result (λ t. WhereTold (S.has store.old) (S.has store.new) (λ h m. IsPlanted h m × (t.items ≡ unwrap_or h.schema trial_schema))) }
-    ensures left { OnErr result (WhereTold (S.has store.old) (S.has store.new) IsLeft) }
-    ensures kept { WhereTold (S.has store.old) (S.has store.new) IsPlantedOnly }
-    ensures of { IfErr result IsOfStore }
-    ensures disk { IfErr result (λ e. OnDisk e (Rose (S.faults store.old) (S.faults store.new))) }
+    ensures text { HasText (S.has store.old) (S.has store.new) (S.faults store.old) (S.faults store.new) result }
     ensures out { S.out store.new ≡ S.out store.old }
     ensures later { S.faults store.old ≤ S.faults store.new }
 {
