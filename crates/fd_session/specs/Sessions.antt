@@ -21,6 +21,7 @@ use Rattle.fd_outcome.specs.Asking.{rules_of}
 use Rattle.fd_outcome.specs.Causes.{Broken, Cause, Telling, damaged_line, telling}
 use Rattle.fd_outcome.specs.Ends.{AreCalm, disk_failed, input_failed, no_memory}
 use Rattle.fd_outcome.specs.Objects.{Object, Failed, IsCalm}
+use Rattle.fd_objects.specs.Objects.{since, until}
 use Rattle.fd_outcome.specs.Refusals.{refusal_line, refusal_status}
 use Rattle.fd_outcome.specs.Noticing.{SparesDamaged}
 use Rattle.fd_outcome.specs.Store.{Stands, table_at}
@@ -122,6 +123,12 @@ pub record Begun (rules : List Rule) (s : Scripted) (messages : List (List ℕ))
   pub read : IfSome input.before (λ octets. IsInput octets s messages)
   pub to_end : IfSome input.before (λ octets. input.now ≡ Some [])
   pub calm : IsCalm input
+
+-- Since the session began, where this was read of its input: what it did.
+abbrev pub RanSince : Type 0 → Status → List Rule → Scripted → List (List ℕ) → Object Holdings → Object (List ℕ) → Object (List ℕ) → Object (List ℕ) → Type 0
+RanSince F s rules script messages store input output report = (before : Option Holdings) (faults : ℕ) (left : Option (List ℕ)) (reads : ℕ)
+    → Begun rules script messages before store.before faults store.faults_before (until left reads input)
+    → SessionRan F s (since before faults store) (since left reads input) output report
 
 -- this holds of the command, if it is a session
 abbrev pub OfSession : Command → Type 0 → Type 0

@@ -5,10 +5,10 @@ ghost use Rattle.fd_disk.specs.Folders.{Holdings};
 ghost use Rattle.fd_schema.specs.{Grammar.{IsSchema}, Reading.{seen_place}};
 ghost use Rattle.fd_words.specs.declared.command.Command.TheVariants as commands;
 ghost use Rattle.fd_outcome.specs.{Asking.{rules_of}, Noticing.{ReadsFitly}};
-ghost use Rattle.fd_objects.specs.Objects.{Over, since, until};
+ghost use Rattle.fd_objects.specs.Objects.{Over, since};
 ghost use Rattle.fd_casting.specs.{Miscasts.{NoneFails}, Steps.{AreMessages, all_posed}};
 ghost use Rattle.fd_lanes.specs.Acts.{ArePlaces, LanesFit};
-ghost use Rattle.fd_session.specs.{Sessions.{Begun, SessionRan}, Unopened.{OnDisk, ToldUnopened}};
+ghost use Rattle.fd_session.specs.{Sessions.{RanSince, SessionRan}, Unopened.{OnDisk, ToldUnopened}};
 
 use crate::closing::{note_all, tell_session};
 use crate::reading::{Input, Unaccepted, read_input};
@@ -98,10 +98,8 @@ fn session_of<W: World, R: Threads + Wait + Sync>(
     requires schema { IsSchema schema.now }
     requires short { length read.now.script.dataset ≤ 255 }
     requires each { AreMessages read.now.messages }
-    ensures ran { Over W.Store.Store W.Input.Source W.Output.Sink W.Report.Sink objects (λ store input output report.
-        (before : Option Holdings) (faults : ℕ) (left : Option (List ℕ)) (reads : ℕ)
-        → Begun schema.now read.now.script read.now.messages before store.before faults store.faults_before (until left reads input)
-        → SessionRan W.StoreFault result (since before faults store) (since left reads input) output report) }
+    ensures ran { Over W.Store.Store W.Input.Source W.Output.Sink W.Report.Sink objects
+        (RanSince W.StoreFault result schema.now read.now.script read.now.messages) }
     ensures input { objects.new.input ≡ objects.old.input }
     ensures home { (name : List ℕ) → W.Store.out objects.new.store name ≡ false }
 {
@@ -134,10 +132,8 @@ fn run_script<W: World, R: Threads + Wait + Sync>(
     requires steps { LanesFit schema.now read.now.messages read.now.script.dataset (map seen_place places.now) read.now.script.lanes }
     requires places { ArePlaces schema.now read.now.messages read.now.script.lanes (map seen_place places.now) }
     requires done { NoneFails schema.now read.now.script.dataset read.now.messages (all_posed read.now.script.lanes) }
-    ensures ran { Over W.Store.Store W.Input.Source W.Output.Sink W.Report.Sink objects (λ store input output report.
-        (before : Option Holdings) (faults : ℕ) (left : Option (List ℕ)) (reads : ℕ)
-        → Begun schema.now read.now.script read.now.messages before store.before faults store.faults_before (until left reads input)
-        → SessionRan W.StoreFault result (since before faults store) (since left reads input) output report) }
+    ensures ran { Over W.Store.Store W.Input.Source W.Output.Sink W.Report.Sink objects
+        (RanSince W.StoreFault result schema.now read.now.script read.now.messages) }
     ensures input { objects.new.input ≡ objects.old.input }
     ensures home { (name : List ℕ) → W.Store.out objects.new.store name ≡ false }
 {
