@@ -52,7 +52,7 @@ pub fn stats<W: World>(objects: &mut Objects<W>, root: &Root) -> Status
     ensures input { objects.new.input ≡ objects.old.input }
     ensures home { (name : List ℕ) → W.Store.out objects.new.store name ≡ false }
 {
-    match ruled(objects.alloc, root.as_str(), &mut objects.store) {
+    match ruled(objects.alloc, root, &mut objects.store) {
         Ok(()) => printed(objects, &Lines::Stats),
         Err(stop) => tell_stop(objects.alloc, &mut objects.store, &mut objects.report, stop),
     }
@@ -65,12 +65,7 @@ fn listed<W: World>(objects: &mut Objects<W>, root: &Root, kind: KeyLines) -> St
         (Lists (command_with kind root.now) (keys_text kind) result) }
     ensures home { (name : List ℕ) → W.Store.out objects.new.store name ≡ false }
 {
-    match partial(
-        objects.alloc,
-        root.as_str(),
-        &mut objects.store,
-        &mut objects.input,
-    ) {
+    match partial(objects.alloc, root, &mut objects.store, &mut objects.input) {
         Ok(partial) => {
             let lines = lines_with(kind, partial);
             printed(objects, &lines)

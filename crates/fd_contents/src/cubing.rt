@@ -22,12 +22,7 @@ pub fn cubes<W: World>(objects: &mut Objects<W>, root: &Root) -> Status
     ensures ran { Over W.Store.Store W.Input.Source W.Output.Sink W.Report.Sink objects (CubesRan root.now result) }
     ensures home { (name : List ℕ) → W.Store.out objects.new.store name ≡ false }
 {
-    match partial(
-        objects.alloc,
-        root.as_str(),
-        &mut objects.store,
-        &mut objects.input,
-    ) {
+    match partial(objects.alloc, root, &mut objects.store, &mut objects.input) {
         Ok(partial) => cubed(objects, &partial),
         Err(stop) => tell_stop(objects.alloc, &mut objects.store, &mut objects.report, stop),
     }

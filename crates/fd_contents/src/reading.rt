@@ -11,12 +11,13 @@ use fd_io::Source;
 use fd_outcome::{INPUT_LIMIT, Unread, Unruled, read_front, stored_schema};
 use fd_request::{Partial, RequestFault};
 use fd_telling::Stop;
+use fd_words::Root;
 use std::alloc::Global;
 
 /// Tells that the store has a schema that is one.
 pub(crate) fn ruled<F: Send, S: Store<F>>(
     alloc: Global,
-    root: &str,
+    root: &Root,
     store: &mut S,
 ) -> Result<(), Stop<F>>
     ensures ok { OnOk result (IfSome (S.has store.old) (λ h. IsRuled h.schema)) }
@@ -27,7 +28,7 @@ pub(crate) fn ruled<F: Send, S: Store<F>>(
     ensures out { S.out store.new ≡ S.out store.old }
     ensures later { S.faults store.old ≤ S.faults store.new }
 {
-    match stored_schema(alloc, store, root) {
+    match stored_schema(alloc, store, root.as_str()) {
         Ok(_) => Ok(()),
         Err(Unruled::Disk(fault)) => Err(Stop::Disk(fault)),
         Err(Unruled::Missing) => Err(Stop::Missing),
@@ -61,7 +62,7 @@ fn partial_of<F, X: Drop, I: Source<X>>(alloc: Global, input: &mut I) -> Result<
 #[tactic(auto, using(crate::proofs::Whole::fitting))]
 pub(crate) fn partial<F: Send, X: Drop, S: Store<F>, I: Source<X>>(
     alloc: Global,
-    root: &str,
+    root: &Root,
     store: &mut S,
     input: &mut I,
 ) -> Result<Partial, Stop<F>>
