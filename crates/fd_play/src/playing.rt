@@ -43,7 +43,7 @@ where
 
 /// What is played: a script, and what its lines name.
 #[derive(Drop)]
-struct Play<'a> {
+struct Score<'a> {
     schema: &'a Schema,
     script: &'a Script,
     messages: &'a [Bytes],
@@ -54,7 +54,7 @@ struct Play<'a> {
 fn run_lanes<F: Send, S: Store<F>, G: Gate, R: Threads + Wait + Sync>(
     rt: &R,
     alloc: Global,
-    play: &Play<'_>,
+    play: &Score<'_>,
     mut library: Library<F, S>,
     archivers: Archivers<F, S>,
     store: &mut S,
@@ -104,7 +104,7 @@ where
 fn play_opened<F: Send, S: Store<F>, G: Gate, R: Threads + Wait + Sync>(
     rt: &R,
     alloc: Global,
-    play: &Play<'_>,
+    play: &Score<'_>,
     mut library: Library<F, S>,
     mut archivers: Archivers<F, S>,
     store: &mut S,
@@ -169,7 +169,7 @@ where
     let name = script.dataset();
     match library.dataset(alloc, store, name, true) {
         Ok(Some(_number)) => {
-            let play = Play {
+            let play = Score {
                 schema,
                 script,
                 messages,
