@@ -14,13 +14,13 @@ returns-in_default-clause-archived g c = starved_first _ g.S.Folder.Folder.has c
 pub returns-in_default-clause-spares : goal.returns-in_default-clause-spares
 returns-in_default-clause-spares g c = same_spared (g.S.Store.has c.args.store.now)
 
-pub deal_input-requires-clause-begun : goal.deal_input-requires-clause-begun
-deal_input-requires-clause-begun g c κs within =
+pub deal_input-dealt-requires-clause-begun : goal.deal_input-dealt-requires-clause-begun
+deal_input-dealt-requires-clause-begun g c κs within =
     let n = c.in-Ok.ensures in
     deals_none g.S.Folder.Folder.has g.S.Folder.Shelf.Shelf.kept (g.S.Store.has c.args.store.now) c.args.workers c.args.opener.now.library c.in-Ok.crew.passes.items c.in-Ok.crew.jobs.items c.in-Ok.crew.parcels.items c.requires.workers.0 c.requires.workers.1 n.workers n.met_none n.none.0 n.none.1 c.requires.none.0 c.requires.none.1
 
-pub store_dealt-requires-clause-dealt : goal.store_dealt-requires-clause-dealt
-store_dealt-requires-clause-dealt g c κs within = record {
+pub store_dealt-stored-requires-clause-dealt : goal.store_dealt-stored-requires-clause-dealt
+store_dealt-stored-requires-clause-dealt g c κs within = record {
   rules = c.args.self.now.schema.now;
   given = c.args.self.now.given.now;
   left = g.I.Source.left c.args.input.now;
@@ -29,8 +29,8 @@ store_dealt-requires-clause-dealt g c κs within = record {
   dealt = c.deal_input-dealt.ensures.deals;
 }
 
-pub list_stored-requires-clause-stored : goal.list_stored-requires-clause-stored
-list_stored-requires-clause-stored g c κs within = record {
+pub list_stored-found-requires-clause-stored : goal.list_stored-found-requires-clause-stored
+list_stored-found-requires-clause-stored g c κs within = record {
   rules = c.args.self.now.schema.now;
   given = c.args.self.now.given.now;
   left = g.I.Source.left c.args.input.now;
@@ -57,7 +57,7 @@ returns-in-Ok-found-clause-archived g c =
 pub returns-in-Ok-found-clause-spares : goal.returns-in-Ok-found-clause-spares
 returns-in-Ok-found-clause-spares g c =
     let each = c.end.new.opener.library.each in
-    parts_spared each (g.S.Store.has c.args.store.now) (g.S.Store.has c.list_stored-found.new.store) (parts_of g.S.Folder.Folder.has c.args.workers c.args.self.now.schema.now c.args.self.now.given.now (g.I.Source.left c.args.input.now) (g.I.Source.left c.deal_input-dealt.new.input) (g.S.Store.has c.args.store.now) (g.S.Store.has c.list_stored-found.new.store) each _ (returns-in-Ok-found-clause-archived g c))
+    parts_spared each (g.S.Store.has c.args.store.now) (g.S.Store.has c.list_stored-found.new.store) (parts_of {X = g.row.X.Denot} g.S.Folder.Folder.has c.args.workers c.args.self.now.schema.now c.args.self.now.given.now (g.I.Source.left c.args.input.now) (g.I.Source.left c.deal_input-dealt.new.input) (g.S.Store.has c.args.store.now) (g.S.Store.has c.list_stored-found.new.store) each (Ok (record { fields = c.in-Ok-found.field-0.fields; datasets = length c.datasets.result.now; junk = c.in-Ok-found.field-0.junk })) (returns-in-Ok-found-clause-archived g c))
 
 pub returns-in-Ok-found-clause-to_end : goal.returns-in-Ok-found-clause-to_end
 returns-in-Ok-found-clause-to_end g c =
@@ -78,36 +78,36 @@ returns-in-Ok-found-clause-later g c =
     (causes_stand _ _ _ _ _ c.deal_input-dealt.result c.store_dealt-stored.result c.deal_input-dealt.ensures.causes c.store_dealt-stored.ensures.stands) c.in-Ok-found.ensures.stands in
     h.later
 
-pub returns-in-Err-clause-archived : goal.returns-in-Err-clause-archived
-returns-in-Err-clause-archived g c =
+pub returns-clause-archived : goal.returns-clause-archived
+returns-clause-archived g c =
     let e = c.end.ensures in
     told g.S.Folder.Folder.has g.S.Folder.Shelf.Shelf.kept c.args.self.now.schema.now c.args.self.now.given.now (g.I.Source.left c.args.input.now) (g.I.Source.left c.deal_input-dealt.new.input) (g.S.Store.has c.args.store.now) (g.S.Store.has c.list_stored-found.new.store) c.deal_input-dealt.new.opener.library c.list_stored-found.new.crew.passes.items c.list_stored-found.new.crew.jobs.items c.args.workers (c.list_stored-found.ensures.jobs ∙ c.store_dealt-stored.ensures.jobs ∙ c.deal_input-dealt.ensures.jobs ∙ c.in-Ok.ensures.workers) c.end.new.opener.library.each e.grows e.all e.full c.in-Err.fault (c.in-Err.ensures.lists c.args.self.now.schema.now c.args.self.now.given.now (g.I.Source.left c.args.input.now) (g.I.Source.left c.deal_input-dealt.new.input) (g.S.Store.has c.args.store.now) (c.store_dealt-stored.ensures.stores c.args.self.now.schema.now c.args.self.now.given.now (g.I.Source.left c.args.input.now) (g.I.Source.left c.deal_input-dealt.new.input) (g.S.Store.has c.args.store.now) c.deal_input-dealt.ensures.deals))
 
-pub returns-in-Err-clause-spares : goal.returns-in-Err-clause-spares
-returns-in-Err-clause-spares g c =
+pub returns-clause-spares : goal.returns-clause-spares
+returns-clause-spares g c =
     let each = c.end.new.opener.library.each in
-    parts_spared each (g.S.Store.has c.args.store.now) (g.S.Store.has c.list_stored-found.new.store) (parts_of g.S.Folder.Folder.has c.args.workers c.args.self.now.schema.now c.args.self.now.given.now (g.I.Source.left c.args.input.now) (g.I.Source.left c.deal_input-dealt.new.input) (g.S.Store.has c.args.store.now) (g.S.Store.has c.list_stored-found.new.store) each _ (returns-in-Err-clause-archived g c))
+    parts_spared each (g.S.Store.has c.args.store.now) (g.S.Store.has c.list_stored-found.new.store) (parts_of {X = g.row.X.Denot} g.S.Folder.Folder.has c.args.workers c.args.self.now.schema.now c.args.self.now.given.now (g.I.Source.left c.args.input.now) (g.I.Source.left c.deal_input-dealt.new.input) (g.S.Store.has c.args.store.now) (g.S.Store.has c.list_stored-found.new.store) each (Err c.in-Err.fault) (returns-clause-archived g c))
 
-pub returns-in-Err-clause-calm : goal.returns-in-Err-clause-calm
-returns-in-Err-clause-calm g c =
+pub returns-clause-calm : goal.returns-clause-calm
+returns-clause-calm g c =
     let h = causes_stand _ _ _ _ _ c.store_dealt-stored.result (Err c.in-Err.fault)
     (causes_stand _ _ _ _ _ c.deal_input-dealt.result c.store_dealt-stored.result c.deal_input-dealt.ensures.causes c.store_dealt-stored.ensures.stands) c.in-Err.ensures.stands in
     read_of (g.I.Source.faults c.deal_input-dealt.new.input ≡ g.I.Source.faults c.args.input.now) c.in-Err.fault h.read_quiet
 
-pub returns-in-Err-clause-read : goal.returns-in-Err-clause-read
-returns-in-Err-clause-read g c =
+pub returns-clause-read : goal.returns-clause-read
+returns-clause-read g c =
     let h = causes_stand _ _ _ _ _ c.store_dealt-stored.result (Err c.in-Err.fault)
     (causes_stand _ _ _ _ _ c.deal_input-dealt.result c.store_dealt-stored.result c.deal_input-dealt.ensures.causes c.store_dealt-stored.ensures.stands) c.in-Err.ensures.stands in
     input_of (Rose (g.I.Source.faults c.args.input.now) (g.I.Source.faults c.deal_input-dealt.new.input)) c.in-Err.fault h.read
 
-pub returns-in-Err-clause-disk : goal.returns-in-Err-clause-disk
-returns-in-Err-clause-disk g c =
+pub returns-clause-disk : goal.returns-clause-disk
+returns-clause-disk g c =
     let h = causes_stand _ _ _ _ _ c.store_dealt-stored.result (Err c.in-Err.fault)
     (causes_stand _ _ _ _ _ c.deal_input-dealt.result c.store_dealt-stored.result c.deal_input-dealt.ensures.causes c.store_dealt-stored.ensures.stands) c.in-Err.ensures.stands in
     disk_of (Rose (g.S.Store.faults c.args.store.now) (g.S.Store.faults c.list_stored-found.new.store)) c.in-Err.fault h.cause
 
-pub returns-in-Err-clause-later : goal.returns-in-Err-clause-later
-returns-in-Err-clause-later g c =
+pub returns-clause-later : goal.returns-clause-later
+returns-clause-later g c =
     let h = causes_stand _ _ _ _ _ c.store_dealt-stored.result (Err c.in-Err.fault)
     (causes_stand _ _ _ _ _ c.deal_input-dealt.result c.store_dealt-stored.result c.deal_input-dealt.ensures.causes c.store_dealt-stored.ensures.stands) c.in-Err.ensures.stands in
     h.later
@@ -120,16 +120,16 @@ returns-in-Ok-found-clause-out g c = λ n is.
 pub returns-in-Ok-found-clause-told : goal.returns-in-Ok-found-clause-told
 returns-in-Ok-found-clause-told g c = ap (λ (h : Option Holdings). is_some h) (c.list_stored-found.ensures.has ∙ c.store_dealt-stored.ensures.has) ∙ c.deal_input-dealt.ensures.told
 
-pub returns-in-Err-clause-out : goal.returns-in-Err-clause-out
-returns-in-Err-clause-out g c = λ n is.
+pub returns-clause-out : goal.returns-clause-out
+returns-clause-out g c = λ n is.
     subst (λ (ns : List (List ℕ)). among n ns ≡ true) (sym c.end.ensures.names)
     (c.deal_input-dealt.ensures.out n (subst (λ (out : List ℕ → Bool). out n ≡ true) (c.list_stored-found.ensures.out ∙ c.store_dealt-stored.ensures.out) is))
 
-pub returns-in-Err-clause-told : goal.returns-in-Err-clause-told
-returns-in-Err-clause-told g c = ap (λ (h : Option Holdings). is_some h) (c.list_stored-found.ensures.has ∙ c.store_dealt-stored.ensures.has) ∙ c.deal_input-dealt.ensures.told
+pub returns-clause-told : goal.returns-clause-told
+returns-clause-told g c = ap (λ (h : Option Holdings). is_some h) (c.list_stored-found.ensures.has ∙ c.store_dealt-stored.ensures.has) ∙ c.deal_input-dealt.ensures.told
 
-pub returns-in-Err-clause-to_end : goal.returns-in-Err-clause-to_end
-returns-in-Err-clause-to_end g c =
+pub returns-clause-to_end : goal.returns-clause-to_end
+returns-clause-to_end g c =
     let left = g.I.Source.left c.args.input.now in
     let e = g.I.Source.left c.deal_input-dealt.new.input ≡ Some [] in
     end_stands left e _ _ c.store_dealt-stored.result (Err c.in-Err.fault) c.in-Err.ensures.stands
