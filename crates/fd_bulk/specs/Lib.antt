@@ -12,4 +12,3 @@ pub mod Ending
 pub mod Naming
 pub mod Meets
 pub mod Batches
-pub mod Standing
