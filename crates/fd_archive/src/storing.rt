@@ -7,7 +7,7 @@ ghost use Rattle.fd_outcome.specs.Noticing.{SparesDamaged};
 ghost use Rattle.fd_bulk.specs.Archived.{IsRead, OnDisk, OnInput};
 ghost use Rattle.fd_archive.specs.Kept.{InputKept};
 
-use fd_bulk::{Bulk, BulkFault, Opener, archive_all};
+use fd_bulk::{Bulk, BulkFault, Opener, Terms};
 use fd_disk::Store;
 use fd_io::{Gate, Source};
 use fd_key::Given;
@@ -57,17 +57,14 @@ where
     let Ok(mut opener) = Opener::new(alloc) else {
         return Err(BulkFault::NoMemory);
     };
-    let found = archive_all(
+    let terms = Terms {
         rt,
         alloc,
-        input,
         given,
         schema,
-        workers,
-        &mut opener,
-        store,
         gate,
-    );
+    };
+    let found = terms.archive_all(input, workers, &mut opener, store);
     opener.end(store);
     found
 }

@@ -34,6 +34,7 @@ pub mod Placing
 pub mod Inputs
 pub mod Readings
 pub mod Settling
+pub mod Standing
 pub mod Finishing
 pub mod Sparing
 pub mod Naming

@@ -12,3 +12,4 @@ pub mod Ending
 pub mod Naming
 pub mod Meets
 pub mod Batches
+pub mod Standing

@@ -1,15 +1,15 @@
 //! The fields of an input, archived by several workers.
-ghost use Rattle.std.specs.Prelude.{◌≡◌, ◌≤◌, [], List, ℕ, Option, Some, Ok, IfSome, OnOk, false, is_some, length};
+ghost use Rattle.std.specs.Prelude.{◌≡◌, ◌≤◌, [], List, ℕ, Option, Some, Ok, IfSome, OnOk, false, is_some};
 ghost use Rattle.fd_bytes.specs.Causes.{Rose};
 ghost use Rattle.fd_disk.specs.Folders.{WhereTold};
 ghost use Rattle.fd_schema.specs.Grammar.{IsSchema};
 ghost use Rattle.fd_library.specs.Open.{OutAre};
 ghost use Rattle.fd_outcome.specs.Noticing.{SparesDamaged};
 ghost use Rattle.fd_bulk.specs.declared.bulk.BulkFault.TheVariants as faults;
-ghost use Rattle.fd_bulk.specs.{Archived.{Archived, IsRead, OnDisk, OnInput}, Crewing.{Deals}};
+ghost use Rattle.fd_bulk.specs.Archived.{Archived, IsRead, OnDisk, OnInput};
 
 use crate::crew::Crew;
-use crate::reading::{Counts, list_input};
+use crate::reading::Counts;
 use fd_bytes::NoMemory;
 use fd_disk::{Folder, Store};
 use fd_io::{Gate, Source};
@@ -99,98 +99,80 @@ impl<X> From<NoMemory> for BulkFault<X> {
     }
 }
 
-/// Archives the fields of an input, each as a message of its own, under their keys and the given pairs, in the datasets that the schema
-/// says, by so many workers, at most 8. The opener has no dataset open yet; afterwards each pass and archiver is back with it. Of a
-/// message that is refused as a whole nothing is stored; of one of whose fields one can't be stored the fields before it are.
-///
-/// Messages are dealt to the workers by their places, so that those of one key stay in their order. They come in rounds: a
-/// round ends with its 64th message, or with that by which its messages have 134,217,728 octets. Worker w, from 1, passes
-/// the gate with w and r before its share of round r, from 1, also where its share is empty. All is listed at the end, and
-/// before a refusal of the input or a failed read is told; else a batch is listed only where it is full. A fault of the
-/// store is handed to the store's count; of several refusals that of the lowest message is told. Where a listing is in doubt
-/// after a fault, its files are in the dataset's folder. A damaged dataset keeps its files, and its table as it was, or synced.
-pub fn archive_all<
-    F: Send + Drop,
-    X: Drop,
-    S: Store<F>,
-    I: Source<X>,
-    G: Gate,
-    R: Threads + Wait + Sync,
->(
-    rt: &R,
-    alloc: Global,
-    input: &mut I,
-    given: &Given,
-    schema: &Schema,
-    workers: u32,
-    opener: &mut Opener<F, S>,
-    store: &mut S,
-    gate: &G,
-) -> Result<Bulk, BulkFault<X>>
-where
-    requires schema { IsSchema schema.now }
-    requires workers { (1 ≤ workers) × (workers ≤ 8) }
-    requires none { (opener.old.library.each ≡ []) × (opener.old.library.boards ≡ []) }
-    requires home { (name : List ℕ) → S.out store.old name ≡ false }
-    ensures archived { Archived S.Folder.has workers schema.now given.now (I.left input.old) (I.left input.new) (S.has store.old) (S.has store.new) opener.new.library.each result }
-    ensures spares { WhereTold (S.has store.old) (S.has store.new) SparesDamaged }
-    ensures out { OutAre opener.new.library.each (S.out store.new) }
-    ensures to_end { IfSome (I.left input.old) (λ octets. OnOk result (I.left input.new ≡ Some [])) }
-    ensures calm { IsRead result (I.faults input.new ≡ I.faults input.old) }
-    ensures read { OnInput result (Rose (I.faults input.old) (I.faults input.new)) }
-    ensures disk { OnDisk result (Rose (S.faults store.old) (S.faults store.new)) }
-    ensures told { is_some (S.has store.new) ≡ is_some (S.has store.old) }
-    ensures later { S.faults store.old ≤ S.faults store.new }
-{
-    let Ok(mut crew) = Crew::new(alloc, workers) else {
-        return Err(BulkFault::NoMemory);
-    };
-    archive_by(
-        rt, alloc, input, given, schema, &mut crew, opener, store, gate,
-    )
+/// What an input is archived by.
+pub struct Terms<'a, G, R> {
+    /// The host's threads.
+    pub rt: &'a R,
+    /// What memory is asked of.
+    pub alloc: Global,
+    /// The pairs of each key that are given.
+    pub given: &'a Given,
+    /// The rules by which keys have their places.
+    pub schema: &'a Schema,
+    /// What the workers pass before their shares.
+    pub gate: &'a G,
 }
 
-// The same, by these workers, who have met no dataset.
-fn archive_by<
-    F: Send + Drop,
-    X: Drop,
-    S: Store<F>,
-    I: Source<X>,
-    G: Gate,
-    R: Threads + Wait + Sync,
->(
-    rt: &R,
-    alloc: Global,
-    input: &mut I,
-    given: &Given,
-    schema: &Schema,
-    crew: &mut Crew<F, S>,
-    opener: &mut Opener<F, S>,
-    store: &mut S,
-    gate: &G,
-) -> Result<Bulk, BulkFault<X>>
-where
-    requires schema { IsSchema schema.now }
-    requires out { OutAre opener.old.library.each (S.out store.old) }
-    requires begun { Deals S.Folder.has S.Folder.Shelf.kept (S.has store.old) (S.has store.old) [] [] [] opener.old.library crew.old.passes.items crew.old.jobs.items crew.old.parcels.items }
-    ensures archived { Archived S.Folder.has (length crew.old.jobs.items) schema.now given.now (I.left input.old) (I.left input.new) (S.has store.old) (S.has store.new) opener.new.library.each result }
-    ensures out { OutAre opener.new.library.each (S.out store.new) }
-    ensures to_end { IfSome (I.left input.old) (λ octets. OnOk result (I.left input.new ≡ Some [])) }
-    ensures calm { IsRead result (I.faults input.new ≡ I.faults input.old) }
-    ensures read { OnInput result (Rose (I.faults input.old) (I.faults input.new)) }
-    ensures disk { OnDisk result (Rose (S.faults store.old) (S.faults store.new)) }
-    ensures told { is_some (S.has store.new) ≡ is_some (S.has store.old) }
-    ensures later { S.faults store.old ≤ S.faults store.new }
-{
-    let found = list_input(rt, alloc, input, given, schema, crew, opener, store, gate);
-    let datasets = opener.datasets().len() as u32;
-    crew.end(rt, opener);
-    match found {
-        Ok(Counts { fields, junk }) => Ok(Bulk {
-            fields,
-            datasets,
-            junk,
-        }),
-        Err(fault) => Err(fault),
+impl<G, R> Drop for Terms<'_, G, R> {
+    fn drop(self) {
+        let Terms {
+            rt: _,
+            alloc: _,
+            given: _,
+            schema: _,
+            gate: _,
+        } = self;
+    }
+}
+
+impl<G: Gate, R: Threads + Wait + Sync> Terms<'_, G, R> {
+    /// Archives the fields of an input, each as a message of its own, under their keys and the given pairs, in the datasets that the schema
+    /// says, by so many workers, at most 8. The opener has no dataset open yet; afterwards each pass and archiver is back with it. Of a
+    /// message that is refused as a whole nothing is stored; of one of whose fields one can't be stored the fields before it are.
+    ///
+    /// Messages are dealt to the workers by their places, so that those of one key stay in their order. They come in rounds: a
+    /// round ends with its 64th message, or with that by which its messages have 134,217,728 octets. Worker w, from 1, passes
+    /// the gate with w and r before its share of round r, from 1, also where its share is empty. All is listed at the end, and
+    /// before a refusal of the input or a failed read is told; else a batch is listed only where it is full. A fault of the
+    /// store is handed to the store's count; of several refusals that of the lowest message is told. Where a listing is in doubt
+    /// after a fault, its files are in the dataset's folder. A damaged dataset keeps its files, and its table as it was, or synced.
+    pub fn archive_all<F: Send + Drop, X: Drop, S: Store<F>, I: Source<X>>(
+        &self,
+        input: &mut I,
+        workers: u32,
+        opener: &mut Opener<F, S>,
+        store: &mut S,
+    ) -> Result<Bulk, BulkFault<X>>
+    where
+        requires schema { IsSchema self.now.schema.now }
+        requires workers { (1 ≤ workers) × (workers ≤ 8) }
+        requires none { (opener.old.library.each ≡ []) × (opener.old.library.boards ≡ []) }
+        requires home { (name : List ℕ) → S.out store.old name ≡ false }
+        ensures archived { Archived S.Folder.has workers self.now.schema.now self.now.given.now (I.left input.old) (I.left input.new) (S.has store.old) (S.has store.new) opener.new.library.each result }
+        ensures spares { WhereTold (S.has store.old) (S.has store.new) SparesDamaged }
+        ensures out { OutAre opener.new.library.each (S.out store.new) }
+        ensures to_end { IfSome (I.left input.old) (λ octets. OnOk result (I.left input.new ≡ Some [])) }
+        ensures calm { IsRead result (I.faults input.new ≡ I.faults input.old) }
+        ensures read { OnInput result (Rose (I.faults input.old) (I.faults input.new)) }
+        ensures disk { OnDisk result (Rose (S.faults store.old) (S.faults store.new)) }
+        ensures told { is_some (S.has store.new) ≡ is_some (S.has store.old) }
+        ensures later { S.faults store.old ≤ S.faults store.new }
+    {
+        let Ok(mut crew) = Crew::new(self.alloc, workers) else {
+            return Err(BulkFault::NoMemory);
+        };
+        let dealt = self.deal_input(input, &mut crew, opener, store);
+        let stored = self.store_dealt(dealt, &mut crew, opener, store);
+        let found = self.list_stored(stored, &mut crew, opener, store);
+        let datasets = opener.datasets().len() as u32;
+        crew.end(self.rt, opener);
+        match found {
+            Ok(Counts { fields, junk }) => Ok(Bulk {
+                fields,
+                datasets,
+                junk,
+            }),
+            Err(fault) => Err(fault),
+        }
     }
 }

@@ -9,6 +9,6 @@ mod handing;
 mod laws;
 mod reading;
 
-pub use bulk::{Bulk, BulkFault, archive_all};
+pub use bulk::{Bulk, BulkFault, Terms};
 pub use fd_opener::Opener;
 pub use laws::{every_dealing, every_table, few_batches};

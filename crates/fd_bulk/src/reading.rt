@@ -7,10 +7,10 @@ ghost use Rattle.fd_outcome.specs.{Positions.{IsIdle, Position, at_message}, Arc
 ghost use Rattle.fd_key.specs.Pairs.{Pair};
 ghost use Rattle.fd_schema.specs.{Grammar.{IsSchema}, Rules.{Rule}};
 ghost use Rattle.fd_library.specs.Open.{OutAre, names_of};
-ghost use Rattle.fd_bulk.specs.{Halting.{OnStore}, Batches.{AllDealt, BatchEnds}, Inputs.{CanGo, EndsOf, Going, GoesOn, InputDealt, InputEnds, Midway, is_calm, is_listed, is_unread}, Naming.{AreOpened, Notes}, Sheets.{CanDeal, IsTold, ToldAs}, Crewing.{Deals, Finished, Running}};
+ghost use Rattle.fd_bulk.specs.{Halting.{OnStore}, Batches.{AllDealt, BatchEnds}, Inputs.{CanGo, EndsOf, Going, GoesOn, InputDealt, InputEnds, Midway, is_calm, is_listed}, Standing.{HasCauses, StandsOr, WasDealt, WasStored}, Naming.{AreOpened, Notes}, Sheets.{CanDeal, IsTold, ToldAs}, Crewing.{Deals, Finished, Running}};
 ghost use Rattle.fd_sheets.specs.{Names.{IsKnown}, Reading.{ReadOn}, Sheets.{Placed}};
 
-use crate::bulk::BulkFault;
+use crate::bulk::{BulkFault, Terms};
 use crate::crew::Crew;
 use fd_disk::{Folder, Store};
 use fd_io::{Gate, Source};
@@ -149,53 +149,6 @@ where
     Ok(())
 }
 
-// Reads on. Where the messages that are dealt are enough for a start, they are stored meanwhile.
-fn read_batch<
-    F: Send + Drop,
-    X: Drop,
-    S: Store<F>,
-    I: Source<X>,
-    G: Gate,
-    R: Threads + Wait + Sync,
->(
-    rt: &R,
-    alloc: Global,
-    input: &mut I,
-    given: &Given,
-    schema: &Schema,
-    names: &Names,
-    reader: &mut Reader,
-    are_enough: bool,
-    crew: &mut Crew<F, S>,
-    opener: &Opener<F, S>,
-    store: &mut S,
-    gate: &G,
-) -> Result<Batch<X>, BulkFault<X>>
-where
-    requires schema { IsSchema schema.now }
-    requires can { CanGo S.Folder.has S.Folder.Shelf.kept (S.has store.old) opener.now.library crew.old.passes.items crew.old.jobs.items crew.old.parcels.items reader.old }
-    requires few { reader.old.split.fed ≤ 68719476736 }
-    ensures goes { (rules : List Rule) (given : List Pair) (p : Position) (start : Option Holdings) (all waiting : List Stored) → p.split.fed ≤ 68719476736
-        → Going S.Folder.has S.Folder.Shelf.kept start (S.has store.old) all waiting opener.now.library crew.old.passes.items crew.old.jobs.items crew.old.parcels.items p
-        → GoesOn S.Folder.has S.Folder.Shelf.kept rules given p p start (S.has store.new) (all ++ waiting) opener.now.library crew.new.passes.items crew.new.jobs.items crew.new.parcels.items result }
-    ensures reads { IfOk result (ReadOn schema.now given.now names.now.texts.items reader.old reader.new (I.left input.old) (I.left input.new) (I.faults input.old) (I.faults input.new)) }
-    ensures stopped { IfErr result (λ e. is_calm e ≡ false) }
-    ensures jobs { length crew.new.jobs.items ≡ length crew.old.jobs.items }
-    ensures cause { IfErr result (λ e. OnStore e (Rose (S.faults store.old) (S.faults store.new))) }
-    ensures has { S.has store.new ≡ S.has store.old }
-    ensures out { S.out store.new ≡ S.out store.old }
-    ensures later { S.faults store.old ≤ S.faults store.new }
-{
-    if are_enough {
-        crew.run_reading(
-            rt, alloc, input, given, schema, names, reader, opener, store, gate,
-        )
-    } else {
-        let workers = crew.jobs.len();
-        Ok(read_on(rt, alloc, schema, given, names, workers, input, reader))
-    }
-}
-
 // What was stored of an input that is at its end, or which message is cut.
 fn end_of<X>(reader: Reader) -> Result<Counts, BulkFault<X>>
     requires { IsIdle reader }
@@ -207,251 +160,218 @@ fn end_of<X>(reader: Reader) -> Result<Counts, BulkFault<X>>
     }
 }
 
-// Reads on, where enough is dealt storing it meanwhile, and deals the fields that were read.
-fn deal_batch<
-    F: Send + Drop,
-    X: Drop,
-    S: Store<F>,
-    I: Source<X>,
-    G: Gate,
-    R: Threads + Wait + Sync,
->(
-    rt: &R,
-    alloc: Global,
-    input: &mut I,
-    given: &Given,
-    schema: &Schema,
-    names: &mut Names,
-    reader: &mut Reader,
-    are_enough: bool,
-    crew: &mut Crew<F, S>,
-    opener: &mut Opener<F, S>,
-    store: &mut S,
-    gate: &G,
-) -> Result<Reach, BulkFault<X>>
-where
-    requires schema { IsSchema schema.now }
-    requires out { OutAre opener.old.library.each (S.out store.old) }
-    requires can { CanGo S.Folder.has S.Folder.Shelf.kept (S.has store.old) opener.old.library crew.old.passes.items crew.old.jobs.items crew.old.parcels.items reader.old }
-    requires few { reader.old.split.fed ≤ 68719476736 }
-    requires opened { AreOpened names.old.texts.items (names_of opener.old.library.each) }
-    ensures out { OutAre opener.new.library.each (S.out store.new) }
-    ensures deals { (left : Option (List ℕ)) (start : Option Holdings) → Midway S.Folder.has S.Folder.Shelf.kept schema.now given.now left (I.left input.old) start (S.has store.old) opener.old.library crew.old.passes.items crew.old.jobs.items crew.old.parcels.items reader.old
-        → BatchEnds S.Folder.has S.Folder.Shelf.kept schema.now given.now left (I.left input.new) start (S.has store.new) opener.new.library crew.new.passes.items crew.new.jobs.items crew.new.parcels.items reader.old reader.new result }
-    ensures opened { OnOk result (AreOpened names.new.texts.items (names_of opener.new.library.each)) }
-    ensures calm { OnOk result (I.faults input.new ≡ I.faults input.old) }
-    ensures read { IfErr result (λ e. is_unread e ≡ true → Rose (I.faults input.old) (I.faults input.new)) }
-    ensures read_quiet { IfErr result (λ e. is_calm e ≡ true → I.faults input.new ≡ I.faults input.old) }
-    ensures jobs { length crew.new.jobs.items ≡ length crew.old.jobs.items }
-    ensures cause { IfErr result (λ e. OnStore e (Rose (S.faults store.old) (S.faults store.new))) }
-    ensures told { is_some (S.has store.new) ≡ is_some (S.has store.old) }
-    ensures later { S.faults store.old ≤ S.faults store.new }
-{
-    let batch = match read_batch(
-        rt, alloc, input, given, schema, names, reader, are_enough, crew, opener, store, gate,
-    ) {
-        Ok(batch) => batch,
-        Err(fault) => return Err(fault),
-    };
-    let Batch { sheets, end } = batch;
-    match deal_sheets(alloc, sheets, names, crew, opener, store) {
-        Ok(()) => {}
-        Err(fault) => return Err(fault),
+impl<G: Gate, R: Threads + Wait + Sync> Terms<'_, G, R> {
+    // Reads on. Where the messages that are dealt are enough for a start, they are stored meanwhile.
+    fn read_batch<F: Send + Drop, X: Drop, S: Store<F>, I: Source<X>>(
+        &self,
+        input: &mut I,
+        names: &Names,
+        reader: &mut Reader,
+        are_enough: bool,
+        crew: &mut Crew<F, S>,
+        opener: &Opener<F, S>,
+        store: &mut S,
+    ) -> Result<Batch<X>, BulkFault<X>>
+    where
+        requires schema { IsSchema self.now.schema.now }
+        requires can { CanGo S.Folder.has S.Folder.Shelf.kept (S.has store.old) opener.now.library crew.old.passes.items crew.old.jobs.items crew.old.parcels.items reader.old }
+        requires few { reader.old.split.fed ≤ 68719476736 }
+        ensures goes { (rules : List Rule) (given : List Pair) (p : Position) (start : Option Holdings) (all waiting : List Stored) → p.split.fed ≤ 68719476736
+            → Going S.Folder.has S.Folder.Shelf.kept start (S.has store.old) all waiting opener.now.library crew.old.passes.items crew.old.jobs.items crew.old.parcels.items p
+            → GoesOn S.Folder.has S.Folder.Shelf.kept rules given p p start (S.has store.new) (all ++ waiting) opener.now.library crew.new.passes.items crew.new.jobs.items crew.new.parcels.items result }
+        ensures reads { IfOk result (ReadOn self.now.schema.now self.now.given.now names.now.texts.items reader.old reader.new (I.left input.old) (I.left input.new) (I.faults input.old) (I.faults input.new)) }
+        ensures stopped { IfErr result (λ e. is_calm e ≡ false) }
+        ensures jobs { length crew.new.jobs.items ≡ length crew.old.jobs.items }
+        ensures cause { IfErr result (λ e. OnStore e (Rose (S.faults store.old) (S.faults store.new))) }
+        ensures has { S.has store.new ≡ S.has store.old }
+        ensures out { S.out store.new ≡ S.out store.old }
+        ensures later { S.faults store.old ≤ S.faults store.new }
+    {
+        if are_enough {
+            crew.run_reading(
+                self.rt,
+                self.alloc,
+                input,
+                self.given,
+                self.schema,
+                names,
+                reader,
+                opener,
+                store,
+                self.gate,
+            )
+        } else {
+            let workers = crew.jobs.len();
+            Ok(read_on(
+                self.rt,
+                self.alloc,
+                self.schema,
+                self.given,
+                names,
+                workers,
+                input,
+                reader,
+            ))
+        }
     }
-    match end {
-        Ok(reach) => Ok(reach),
-        Err(stop) => Err(stopped(stop)),
-    }
-}
 
-// Deals the fields of the input, batch by batch, up to its end, and stores what was dealt, where it is enough, while the next batch
-// is read.
-fn deal_all<F: Send + Drop, X: Drop, S: Store<F>, I: Source<X>, G: Gate, R: Threads + Wait + Sync>(
-    rt: &R,
-    alloc: Global,
-    input: &mut I,
-    given: &Given,
-    schema: &Schema,
-    names: &mut Names,
-    reader: &mut Reader,
-    crew: &mut Crew<F, S>,
-    opener: &mut Opener<F, S>,
-    store: &mut S,
-    gate: &G,
-) -> Result<(), BulkFault<X>>
-where
-    requires schema { IsSchema schema.now }
-    requires unread { reader.old ≡ at_message nothing_read 0 }
-    requires unopened { names.old.texts.items ≡ [] }
-    requires out { OutAre opener.old.library.each (S.out store.old) }
-    requires begun { Deals S.Folder.has S.Folder.Shelf.kept (S.has store.old) (S.has store.old) [] [] [] opener.old.library crew.old.passes.items crew.old.jobs.items crew.old.parcels.items }
-    ensures out { OutAre opener.new.library.each (S.out store.new) }
-    ensures deals { AllDealt S.Folder.has S.Folder.Shelf.kept schema.now given.now (I.left input.old) (I.left input.new) (S.has store.old) (S.has store.new) opener.new.library crew.new.passes.items crew.new.jobs.items crew.new.parcels.items reader.new result }
-    ensures calm { OnOk result (I.faults input.new ≡ I.faults input.old) }
-    ensures read { IfErr result (λ e. is_unread e ≡ true → Rose (I.faults input.old) (I.faults input.new)) }
-    ensures read_quiet { IfErr result (λ e. is_calm e ≡ true → I.faults input.new ≡ I.faults input.old) }
-    ensures jobs { length crew.new.jobs.items ≡ length crew.old.jobs.items }
-    ensures cause { IfErr result (λ e. OnStore e (Rose (S.faults store.old) (S.faults store.new))) }
-    ensures told { is_some (S.has store.new) ≡ is_some (S.has store.old) }
-    ensures later { S.faults store.old ≤ S.faults store.new }
-{
-    let mut are_enough = false;
-    for _ in 0..u64::MAX {
-        let reach = match deal_batch(
-            rt, alloc, input, given, schema, names, reader, are_enough, crew, opener, store, gate,
-        ) {
-            Ok(reach) => reach,
+    // Reads on, where enough is dealt storing it meanwhile, and deals the fields that were read.
+    fn deal_batch<F: Send + Drop, X: Drop, S: Store<F>, I: Source<X>>(
+        &self,
+        input: &mut I,
+        names: &mut Names,
+        reader: &mut Reader,
+        are_enough: bool,
+        crew: &mut Crew<F, S>,
+        opener: &mut Opener<F, S>,
+        store: &mut S,
+    ) -> Result<Reach, BulkFault<X>>
+    where
+        requires schema { IsSchema self.now.schema.now }
+        requires out { OutAre opener.old.library.each (S.out store.old) }
+        requires can { CanGo S.Folder.has S.Folder.Shelf.kept (S.has store.old) opener.old.library crew.old.passes.items crew.old.jobs.items crew.old.parcels.items reader.old }
+        requires few { reader.old.split.fed ≤ 68719476736 }
+        requires opened { AreOpened names.old.texts.items (names_of opener.old.library.each) }
+        ensures out { OutAre opener.new.library.each (S.out store.new) }
+        ensures deals { (left : Option (List ℕ)) (start : Option Holdings) → Midway S.Folder.has S.Folder.Shelf.kept self.now.schema.now self.now.given.now left (I.left input.old) start (S.has store.old) opener.old.library crew.old.passes.items crew.old.jobs.items crew.old.parcels.items reader.old
+            → BatchEnds S.Folder.has S.Folder.Shelf.kept self.now.schema.now self.now.given.now left (I.left input.new) start (S.has store.new) opener.new.library crew.new.passes.items crew.new.jobs.items crew.new.parcels.items reader.old reader.new result }
+        ensures opened { OnOk result (AreOpened names.new.texts.items (names_of opener.new.library.each)) }
+        ensures causes { HasCauses (I.faults input.old) (I.faults input.new) (S.faults store.old) (S.faults store.new) result }
+        ensures jobs { length crew.new.jobs.items ≡ length crew.old.jobs.items }
+        ensures told { is_some (S.has store.new) ≡ is_some (S.has store.old) }
+    {
+        let batch = match self.read_batch(input, names, reader, are_enough, crew, opener, store) {
+            Ok(batch) => batch,
             Err(fault) => return Err(fault),
         };
-        if reach.is_end() {
-            return Ok(());
+        let Batch { sheets, end } = batch;
+        match deal_sheets(self.alloc, sheets, names, crew, opener, store) {
+            Ok(()) => {}
+            Err(fault) => return Err(fault),
         }
-        are_enough = reach.is_full() || crew.parcels.len() >= ENOUGH;
+        match end {
+            Ok(reach) => Ok(reach),
+            Err(stop) => Err(stopped(stop)),
+        }
     }
-    Err(BulkFault::InputLimit)
-}
 
-// The fields of the input are dealt, up to its end or to where it stops.
-fn deal_input<
-    F: Send + Drop,
-    X: Drop,
-    S: Store<F>,
-    I: Source<X>,
-    G: Gate,
-    R: Threads + Wait + Sync,
->(
-    rt: &R,
-    alloc: Global,
-    input: &mut I,
-    given: &Given,
-    schema: &Schema,
-    crew: &mut Crew<F, S>,
-    opener: &mut Opener<F, S>,
-    store: &mut S,
-    gate: &G,
-) -> Result<Counts, BulkFault<X>>
-where
-    requires schema { IsSchema schema.now }
-    requires out { OutAre opener.old.library.each (S.out store.old) }
-    requires begun { Deals S.Folder.has S.Folder.Shelf.kept (S.has store.old) (S.has store.old) [] [] [] opener.old.library crew.old.passes.items crew.old.jobs.items crew.old.parcels.items }
-    ensures out { OutAre opener.new.library.each (S.out store.new) }
-    ensures deals { InputDealt S.Folder.has S.Folder.Shelf.kept schema.now given.now (I.left input.old) (I.left input.new) (S.has store.old) (S.has store.new) opener.new.library crew.new.passes.items crew.new.jobs.items crew.new.parcels.items result }
-    ensures to_end { IfSome (I.left input.old) (λ octets. OnOk result (I.left input.new ≡ Some [])) }
-    ensures calm { OnOk result (I.faults input.new ≡ I.faults input.old) }
-    ensures read { IfErr result (λ e. is_unread e ≡ true → Rose (I.faults input.old) (I.faults input.new)) }
-    ensures read_quiet { IfErr result (λ e. is_calm e ≡ true → I.faults input.new ≡ I.faults input.old) }
-    ensures jobs { length crew.new.jobs.items ≡ length crew.old.jobs.items }
-    ensures cause { IfErr result (λ e. OnStore e (Rose (S.faults store.old) (S.faults store.new))) }
-    ensures told { is_some (S.has store.new) ≡ is_some (S.has store.old) }
-    ensures later { S.faults store.old ≤ S.faults store.new }
-{
-    let Ok(mut reader) = Reader::new(alloc) else {
-        return Err(BulkFault::NoMemory);
-    };
-    let mut names = Names::new(alloc);
-    match deal_all(
-        rt,
-        alloc,
-        input,
-        given,
-        schema,
-        &mut names,
-        &mut reader,
-        crew,
-        opener,
-        store,
-        gate,
-    ) {
-        Ok(()) => end_of(reader),
-        Err(fault) => Err(fault),
+    // Deals the fields of the input, batch by batch, up to its end, and stores what was dealt, where it is enough, while the next batch
+    // is read.
+    fn deal_all<F: Send + Drop, X: Drop, S: Store<F>, I: Source<X>>(
+        &self,
+        input: &mut I,
+        names: &mut Names,
+        reader: &mut Reader,
+        crew: &mut Crew<F, S>,
+        opener: &mut Opener<F, S>,
+        store: &mut S,
+    ) -> Result<(), BulkFault<X>>
+    where
+        requires schema { IsSchema self.now.schema.now }
+        requires unread { reader.old ≡ at_message nothing_read 0 }
+        requires unopened { names.old.texts.items ≡ [] }
+        requires out { OutAre opener.old.library.each (S.out store.old) }
+        requires begun { Deals S.Folder.has S.Folder.Shelf.kept (S.has store.old) (S.has store.old) [] [] [] opener.old.library crew.old.passes.items crew.old.jobs.items crew.old.parcels.items }
+        ensures out { OutAre opener.new.library.each (S.out store.new) }
+        ensures deals { AllDealt S.Folder.has S.Folder.Shelf.kept self.now.schema.now self.now.given.now (I.left input.old) (I.left input.new) (S.has store.old) (S.has store.new) opener.new.library crew.new.passes.items crew.new.jobs.items crew.new.parcels.items reader.new result }
+        ensures causes { HasCauses (I.faults input.old) (I.faults input.new) (S.faults store.old) (S.faults store.new) result }
+        ensures jobs { length crew.new.jobs.items ≡ length crew.old.jobs.items }
+        ensures told { is_some (S.has store.new) ≡ is_some (S.has store.old) }
+    {
+        let mut are_enough = false;
+        for _ in 0..u64::MAX {
+            let reach = match self.deal_batch(
+                input, names, reader, are_enough, crew, opener, store,
+            ) {
+                Ok(reach) => reach,
+                Err(fault) => return Err(fault),
+            };
+            if reach.is_end() {
+                return Ok(());
+            }
+            are_enough = reach.is_full() || crew.parcels.len() >= ENOUGH;
+        }
+        Err(BulkFault::InputLimit)
     }
-}
 
-// Stores the fields of the input. Where it stops, what was dealt is stored first; a refusal of a worker is that
-// of a message before.
-fn archive_input<
-    F: Send + Drop,
-    X: Drop,
-    S: Store<F>,
-    I: Source<X>,
-    G: Gate,
-    R: Threads + Wait + Sync,
->(
-    rt: &R,
-    alloc: Global,
-    input: &mut I,
-    given: &Given,
-    schema: &Schema,
-    crew: &mut Crew<F, S>,
-    opener: &mut Opener<F, S>,
-    store: &mut S,
-    gate: &G,
-) -> Result<Counts, BulkFault<X>>
-where
-    requires schema { IsSchema schema.now }
-    requires out { OutAre opener.old.library.each (S.out store.old) }
-    requires begun { Deals S.Folder.has S.Folder.Shelf.kept (S.has store.old) (S.has store.old) [] [] [] opener.old.library crew.old.passes.items crew.old.jobs.items crew.old.parcels.items }
-    ensures out { OutAre opener.new.library.each (S.out store.new) }
-    ensures stores { InputEnds S.Folder.has S.Folder.Shelf.kept schema.now given.now (I.left input.old) (I.left input.new) (S.has store.old) (S.has store.new) opener.new.library crew.new.passes.items crew.new.jobs.items (Running S.Folder.Shelf.kept) result }
-    ensures to_end { IfSome (I.left input.old) (λ octets. OnOk result (I.left input.new ≡ Some [])) }
-    ensures calm { OnOk result (I.faults input.new ≡ I.faults input.old) }
-    ensures read { IfErr result (λ e. is_unread e ≡ true → Rose (I.faults input.old) (I.faults input.new)) }
-    ensures read_quiet { IfErr result (λ e. is_calm e ≡ true → I.faults input.new ≡ I.faults input.old) }
-    ensures jobs { length crew.new.jobs.items ≡ length crew.old.jobs.items }
-    ensures cause { IfErr result (λ e. OnStore e (Rose (S.faults store.old) (S.faults store.new))) }
-    ensures told { is_some (S.has store.new) ≡ is_some (S.has store.old) }
-    ensures later { S.faults store.old ≤ S.faults store.new }
-{
-    let found = deal_input(rt, alloc, input, given, schema, crew, opener, store, gate);
-    if crew.is_empty() {
-        return found;
+    /// Deals the fields of the input, up to its end or to where it stops.
+    pub(crate) fn deal_input<F: Send + Drop, X: Drop, S: Store<F>, I: Source<X>>(
+        &self,
+        input: &mut I,
+        crew: &mut Crew<F, S>,
+        opener: &mut Opener<F, S>,
+        store: &mut S,
+    ) -> Result<Counts, BulkFault<X>>
+    where
+        requires schema { IsSchema self.now.schema.now }
+        requires out { OutAre opener.old.library.each (S.out store.old) }
+        requires begun { Deals S.Folder.has S.Folder.Shelf.kept (S.has store.old) (S.has store.old) [] [] [] opener.old.library crew.old.passes.items crew.old.jobs.items crew.old.parcels.items }
+        ensures out { OutAre opener.new.library.each (S.out store.new) }
+        ensures deals { InputDealt S.Folder.has S.Folder.Shelf.kept self.now.schema.now self.now.given.now (I.left input.old) (I.left input.new) (S.has store.old) (S.has store.new) opener.new.library crew.new.passes.items crew.new.jobs.items crew.new.parcels.items result }
+        ensures to_end { IfSome (I.left input.old) (λ octets. OnOk result (I.left input.new ≡ Some [])) }
+        ensures causes { HasCauses (I.faults input.old) (I.faults input.new) (S.faults store.old) (S.faults store.new) result }
+        ensures jobs { length crew.new.jobs.items ≡ length crew.old.jobs.items }
+        ensures told { is_some (S.has store.new) ≡ is_some (S.has store.old) }
+    {
+        let Ok(mut reader) = Reader::new(self.alloc) else {
+            return Err(BulkFault::NoMemory);
+        };
+        let mut names = Names::new(self.alloc);
+        match self.deal_all(input, &mut names, &mut reader, crew, opener, store) {
+            Ok(()) => end_of(reader),
+            Err(fault) => Err(fault),
+        }
     }
-    match crew.run(rt, alloc, opener, store, gate) {
-        Ok(()) => found,
-        Err(fault) => Err(fault),
-    }
-}
 
-/// Stores the fields of the input, and lists them, where the input is at its end or refused, or a read of it failed.
-pub(crate) fn list_input<
-    F: Send + Drop,
-    X: Drop,
-    S: Store<F>,
-    I: Source<X>,
-    G: Gate,
-    R: Threads + Wait + Sync,
->(
-    rt: &R,
-    alloc: Global,
-    input: &mut I,
-    given: &Given,
-    schema: &Schema,
-    crew: &mut Crew<F, S>,
-    opener: &mut Opener<F, S>,
-    store: &mut S,
-    gate: &G,
-) -> Result<Counts, BulkFault<X>>
-where
-    requires schema { IsSchema schema.now }
-    requires out { OutAre opener.old.library.each (S.out store.old) }
-    requires begun { Deals S.Folder.has S.Folder.Shelf.kept (S.has store.old) (S.has store.old) [] [] [] opener.old.library crew.old.passes.items crew.old.jobs.items crew.old.parcels.items }
-    ensures out { OutAre opener.new.library.each (S.out store.new) }
-    ensures lists { InputEnds S.Folder.has S.Folder.Shelf.kept schema.now given.now (I.left input.old) (I.left input.new) (S.has store.old) (S.has store.new) opener.new.library crew.new.passes.items crew.new.jobs.items (Finished S.Folder.Shelf.kept) result }
-    ensures to_end { IfSome (I.left input.old) (λ octets. OnOk result (I.left input.new ≡ Some [])) }
-    ensures calm { OnOk result (I.faults input.new ≡ I.faults input.old) }
-    ensures read { IfErr result (λ e. is_unread e ≡ true → Rose (I.faults input.old) (I.faults input.new)) }
-    ensures read_quiet { IfErr result (λ e. is_calm e ≡ true → I.faults input.new ≡ I.faults input.old) }
-    ensures jobs { length crew.new.jobs.items ≡ length crew.old.jobs.items }
-    ensures cause { IfErr result (λ e. OnStore e (Rose (S.faults store.old) (S.faults store.new))) }
-    ensures told { is_some (S.has store.new) ≡ is_some (S.has store.old) }
-    ensures later { S.faults store.old ≤ S.faults store.new }
-{
-    let found = archive_input(rt, alloc, input, given, schema, crew, opener, store, gate);
-    if !is_listed(&found) {
-        return found;
+    /// Stores what is dealt, behind what was found of the input. A refusal of a worker is that of a message before.
+    pub(crate) fn store_dealt<F: Send + Drop, X: Drop, S: Store<F>>(
+        &self,
+        found: Result<Counts, BulkFault<X>>,
+        crew: &mut Crew<F, S>,
+        opener: &Opener<F, S>,
+        store: &mut S,
+    ) -> Result<Counts, BulkFault<X>>
+    where
+        requires dealt { WasDealt S.Folder.has S.Folder.Shelf.kept (S.has store.old) opener.now.library crew.old.passes.items crew.old.jobs.items crew.old.parcels.items found }
+        ensures stores { (rules : List Rule) (given : List Pair) (left after : Option (List ℕ)) (start : Option Holdings) → InputDealt S.Folder.has S.Folder.Shelf.kept rules given left after start (S.has store.old) opener.now.library crew.old.passes.items crew.old.jobs.items crew.old.parcels.items found
+            → InputEnds S.Folder.has S.Folder.Shelf.kept rules given left after start (S.has store.new) opener.now.library crew.new.passes.items crew.new.jobs.items (Running S.Folder.Shelf.kept) result }
+        ensures stands { StandsOr (S.faults store.old) (S.faults store.new) found result }
+        ensures jobs { length crew.new.jobs.items ≡ length crew.old.jobs.items }
+        ensures has { S.has store.new ≡ S.has store.old }
+        ensures out { S.out store.new ≡ S.out store.old }
+    {
+        if crew.is_empty() {
+            return found;
+        }
+        match crew.run(self.rt, self.alloc, opener, store, self.gate) {
+            Ok(()) => found,
+            Err(fault) => Err(fault),
+        }
     }
-    match crew.list_all(rt, alloc, opener, store) {
-        Ok(()) => found,
-        Err(fault) => Err(fault),
+
+    /// Lists what is stored, where the input is at its end or refused, or a read of it failed.
+    pub(crate) fn list_stored<F: Send + Drop, X: Drop, S: Store<F>>(
+        &self,
+        found: Result<Counts, BulkFault<X>>,
+        crew: &mut Crew<F, S>,
+        opener: &Opener<F, S>,
+        store: &mut S,
+    ) -> Result<Counts, BulkFault<X>>
+    where
+        requires stored { WasStored S.Folder.has S.Folder.Shelf.kept (S.has store.old) opener.now.library crew.old.passes.items crew.old.jobs.items found }
+        ensures lists { (rules : List Rule) (given : List Pair) (left after : Option (List ℕ)) (start : Option Holdings) → InputEnds S.Folder.has S.Folder.Shelf.kept rules given left after start (S.has store.old) opener.now.library crew.old.passes.items crew.old.jobs.items (Running S.Folder.Shelf.kept) found
+            → InputEnds S.Folder.has S.Folder.Shelf.kept rules given left after start (S.has store.new) opener.now.library crew.new.passes.items crew.new.jobs.items (Finished S.Folder.Shelf.kept) result }
+        ensures stands { StandsOr (S.faults store.old) (S.faults store.new) found result }
+        ensures jobs { length crew.new.jobs.items ≡ length crew.old.jobs.items }
+        ensures has { S.has store.new ≡ S.has store.old }
+        ensures out { S.out store.new ≡ S.out store.old }
+    {
+        if !is_listed(&found) {
+            return found;
+        }
+        match crew.list_all(self.rt, self.alloc, opener, store) {
+            Ok(()) => found,
+            Err(fault) => Err(fault),
+        }
     }
 }

@@ -1,11 +1,11 @@
 use Rattle.fd_bulk.proofs.Overlaps.{ran_goes, ran_stopped}
 use Rattle.fd_bulk.proofs.Gone.{can_run}
-use Rattle.fd_bulk.proofs.reading.read_batch.Goals as goal
+use Rattle.fd_bulk.proofs.bulk.Terms.read_batch.Goals as goal
 
 pub run_reading-requires-clause-can : goal.run_reading-requires-clause-can
 run_reading-requires-clause-can g c κs within =
     let r = c.requires.can in
-    can_run g.S.Folder.Folder.has g.S.Folder.Shelf.Shelf.kept c.args.schema.now c.args.given.now r.0 (g.S.Store.has c.args.store.now) r.1.0 r.1.1.0 c.args.opener.now.library c.args.crew.now.passes.items c.args.crew.now.jobs.items c.args.crew.now.parcels.items c.args.reader.now c.requires.few r.1.1.1
+    can_run g.S.Folder.Folder.has g.S.Folder.Shelf.Shelf.kept c.args.self.now.schema.now c.args.self.now.given.now r.0 (g.S.Store.has c.args.store.now) r.1.0 r.1.1.0 c.args.opener.now.library c.args.crew.now.passes.items c.args.crew.now.jobs.items c.args.crew.now.parcels.items c.args.reader.now c.requires.few r.1.1.1
 
 pub returns-then-are_enough-clause-goes : goal.returns-then-are_enough-clause-goes
 returns-then-are_enough-clause-goes g c = λ rules given p start all waiting few going.
