@@ -8,13 +8,13 @@ use Rattle.fd_outcome.proofs.Exits.{never_whole}
 use Rattle.fd_trial.proofs.Noticing.{looked_spares, unstored_part, whole_undamaged}
 use Rattle.fd_trial.proofs.Outlasting.{asked_outlasts, unstored_outlasts}
 use Rattle.fd_trial.proofs.Stopping.{kept_ran, kept_whole, on_disk}
-use Rattle.fd_trial.proofs.command.trial_by.Goals as goal
+use Rattle.fd_trial.proofs.command.Plan.run.Goals as goal
 
 pub ask-requires-clause-stored : goal.ask-requires-clause-stored
 ask-requires-clause-stored g c κs within =
     let mid = g.W.Store.Store.has c.args.objects.now.store in
     let now = g.W.Store.Store.has c.store_all.new.store in
-    let w = subst (λ o. WholeKept c.args.workers c.args.schema.now c.args.given.now (Some o) (Some (made_left c.store_all.new.input)) mid now c.in-Ok.field-0) c.new-messages.ensures.left c.in-Ok.ensures.stored in
+    let w = subst (λ o. WholeKept c.args.self.now.workers c.args.self.now.schema.now c.args.self.now.given.now (Some o) (Some (made_left c.store_all.new.input)) mid now c.in-Ok.field-0) c.new-messages.ensures.left c.in-Ok.ensures.stored in
     w.taken_is.refusal
 
 pub returns-in-Ok-clause-ran : goal.returns-in-Ok-clause-ran
@@ -26,10 +26,10 @@ returns-in-Ok-clause-ran g c = λ root start faults le planted.
     let mid = g.W.Store.Store.has c.args.objects.now.store in
     let now = g.W.Store.Store.has c.store_all.new.store in
     let later : faults ≤ g.W.Store.Store.faults c.store_all.new.store = omega (arith, le, c.store_all.ensures.later) in
-    let w = subst (λ o. WholeKept c.args.workers c.args.schema.now trial_given (Some o) (Some (made_left c.store_all.new.input)) mid now c.in-Ok.field-0) c.new-messages.ensures.left
-    (subst (λ given. WholeKept c.args.workers c.args.schema.now given (Some (made_left c.new-messages.result)) (Some (made_left c.store_all.new.input)) mid now c.in-Ok.field-0) c.requires.given c.in-Ok.ensures.stored) in
+    let w = subst (λ o. WholeKept c.args.self.now.workers c.args.self.now.schema.now trial_given (Some o) (Some (made_left c.store_all.new.input)) mid now c.in-Ok.field-0) c.new-messages.ensures.left
+    (subst (λ given. WholeKept c.args.self.now.workers c.args.self.now.schema.now given (Some (made_left c.new-messages.result)) (Some (made_left c.store_all.new.input)) mid now c.in-Ok.field-0) c.requires.given c.in-Ok.ensures.stored) in
     c.ask.ensures.ran root start faults later
-    (kept_whole c.args.count c.args.workers c.args.schema.now start mid now c.in-Ok.field-0 (Some (made_left c.store_all.new.input)) planted w)
+    (kept_whole c.args.self.now.count c.args.self.now.workers c.args.self.now.schema.now start mid now c.in-Ok.field-0 (Some (made_left c.store_all.new.input)) planted w)
 
 pub returns-clause-ran : goal.returns-clause-ran
 returns-clause-ran g c = λ root start faults le planted.
@@ -40,9 +40,9 @@ returns-clause-ran g c = λ root start faults le planted.
     let mid = g.W.Store.Store.has c.args.objects.now.store in
     let now = g.W.Store.Store.has c.store_all.new.store in
     let after = Some (made_left c.store_all.new.input) in
-    let w = subst (λ o. InputKept c.args.workers c.args.schema.now trial_given (Some o) after mid now (Err c.in-Err.fault)) c.new-messages.ensures.left
-    (subst (λ given. InputKept c.args.workers c.args.schema.now given (Some (made_left c.new-messages.result)) after mid now (Err c.in-Err.fault)) c.requires.given c.in-Err.ensures.stored) in
-    kept_ran root c.args.count c.args.workers start mid now faults (g.W.Store.Store.faults c.store_all.new.store) left l a k _ c.tell_unstored.result c.args.schema.now c.in-Err.fault after planted w c.tell_unstored.ensures
+    let w = subst (λ o. InputKept c.args.self.now.workers c.args.self.now.schema.now trial_given (Some o) after mid now (Err c.in-Err.fault)) c.new-messages.ensures.left
+    (subst (λ given. InputKept c.args.self.now.workers c.args.self.now.schema.now given (Some (made_left c.new-messages.result)) after mid now (Err c.in-Err.fault)) c.requires.given c.in-Err.ensures.stored) in
+    kept_ran root c.args.self.now.count c.args.self.now.workers start mid now faults (g.W.Store.Store.faults c.store_all.new.store) left l a k _ c.tell_unstored.result c.args.self.now.schema.now c.in-Err.fault after planted w c.tell_unstored.ensures
     (on_disk c.in-Err.fault _ (Rose faults (g.W.Store.Store.faults c.store_all.new.store)) (rose_later faults (g.W.Store.Store.faults c.args.objects.now.store) (g.W.Store.Store.faults c.store_all.new.store) le) c.in-Err.ensures.disk)
 
 pub returns-in-Ok-clause-outlasts : goal.returns-in-Ok-clause-outlasts
@@ -50,27 +50,27 @@ returns-in-Ok-clause-outlasts g c =
     let mid = g.W.Store.Store.has c.args.objects.now.store in
     let j = g.W.Store.Store.has c.store_all.new.store in
     let after = Some (made_left c.store_all.new.input) in
-    let w = subst (λ o. WholeKept c.args.workers c.args.schema.now trial_given (Some o) after mid j c.in-Ok.field-0) c.new-messages.ensures.left
-    (subst (λ given. WholeKept c.args.workers c.args.schema.now given (Some (made_left c.new-messages.result)) after mid j c.in-Ok.field-0) c.requires.given c.in-Ok.ensures.stored) in
-    asked_outlasts c.args.workers c.args.count c.args.schema.now mid c.ask.result j (g.W.Store.Store.has c.ask.new.objects.store) after c.in-Ok.field-0 w c.ask.ensures.looks
+    let w = subst (λ o. WholeKept c.args.self.now.workers c.args.self.now.schema.now trial_given (Some o) after mid j c.in-Ok.field-0) c.new-messages.ensures.left
+    (subst (λ given. WholeKept c.args.self.now.workers c.args.self.now.schema.now given (Some (made_left c.new-messages.result)) after mid j c.in-Ok.field-0) c.requires.given c.in-Ok.ensures.stored) in
+    asked_outlasts c.args.self.now.workers c.args.self.now.count c.args.self.now.schema.now mid c.ask.result j (g.W.Store.Store.has c.ask.new.objects.store) after c.in-Ok.field-0 w c.ask.ensures.looks
 
 pub returns-clause-outlasts : goal.returns-clause-outlasts
 returns-clause-outlasts g c =
     let mid = g.W.Store.Store.has c.args.objects.now.store in
     let now = g.W.Store.Store.has c.store_all.new.store in
     let after = Some (made_left c.store_all.new.input) in
-    let w = subst (λ o. InputKept c.args.workers c.args.schema.now trial_given (Some o) after mid now (Err c.in-Err.fault)) c.new-messages.ensures.left
-    (subst (λ given. InputKept c.args.workers c.args.schema.now given (Some (made_left c.new-messages.result)) after mid now (Err c.in-Err.fault)) c.requires.given c.in-Err.ensures.stored) in
-    unstored_outlasts c.tell_unstored.result _ _ _ _ c.args.workers c.args.count c.args.schema.now mid now after c.in-Err.fault w c.tell_unstored.ensures
+    let w = subst (λ o. InputKept c.args.self.now.workers c.args.self.now.schema.now trial_given (Some o) after mid now (Err c.in-Err.fault)) c.new-messages.ensures.left
+    (subst (λ given. InputKept c.args.self.now.workers c.args.self.now.schema.now given (Some (made_left c.new-messages.result)) after mid now (Err c.in-Err.fault)) c.requires.given c.in-Err.ensures.stored) in
+    unstored_outlasts c.tell_unstored.result _ _ _ _ c.args.self.now.workers c.args.self.now.count c.args.self.now.schema.now mid now after c.in-Err.fault w c.tell_unstored.ensures
 
 pub returns-in-Ok-clause-undamaged : goal.returns-in-Ok-clause-undamaged
 returns-in-Ok-clause-undamaged g c = λ whole.
     let mid = g.W.Store.Store.has c.args.objects.now.store in
     let j = g.W.Store.Store.has c.store_all.new.store in
     let after = Some (made_left c.store_all.new.input) in
-    let w = subst (λ o. WholeKept c.args.workers c.args.schema.now trial_given (Some o) after mid j c.in-Ok.field-0) c.new-messages.ensures.left
-    (subst (λ given. WholeKept c.args.workers c.args.schema.now given (Some (made_left c.new-messages.result)) after mid j c.in-Ok.field-0) c.requires.given c.in-Ok.ensures.stored) in
-    whole_undamaged c.args.count c.args.workers c.args.schema.now mid j after c.in-Ok.field-0 w
+    let w = subst (λ o. WholeKept c.args.self.now.workers c.args.self.now.schema.now trial_given (Some o) after mid j c.in-Ok.field-0) c.new-messages.ensures.left
+    (subst (λ given. WholeKept c.args.self.now.workers c.args.self.now.schema.now given (Some (made_left c.new-messages.result)) after mid j c.in-Ok.field-0) c.requires.given c.in-Ok.ensures.stored) in
+    whole_undamaged c.args.self.now.count c.args.self.now.workers c.args.self.now.schema.now mid j after c.in-Ok.field-0 w
 
 pub returns-clause-undamaged : goal.returns-clause-undamaged
 returns-clause-undamaged g c = λ whole. never_whole _ c.tell_unstored.result (unstored_part c.in-Err.fault c.tell_unstored.result _ _ _ _ c.tell_unstored.ensures) whole
