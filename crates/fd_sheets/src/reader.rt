@@ -39,22 +39,14 @@ impl Reach {
     pub fn is_end(&self) -> bool
         ensures { result ≡ is_end self.now }
     {
-        match self {
-            Reach::Full => false,
-            Reach::Dealing => false,
-            Reach::End => true,
-        }
+        matches!(self, Reach::End)
     }
 
     /// So many fields were read that they are handed on.
     pub fn is_full(&self) -> bool
         ensures { result ≡ is_full self.now }
     {
-        match self {
-            Reach::Full => true,
-            Reach::Dealing => false,
-            Reach::End => false,
-        }
+        matches!(self, Reach::Full)
     }
 }
 
