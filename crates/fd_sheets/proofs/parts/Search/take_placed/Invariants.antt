@@ -2,10 +2,10 @@ use Rattle.std.proofs.Common.{◌+◌, length}
 use Rattle.fd_outcome.specs.Positions.{weight}
 use Rattle.fd_sheets.specs.Sheets.{standing}
 use Rattle.fd_sheets.proofs.ByParts.{HasPart}
-use Rattle.fd_sheets.proofs.parts.take_placed.Given as goal
+use Rattle.fd_sheets.proofs.parts.Search.take_placed.Given as goal
 
 abbrev pub invariant-parts : goal.invariant-parts
-invariant-parts g l = HasPart l.fn.schema l.fn.given l.fn.splitter l.fn.opened l.splitter l.opened l.done.items l.part.items l.taken
+invariant-parts g l = HasPart l.fn.self.schema.now l.fn.self.given.now l.fn.intake.splitter l.fn.intake.opened l.intake.splitter l.intake.opened l.done.items l.part.items l.taken
 
 abbrev pub decreases-parts : goal.decreases-parts
-decreases-parts g l = weight (standing l.splitter l.opened 0) + length l.part.items
+decreases-parts g l = weight (standing l.intake.splitter l.intake.opened 0) + length l.part.items

@@ -2,15 +2,15 @@ use Rattle.std.specs.Prelude.{◌≡◌}
 use Rattle.fd_outcome.specs.Positions.{weight}
 use Rattle.fd_sheets.specs.Sheets.{IsOpen, Shrinks, standing}
 use Rattle.fd_sheets.proofs.Taking.{StagedSo}
-use Rattle.fd_sheets.proofs.sheets.take_sheets.Given as goal
+use Rattle.fd_sheets.proofs.sheets.Intake.take_sheets.Given as goal
 
 abbrev pub invariant-fields : goal.invariant-fields
 invariant-fields l = record {
-  staged : StagedSo l.fn.splitter l.fn.opened l.splitter l.opened l.sheets.items;
-  room : Shrinks l.fn.splitter l.fn.opened l.fn.sheets.items l.splitter l.opened l.sheets.items;
-  is_open : IsOpen l.splitter l.opened;
-  fed : l.splitter.fed ≡ l.fn.splitter.fed;
+  staged : StagedSo l.fn.self.splitter l.fn.self.opened l.self.splitter l.self.opened l.sheets.items;
+  room : Shrinks l.fn.self.splitter l.fn.self.opened l.fn.sheets.items l.self.splitter l.self.opened l.sheets.items;
+  is_open : IsOpen l.self.splitter l.self.opened;
+  fed : l.self.splitter.fed ≡ l.fn.self.splitter.fed;
 }
 
 abbrev pub decreases-fields : goal.decreases-fields
-decreases-fields l = weight (standing l.splitter l.opened 0)
+decreases-fields l = weight (standing l.self.splitter l.self.opened 0)
