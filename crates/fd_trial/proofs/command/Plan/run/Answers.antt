@@ -25,7 +25,7 @@ returns-in-Ok-clause-ran g c = λ root start faults le planted.
     let k = g.W.Output.Sink.faults c.args.objects.now.output in
     let mid = g.W.Store.Store.has c.args.objects.now.store in
     let now = g.W.Store.Store.has c.store_all.new.store in
-    let later : faults ≤ g.W.Store.Store.faults c.store_all.new.store = omega (arith, le, c.store_all.ensures.later) in
+    let later : faults ≤ g.W.Store.Store.faults c.store_all.new.store = omega (arith, le, c.store_all.ensures.causes.later) in
     let w = subst (λ o. WholeKept c.args.self.now.workers c.args.self.now.schema.now trial_given (Some o) (Some (made_left c.store_all.new.input)) mid now c.in-Ok.field-0) c.new-messages.ensures.left
     (subst (λ given. WholeKept c.args.self.now.workers c.args.self.now.schema.now given (Some (made_left c.new-messages.result)) (Some (made_left c.store_all.new.input)) mid now c.in-Ok.field-0) c.requires.given c.in-Ok.ensures.stored) in
     c.ask.ensures.ran root start faults later
@@ -43,7 +43,7 @@ returns-clause-ran g c = λ root start faults le planted.
     let w = subst (λ o. InputKept c.args.self.now.workers c.args.self.now.schema.now trial_given (Some o) after mid now (Err c.in-Err.fault)) c.new-messages.ensures.left
     (subst (λ given. InputKept c.args.self.now.workers c.args.self.now.schema.now given (Some (made_left c.new-messages.result)) after mid now (Err c.in-Err.fault)) c.requires.given c.in-Err.ensures.stored) in
     kept_ran root c.args.self.now.count c.args.self.now.workers start mid now faults (g.W.Store.Store.faults c.store_all.new.store) left l a k _ c.tell_unstored.result c.args.self.now.schema.now c.in-Err.fault after planted w c.tell_unstored.ensures
-    (on_disk c.in-Err.fault _ (Rose faults (g.W.Store.Store.faults c.store_all.new.store)) (rose_later faults (g.W.Store.Store.faults c.args.objects.now.store) (g.W.Store.Store.faults c.store_all.new.store) le) c.in-Err.ensures.disk)
+    (on_disk c.in-Err.fault _ (Rose faults (g.W.Store.Store.faults c.store_all.new.store)) (rose_later faults (g.W.Store.Store.faults c.args.objects.now.store) (g.W.Store.Store.faults c.store_all.new.store) le) c.in-Err.ensures.causes.disk)
 
 pub returns-in-Ok-clause-outlasts : goal.returns-in-Ok-clause-outlasts
 returns-in-Ok-clause-outlasts g c =
