@@ -1,10 +1,9 @@
 // An input, from its first octet to the giving back of all datasets.
 ghost use Rattle.std.specs.Prelude.{◌≡◌, ◌≤◌, ℕ, List, [], Some, IfSome, OnOk, false, is_some};
-ghost use Rattle.fd_bytes.specs.Causes.{Rose};
 ghost use Rattle.fd_disk.specs.Folders.{WhereTold};
 ghost use Rattle.fd_schema.specs.Grammar.{IsSchema};
 ghost use Rattle.fd_outcome.specs.Noticing.{SparesDamaged};
-ghost use Rattle.fd_bulk.specs.Archived.{IsRead, OnDisk, OnInput};
+ghost use Rattle.fd_bulk.specs.Archived.{HasReasons};
 ghost use Rattle.fd_archive.specs.Kept.{InputKept};
 
 use fd_bulk::{Bulk, BulkFault, Opener, Terms};
@@ -48,11 +47,8 @@ where
     ensures stored { InputKept workers schema.now given.now (I.left input.old) (I.left input.new) (S.has store.old) (S.has store.new) result }
     ensures spares { WhereTold (S.has store.old) (S.has store.new) SparesDamaged }
     ensures to_end { IfSome (I.left input.old) (λ octets. OnOk result (I.left input.new ≡ Some [])) }
-    ensures calm { IsRead result (I.faults input.new ≡ I.faults input.old) }
-    ensures read { OnInput result (Rose (I.faults input.old) (I.faults input.new)) }
-    ensures disk { OnDisk result (Rose (S.faults store.old) (S.faults store.new)) }
+    ensures causes { HasReasons (I.faults input.old) (I.faults input.new) (S.faults store.old) (S.faults store.new) result }
     ensures told { is_some (S.has store.new) ≡ is_some (S.has store.old) }
-    ensures later { S.faults store.old ≤ S.faults store.new }
 {
     let Ok(mut opener) = Opener::new(alloc) else {
         return Err(BulkFault::NoMemory);

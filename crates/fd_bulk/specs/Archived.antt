@@ -1,5 +1,6 @@
 -- What stands in the datasets once an input was archived, or why not all of it.
 use Rattle.std.specs.Prelude.{◌≡◌, ◌≢◌, ◌≤◌, ◌+◌, ◌/◌, ℕ, true, false, List, [], ◌++◌, length, All, Contains, Option, Some, None, IfSome, Result, Ok, Err, string_bytes}
+use Rattle.fd_bytes.specs.Causes.{Rose}
 use Rattle.fd_disk.specs.Folders.{Contents, Holdings, WhereTold, folder_at}
 use Rattle.fd_sections.specs.declared.bad.Bad.TheVariants as bads
 use Rattle.fd_recovery.specs.Recovered.{IsUndamaged}
@@ -108,6 +109,14 @@ module _ {X : Type 0} where
   IsRead (Err (faults.TableFull count)) P = Unit {0}
   IsRead (Err faults.NoMemory) P = Unit {0}
   IsRead answer P = P
+
+  -- Why an input is answered so, by its count of faults before and after, and the store's: a read that failed is told only where the
+  -- input's rose, and a fault of the store only where its rose, which never falls.
+  pub record HasReasons (before after first last : ℕ) (result : Result Bulk (BulkFault X)) : Type 0 where
+    pub calm : IsRead result (after ≡ before)
+    pub read : OnInput result (Rose before after)
+    pub disk : OnDisk result (Rose first last)
+    pub later : first ≤ last
 
 -- these are all that is stored, and nothing is refused
 pub record IsWholeTaken (all : List Stored) (junk : ℕ) (t : Taken) : Type 0 where

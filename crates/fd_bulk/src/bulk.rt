@@ -1,12 +1,11 @@
 //! The fields of an input, archived by several workers.
 ghost use Rattle.std.specs.Prelude.{◌≡◌, ◌≤◌, [], List, ℕ, Option, Some, Ok, IfSome, OnOk, false, is_some};
-ghost use Rattle.fd_bytes.specs.Causes.{Rose};
 ghost use Rattle.fd_disk.specs.Folders.{WhereTold};
 ghost use Rattle.fd_schema.specs.Grammar.{IsSchema};
 ghost use Rattle.fd_library.specs.Open.{OutAre};
 ghost use Rattle.fd_outcome.specs.Noticing.{SparesDamaged};
 ghost use Rattle.fd_bulk.specs.declared.bulk.BulkFault.TheVariants as faults;
-ghost use Rattle.fd_bulk.specs.Archived.{Archived, IsRead, OnDisk, OnInput};
+ghost use Rattle.fd_bulk.specs.Archived.{Archived, HasReasons};
 
 use crate::crew::Crew;
 use crate::reading::Counts;
@@ -152,11 +151,8 @@ impl<G: Gate, R: Threads + Wait + Sync> Terms<'_, G, R> {
         ensures spares { WhereTold (S.has store.old) (S.has store.new) SparesDamaged }
         ensures out { OutAre opener.new.library.each (S.out store.new) }
         ensures to_end { IfSome (I.left input.old) (λ octets. OnOk result (I.left input.new ≡ Some [])) }
-        ensures calm { IsRead result (I.faults input.new ≡ I.faults input.old) }
-        ensures read { OnInput result (Rose (I.faults input.old) (I.faults input.new)) }
-        ensures disk { OnDisk result (Rose (S.faults store.old) (S.faults store.new)) }
+        ensures causes { HasReasons (I.faults input.old) (I.faults input.new) (S.faults store.old) (S.faults store.new) result }
         ensures told { is_some (S.has store.new) ≡ is_some (S.has store.old) }
-        ensures later { S.faults store.old ≤ S.faults store.new }
     {
         let Ok(mut crew) = Crew::new(self.alloc, workers) else {
             return Err(BulkFault::NoMemory);

@@ -14,23 +14,10 @@ use fd_core::Answer;
 use fd_dataset::Snapshot;
 use fd_disk::Sealed;
 use fd_io::Kept;
-use fd_key::Key;
 use fd_request::Request;
 use fd_retriever::{FetchFault, Got, Lenses, fetch};
-use fd_schema::{Place, PlaceFault, Schema};
+use fd_schema::{Place, Schema};
 use std::alloc::Global;
-
-/// The place of a key that has one.
-fn place_of(alloc: Global, schema: &Schema, key: &Key) -> Result<Place, NoMemory>
-    requires { (t : _) × (place_from 0 schema.now key.now ≡ Some t) }
-    ensures { IfOk result (λ p. place_from 0 schema.now key.now ≡ Some (seen_place p)) }
-{
-    match schema.place(alloc, key) {
-        Ok(place) => Ok(place),
-        Err(PlaceFault::NoRule) => unreachable!(),
-        Err(PlaceFault::NoMemory) => Err(NoMemory),
-    }
-}
 
 /// What the newest segment of a place's key has.
 fn fetch_one<F: Send, Z: Sealed<F>>(
@@ -73,7 +60,7 @@ where
     let Ok(key) = request.key(alloc, i) else {
         return Err(FetchFault::NoMemory);
     };
-    let Ok(place) = place_of(alloc, schema, &key) else {
+    let Ok(place) = schema.certain_place(alloc, &key) else {
         return Err(FetchFault::NoMemory);
     };
     fetch_one(alloc, snapshot, lenses, &place)

@@ -1,6 +1,6 @@
-ghost use Rattle.std.specs.Prelude.{◌≡◌, ◌≤◌, ◌==◌, List, IfOk, Ok, length, take, drop, count_by, slice_index, string_bytes, is_some};
+ghost use Rattle.std.specs.Prelude.{◌≡◌, ◌≤◌, ◌==◌, List, IfOk, Ok, Some, length, take, drop, count_by, slice_index, string_bytes, is_some};
 ghost use Rattle.fd_key.specs.Pairs.{key_text};
-ghost use Rattle.fd_schema.specs.{Rules.{IsShort, place_from}, Grammar.{marks, written, version_behind, version_of, rules_in, schema_of}, Seen.{seen_rules}, Printed.{schema_text}, Reading.{Gives, GivesSchema, GivesPlace, Names, line_of, seen_place, seen_wrong}};
+ghost use Rattle.fd_schema.specs.{Rules.{IsShort, Texts, place_from}, Grammar.{marks, written, version_behind, version_of, rules_in, schema_of}, Seen.{seen_rules}, Printed.{schema_text}, Reading.{Gives, GivesSchema, GivesPlace, Names, line_of, seen_place, seen_wrong}};
 ghost use Rattle.fd_tokens.specs.Tokens.{view, views};
 
 use crate::fault::{PlaceFault, SchemaFault, SchemaKind, Wrong};
@@ -212,6 +212,18 @@ impl Schema {
         ensures short { IfOk result (λ p. length (key_text key.now) ≤ 255 → IsShort (seen_place p)) }
     {
         place_of(alloc, &self.rules, key)
+    }
+
+    /// The place of a key that has one.
+    pub fn certain_place(&self, alloc: Global, key: &Key) -> Result<Place, NoMemory>
+        requires { (t : Texts) × (place_from 0 self.now key.now ≡ Some t) }
+        ensures { IfOk result (λ p. place_from 0 self.now key.now ≡ Some (seen_place p)) }
+    {
+        match self.place(alloc, key) {
+            Ok(place) => Ok(place),
+            Err(PlaceFault::NoRule) => unreachable!(),
+            Err(PlaceFault::NoMemory) => Err(NoMemory),
+        }
     }
 
     /// Tells that a key has a place. It takes no memory.

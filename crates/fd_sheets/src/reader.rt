@@ -6,19 +6,16 @@ ghost use Rattle.fd_outcome.specs.Positions.{IsIdle, at_message};
 ghost use Rattle.fd_schema.specs.Grammar.{IsSchema};
 ghost use Rattle.fd_sheets.specs.{Names.{IsKnown}, Reading.{HasRead, HasTaken, IsFed, IsStop, ReadOn, is_end, is_full, is_starved, is_unread}};
 
-use crate::buffers::Buffers;
 use crate::names::Names;
-use crate::opened::Opened;
-use crate::parts::take_placed;
+use crate::parts::Search;
 use crate::pieces::{new_piece, read_piece};
-use crate::rounds::Rounds;
-use crate::sheets::{Sheet, Unsplit};
+use crate::sheets::{Intake, Sheet, Unsplit};
 use fd_bytes::{Bytes, NoMemory};
 use fd_io::Source;
 use fd_key::Given;
 use fd_outcome::INPUT_LIMIT;
 use fd_schema::Schema;
-use fd_sections::{BadAt, Splitter, Truncated};
+use fd_sections::{BadAt, Truncated};
 use std::alloc::Global;
 use std::marker::Model;
 use std::thread::Threads;
@@ -39,22 +36,14 @@ impl Reach {
     pub fn is_end(&self) -> bool
         ensures { result ≡ is_end self.now }
     {
-        match self {
-            Reach::Full => false,
-            Reach::Dealing => false,
-            Reach::End => true,
-        }
+        matches!(self, Reach::End)
     }
 
     /// So many fields were read that they are handed on.
     pub fn is_full(&self) -> bool
         ensures { result ≡ is_full self.now }
     {
-        match self {
-            Reach::Full => true,
-            Reach::Dealing => false,
-            Reach::End => false,
-        }
+        matches!(self, Reach::Full)
     }
 }
 
@@ -83,13 +72,10 @@ pub struct Batch<X> {
 /// What reads an input: it splits its messages into their fields, and finds the places of these.
 #[derive(Drop)]
 pub struct Reader {
-    splitter: Splitter,
-    opened: Opened,
+    intake: Intake,
     piece: Vec<u8>,
     total: u64,
     fields: u64,
-    rounds: Rounds,
-    buffers: Buffers,
 }
 
 // Why no field comes, as a reader tells it.
@@ -109,9 +95,9 @@ impl Model for Reader {
 
     ghost Value = { Position };
 
-    ghost view = { λ r. record { split = r.splitter; rest = r.opened; count = r.fields } };
+    ghost view = { λ r. record { split = r.intake.splitter; rest = r.intake.opened; count = r.fields } };
 
-    ghost invariant = { λ r. (r.splitter.fed ≡ r.total) × (r.total ≤ 68719476736) × (vec_len r.piece ≡ 1048576) × (16 * r.fields + (length r.splitter.rest + 16 * length r.opened) ≤ r.total) × (0 < length r.opened → 1 ≤ r.splitter.given) };
+    ghost invariant = { λ r. (r.intake.splitter.fed ≡ r.total) × (r.total ≤ 68719476736) × (vec_len r.piece ≡ 1048576) × (16 * r.fields + (length r.intake.splitter.rest + 16 * length r.intake.opened) ≤ r.total) × (0 < length r.intake.opened → 1 ≤ r.intake.splitter.given) };
 }
 
 impl Reader {
@@ -120,13 +106,10 @@ impl Reader {
         ensures { IfOk result (λ r. r ≡ at_message start 0) }
     {
         Ok(Reader {
-            splitter: Splitter::new(alloc)?,
-            opened: Opened::new(alloc),
+            intake: Intake::new(alloc)?,
             piece: new_piece(alloc)?,
             total: 0,
             fields: 0,
-            rounds: Rounds::new(),
-            buffers: Buffers::new(alloc),
         })
     }
 
@@ -134,7 +117,7 @@ impl Reader {
     pub fn keep(&mut self, bytes: Bytes)
         ensures { self.new ≡ self.old }
     {
-        self.buffers.keep(bytes);
+        self.intake.buffers.keep(bytes);
     }
 
     /// Ends the input: how many fields were read and how many octets skipped, or which message is cut.
@@ -144,7 +127,8 @@ impl Reader {
         ensures err { IfErr result (λ t. Err t ≡ finished self.split (first self.split.rest)) }
     {
         let fields = self.fields;
-        match self.splitter.finish() {
+        let intake = self.intake;
+        match intake.splitter.finish() {
             Ok(junk) => Ok((fields, junk)),
             Err(cut) => Err(cut),
         }
@@ -171,7 +155,7 @@ impl Reader {
             return Err(Stop::InputLimit);
         }
         let (octets, _) = self.piece.split_at(n);
-        match self.splitter.feed(octets) {
+        match self.intake.splitter.feed(octets) {
             Ok(()) => {}
             Err(_) => return Err(Stop::NoMemory),
         }
@@ -196,18 +180,13 @@ impl Reader {
         ensures takes { HasTaken schema.now given.now names.now.texts.items self.old self.new sheets.old.items sheets.new.items result }
     {
         let mut fresh = Vec::new(alloc);
-        let taken = take_placed(
-            rt,
+        let search = Search {
             alloc,
             schema,
             given,
             workers,
-            &mut self.splitter,
-            &mut self.opened,
-            &mut self.buffers,
-            &mut self.rounds,
-            &mut fresh,
-        );
+        };
+        let taken = search.take_placed(rt, &mut self.intake, &mut fresh);
         self.fields += fresh.len() as u64;
         let are_known = names.know_all(&fresh);
         match sheets.append(&mut fresh) {
@@ -283,7 +262,7 @@ pub fn read_on<X, I: Source<X>, R: Threads + Sync>(
     ensures { ReadOn schema.now given.now names.now.texts.items reader.old reader.new (I.left input.old) (I.left input.new) (I.faults input.old) (I.faults input.new) result }
 {
     let mut sheets = Vec::new(alloc);
-    reader.rounds.hand_on();
+    reader.intake.rounds.hand_on();
     let end = reader.fill(rt, alloc, input, schema, given, workers, names, &mut sheets);
     Batch { sheets, end }
 }

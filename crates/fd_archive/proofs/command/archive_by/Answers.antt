@@ -24,7 +24,7 @@ returns-in-Ok-clause-ran g c = λ root faults le ruled.
     c.in-Ok.bulk
     (subst (InputKept c.args.workers c.args.schema.now c.args.given.now left after start now) is c.store_all.ensures.stored)
     (subst (λ f. IfSome left (λ octets. OnOk f (after ≡ Some []))) is c.store_all.ensures.to_end)
-    (subst (λ f. IsRead f (g.W.Input.Source.faults c.store_all.new.input ≡ g.W.Input.Source.faults c.args.objects.now.input)) is c.store_all.ensures.calm)
+    (subst (λ f. IsRead f (g.W.Input.Source.faults c.store_all.new.input ≡ g.W.Input.Source.faults c.args.objects.now.input)) is c.store_all.ensures.causes.calm)
     c.tell_counts.ensures
 
 pub returns-in-Err-clause-ran : goal.returns-in-Err-clause-ran
@@ -44,9 +44,9 @@ returns-in-Err-clause-ran g c = λ root faults le ruled.
     (object (g.W.Report.Sink.taken c.args.objects.now.report) (g.W.Report.Sink.taken c.tell_fault.new.report) (g.W.Report.Sink.faults c.args.objects.now.report) (g.W.Report.Sink.faults c.tell_fault.new.report)) c.tell_fault.result c.args.schema.now ruled c.store_all.ensures.told
     c.in-Err.fault
     (subst (InputKept c.args.workers c.args.schema.now c.args.given.now left after start now) is c.store_all.ensures.stored)
-    (subst (λ f. IsRead f (later ≡ before)) is c.store_all.ensures.calm)
-    (subst (λ f. OnInput f (Rose before later)) is c.store_all.ensures.read)
-    (subst (λ f. OnDisk f (Rose faults last)) is (on_disk c.store_all.result (Rose first last) (Rose faults last) (rose_later faults first last le) c.store_all.ensures.disk))
+    (subst (λ f. IsRead f (later ≡ before)) is c.store_all.ensures.causes.calm)
+    (subst (λ f. OnInput f (Rose before later)) is c.store_all.ensures.causes.read)
+    (subst (λ f. OnDisk f (Rose faults last)) is (on_disk c.store_all.result (Rose first last) (Rose faults last) (rose_later faults first last le) c.store_all.ensures.causes.disk))
     c.tell_fault.ensures
 
 pub returns-in-Ok-clause-outlasts : goal.returns-in-Ok-clause-outlasts

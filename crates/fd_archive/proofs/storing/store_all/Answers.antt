@@ -1,3 +1,4 @@
+use Rattle.std.proofs.Common.{arith}
 use Rattle.fd_bytes.specs.Causes.{Rose}
 use Rattle.fd_bulk.proofs.Sparing.{parts_back, parts_of, same_spared}
 use Rattle.fd_archive.proofs.Giving.{back_of, kept_of, none_out, seated, starved_kept}
@@ -22,12 +23,21 @@ returns-clause-stored g c =
     kept_of g.S.Folder.Folder.has c.args.workers c.args.schema.now c.args.given.now (g.I.Source.left c.args.input.now) (g.I.Source.left c.archive_all-found.new.input) (g.S.Store.has c.args.store.now) (g.S.Store.has c.archive_all-found.new.store) c.archive_all-found.new.opener.library.each
     (g.S.Store.has c.end.new.store) c.end.ensures.given c.end.ensures.kept c.archive_all-found.result c.archive_all-found.ensures.archived
 
-pub returns-clause-disk : goal.returns-clause-disk
-returns-clause-disk g c =
+pub returns-in_default-clause-causes : goal.returns-in_default-clause-causes
+returns-in_default-clause-causes g c = record { calm = tt; read = tt; disk = tt; later = omega arith }
+
+pub returns-clause-causes : goal.returns-clause-causes
+returns-clause-causes g c =
     let first = g.S.Store.faults c.args.store.now in
     let mid = g.S.Store.faults c.archive_all-found.new.store in
     let last = g.S.Store.faults c.end.new.store in
-    on_disk c.archive_all-found.result (Rose first mid) (Rose first last) (rose_before first mid last c.end.ensures.later) c.archive_all-found.ensures.disk
+    let h = c.archive_all-found.ensures.causes in
+    record {
+      calm = h.calm;
+      read = h.read;
+      disk = on_disk c.archive_all-found.result (Rose first mid) (Rose first last) (rose_before first mid last c.end.ensures.later) h.disk;
+      later = omega (arith, h.later, c.end.ensures.later);
+    }
 
 pub returns-in_default-clause-spares : goal.returns-in_default-clause-spares
 returns-in_default-clause-spares g c = same_spared (g.S.Store.has c.args.store.now)

@@ -25,7 +25,7 @@ returns-in_default-clause-ran g c =
 
 pub returns-in-Ok-ruled-clause-ran : goal.returns-in-Ok-ruled-clause-ran
 returns-in-Ok-ruled-clause-ran g c =
-    c.trial_by.ensures.ran c.args.root.now (g.W.Store.Store.has c.args.objects.now.store) (g.W.Store.Store.faults c.args.objects.now.store) c.ruled.ensures.later c.in-Ok-ruled.ensures.rules
+    c.run.ensures.ran c.args.root.now (g.W.Store.Store.has c.args.objects.now.store) (g.W.Store.Store.faults c.args.objects.now.store) c.ruled.ensures.later c.in-Ok-ruled.ensures.rules
 
 pub returns-in-Err-Disk-clause-ran : goal.returns-in-Err-Disk-clause-ran
 returns-in-Err-Disk-clause-ran g c =
@@ -72,7 +72,7 @@ returns-in_default-clause-outlasts g c = idle_trial c.tell_no_memory.result c.ar
 
 pub returns-in-Ok-ruled-clause-outlasts : goal.returns-in-Ok-ruled-clause-outlasts
 returns-in-Ok-ruled-clause-outlasts g c =
-    since_planted c.trial_by.result c.args.workers c.args.count c.in-Ok-ruled.schema (g.W.Store.Store.has c.args.objects.now.store) (g.W.Store.Store.has c.ruled.new.store) (g.W.Store.Store.has c.trial_by.new.objects.store) c.in-Ok-ruled.ensures.rules c.ruled.ensures.kept c.trial_by.ensures.outlasts
+    since_planted c.run.result c.args.workers c.args.count c.in-Ok-ruled.schema (g.W.Store.Store.has c.args.objects.now.store) (g.W.Store.Store.has c.ruled.new.store) (g.W.Store.Store.has c.run.new.objects.store) c.in-Ok-ruled.ensures.rules c.ruled.ensures.kept c.run.ensures.outlasts
 
 pub returns-in-Err-Disk-clause-outlasts : goal.returns-in-Err-Disk-clause-outlasts
 returns-in-Err-Disk-clause-outlasts g c =
@@ -151,8 +151,8 @@ returns-in-Ok-ruled-clause-notices g c =
     let l = g.W.Input.Source.faults c.args.objects.now.input in
     let a = g.W.Output.Sink.taken c.args.objects.now.output in
     let k = g.W.Output.Sink.faults c.args.objects.now.output in
-    whole_notices c.args.count c.args.workers c.args.root.now (g.W.Store.Store.has c.args.objects.now.store) (g.W.Store.Store.has c.trial_by.new.objects.store) (g.W.Store.Store.faults c.args.objects.now.store) (g.W.Store.Store.faults c.trial_by.new.objects.store) left l a k (object (g.W.Report.Sink.taken c.args.objects.now.report) (g.W.Report.Sink.taken c.trial_by.new.objects.report) (g.W.Report.Sink.faults c.args.objects.now.report) (g.W.Report.Sink.faults c.trial_by.new.objects.report)) c.trial_by.result c.in-Ok-ruled.schema (g.W.Store.Store.has c.ruled.new.store)
-    c.in-Ok-ruled.ensures.rules c.ruled.ensures.kept c.trial_by.ensures.undamaged
+    whole_notices c.args.count c.args.workers c.args.root.now (g.W.Store.Store.has c.args.objects.now.store) (g.W.Store.Store.has c.run.new.objects.store) (g.W.Store.Store.faults c.args.objects.now.store) (g.W.Store.Store.faults c.run.new.objects.store) left l a k (object (g.W.Report.Sink.taken c.args.objects.now.report) (g.W.Report.Sink.taken c.run.new.objects.report) (g.W.Report.Sink.faults c.args.objects.now.report) (g.W.Report.Sink.faults c.run.new.objects.report)) c.run.result c.in-Ok-ruled.schema (g.W.Store.Store.has c.ruled.new.store)
+    c.in-Ok-ruled.ensures.rules c.ruled.ensures.kept c.run.ensures.undamaged
 
 pub returns-in-Ok-ruled-clause-spares : goal.returns-in-Ok-ruled-clause-spares
-returns-in-Ok-ruled-clause-spares g c = planted_spares (g.W.Store.Store.has c.args.objects.now.store) (g.W.Store.Store.has c.ruled.new.store) (g.W.Store.Store.has c.trial_by.new.objects.store) c.ruled.ensures.kept c.trial_by.ensures.spares
+returns-in-Ok-ruled-clause-spares g c = planted_spares (g.W.Store.Store.has c.args.objects.now.store) (g.W.Store.Store.has c.ruled.new.store) (g.W.Store.Store.has c.run.new.objects.store) c.ruled.ensures.kept c.run.ensures.spares

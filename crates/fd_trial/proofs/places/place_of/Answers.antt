@@ -14,12 +14,12 @@ key_in-requires c =
     let read = subst (λ (m : List ℕ). IsMessage m (sections_of c.in-Ok.message)) c.deref.ensures.value c.in-Ok.ensures.ok in
     key_there c.args.schema.now c.args.given.now c.args.i c.in_ok-octets.octets.items (sections_of c.in-Ok.message) read c.in_ok-octets.ensures.message c.requires.placed
 
-pub place_in-requires : goal.place_in-requires
-place_in-requires c =
+pub certain_place-requires : goal.certain_place-requires
+certain_place-requires c =
     let read = subst (λ (m : List ℕ). IsMessage m (sections_of c.in-Ok.message)) c.deref.ensures.value c.in-Ok.ensures.ok in
     place_there c.args.schema.now c.args.given.now c.in_ok-key.key c.args.i c.in_ok-octets.octets.items (sections_of c.in-Ok.message) read c.in_ok-octets.ensures.message c.in_ok-key.ensures c.requires.placed
 
-pub returns-in-Ok-place_in : goal.returns-in-Ok-place_in
-returns-in-Ok-place_in c =
+pub returns-in-Ok-certain_place : goal.returns-in-Ok-certain_place
+returns-in-Ok-certain_place c =
     let read = subst (λ (m : List ℕ). IsMessage m (sections_of c.in-Ok.message)) c.deref.ensures.value c.in-Ok.ensures.ok in
-    placed_so c.args.schema.now c.args.given.now _ c.args.i c.in_ok-octets.octets.items (sections_of c.in-Ok.message) (seen_place c.in-Ok-place_in.place) read c.in_ok-octets.ensures.message c.in_ok-key.ensures c.in-Ok-place_in.ensures
+    placed_so c.args.schema.now c.args.given.now _ c.args.i c.in_ok-octets.octets.items (sections_of c.in-Ok.message) (seen_place c.in-Ok-certain_place.place) read c.in_ok-octets.ensures.message c.in_ok-key.ensures c.in-Ok-certain_place.ensures

@@ -1,4 +1,4 @@
-use Rattle.std.proofs.Common.{rules, ◌≡◌, ◌∙◌, ℕ, Bool, true, List, [], Option, Some, Ok, Err, length, ap, refl, subst, sym}
+use Rattle.std.proofs.Common.{rules, ◌≡◌, ◌∙◌, ℕ, Bool, true, List, [], Option, Some, Ok, Err, length, ap, arith, refl, subst, sym}
 use Rattle.std.specs.Prelude.{is_some}
 use Rattle.fd_bytes.specs.Causes.{Rose}
 use Rattle.fd_disk.specs.Folders.{Holdings}
@@ -13,6 +13,9 @@ returns-in_default-clause-archived g c = starved_first _ g.S.Folder.Folder.has c
 
 pub returns-in_default-clause-spares : goal.returns-in_default-clause-spares
 returns-in_default-clause-spares g c = same_spared (g.S.Store.has c.args.store.now)
+
+pub returns-in_default-clause-causes : goal.returns-in_default-clause-causes
+returns-in_default-clause-causes g c = record { calm = tt; read = tt; disk = tt; later = omega arith }
 
 pub deal_input-dealt-requires-clause-begun : goal.deal_input-dealt-requires-clause-begun
 deal_input-dealt-requires-clause-begun g c κs within =
@@ -66,17 +69,11 @@ returns-in-Ok-found-clause-to_end g c =
     end_stands left e _ _ c.store_dealt-stored.result (Ok c.in-Ok-found.field-0) c.in-Ok-found.ensures.stands
     (end_stands left e _ _ c.deal_input-dealt.result c.store_dealt-stored.result c.store_dealt-stored.ensures.stands c.deal_input-dealt.ensures.to_end)
 
-pub returns-in-Ok-found-clause-calm : goal.returns-in-Ok-found-clause-calm
-returns-in-Ok-found-clause-calm g c =
+pub returns-in-Ok-found-clause-causes : goal.returns-in-Ok-found-clause-causes
+returns-in-Ok-found-clause-causes g c =
     let h = causes_stand _ _ _ _ _ c.store_dealt-stored.result (Ok c.in-Ok-found.field-0)
     (causes_stand _ _ _ _ _ c.deal_input-dealt.result c.store_dealt-stored.result c.deal_input-dealt.ensures.causes c.store_dealt-stored.ensures.stands) c.in-Ok-found.ensures.stands in
-    h.calm
-
-pub returns-in-Ok-found-clause-later : goal.returns-in-Ok-found-clause-later
-returns-in-Ok-found-clause-later g c =
-    let h = causes_stand _ _ _ _ _ c.store_dealt-stored.result (Ok c.in-Ok-found.field-0)
-    (causes_stand _ _ _ _ _ c.deal_input-dealt.result c.store_dealt-stored.result c.deal_input-dealt.ensures.causes c.store_dealt-stored.ensures.stands) c.in-Ok-found.ensures.stands in
-    h.later
+    record { calm = h.calm; read = tt; disk = tt; later = h.later }
 
 pub returns-clause-archived : goal.returns-clause-archived
 returns-clause-archived g c =
@@ -88,29 +85,16 @@ returns-clause-spares g c =
     let each = c.end.new.opener.library.each in
     parts_spared each (g.S.Store.has c.args.store.now) (g.S.Store.has c.list_stored-found.new.store) (parts_of g.S.Folder.Folder.has c.args.workers c.args.self.now.schema.now c.args.self.now.given.now (g.I.Source.left c.args.input.now) (g.I.Source.left c.deal_input-dealt.new.input) (g.S.Store.has c.args.store.now) (g.S.Store.has c.list_stored-found.new.store) each {X = g.row.X.Denot} (Err c.in-Err.fault) (returns-clause-archived g c))
 
-pub returns-clause-calm : goal.returns-clause-calm
-returns-clause-calm g c =
+pub returns-clause-causes : goal.returns-clause-causes
+returns-clause-causes g c =
     let h = causes_stand _ _ _ _ _ c.store_dealt-stored.result (Err c.in-Err.fault)
     (causes_stand _ _ _ _ _ c.deal_input-dealt.result c.store_dealt-stored.result c.deal_input-dealt.ensures.causes c.store_dealt-stored.ensures.stands) c.in-Err.ensures.stands in
-    read_of (g.I.Source.faults c.deal_input-dealt.new.input ≡ g.I.Source.faults c.args.input.now) c.in-Err.fault h.read_quiet
-
-pub returns-clause-read : goal.returns-clause-read
-returns-clause-read g c =
-    let h = causes_stand _ _ _ _ _ c.store_dealt-stored.result (Err c.in-Err.fault)
-    (causes_stand _ _ _ _ _ c.deal_input-dealt.result c.store_dealt-stored.result c.deal_input-dealt.ensures.causes c.store_dealt-stored.ensures.stands) c.in-Err.ensures.stands in
-    input_of (Rose (g.I.Source.faults c.args.input.now) (g.I.Source.faults c.deal_input-dealt.new.input)) c.in-Err.fault h.read
-
-pub returns-clause-disk : goal.returns-clause-disk
-returns-clause-disk g c =
-    let h = causes_stand _ _ _ _ _ c.store_dealt-stored.result (Err c.in-Err.fault)
-    (causes_stand _ _ _ _ _ c.deal_input-dealt.result c.store_dealt-stored.result c.deal_input-dealt.ensures.causes c.store_dealt-stored.ensures.stands) c.in-Err.ensures.stands in
-    disk_of (Rose (g.S.Store.faults c.args.store.now) (g.S.Store.faults c.list_stored-found.new.store)) c.in-Err.fault h.cause
-
-pub returns-clause-later : goal.returns-clause-later
-returns-clause-later g c =
-    let h = causes_stand _ _ _ _ _ c.store_dealt-stored.result (Err c.in-Err.fault)
-    (causes_stand _ _ _ _ _ c.deal_input-dealt.result c.store_dealt-stored.result c.deal_input-dealt.ensures.causes c.store_dealt-stored.ensures.stands) c.in-Err.ensures.stands in
-    h.later
+    record {
+      calm = read_of (g.I.Source.faults c.deal_input-dealt.new.input ≡ g.I.Source.faults c.args.input.now) c.in-Err.fault h.read_quiet;
+      read = input_of (Rose (g.I.Source.faults c.args.input.now) (g.I.Source.faults c.deal_input-dealt.new.input)) c.in-Err.fault h.read;
+      disk = disk_of (Rose (g.S.Store.faults c.args.store.now) (g.S.Store.faults c.list_stored-found.new.store)) c.in-Err.fault h.cause;
+      later = h.later;
+    }
 
 pub returns-in-Ok-found-clause-out : goal.returns-in-Ok-found-clause-out
 returns-in-Ok-found-clause-out g c = λ n is.

@@ -20,7 +20,7 @@ returns-in-Ok-true-clause-takes g c =
     let t = c.take_placed-taken.ensures.took c.self.inside.fields in
     let ss = c.take_placed-taken.new.done in
     let size : c.len.result ≡ length ss.items = search rules in
-    let counted = ap (λ (k : ℕ). standing c.take_placed-taken.new.splitter c.take_placed-taken.new.opened (c.self.inside.fields + k)) size in
+    let counted = ap (λ (k : ℕ). standing c.take_placed-taken.new.intake.splitter c.take_placed-taken.new.intake.opened (c.self.inside.fields + k)) size in
     record {
       fresh = ss.items;
       middle = t.middle;
@@ -34,7 +34,7 @@ returns-then-are_known-clause-takes g c =
     let t = c.take_placed-taken.ensures.took c.self.inside.fields in
     let ss = c.take_placed-taken.new.done in
     let size : c.len.result ≡ length ss.items = search rules in
-    let counted = ap (λ (k : ℕ). standing c.take_placed-taken.new.splitter c.take_placed-taken.new.opened (c.self.inside.fields + k)) size in
+    let counted = ap (λ (k : ℕ). standing c.take_placed-taken.new.intake.splitter c.take_placed-taken.new.intake.opened (c.self.inside.fields + k)) size in
     record {
       fresh = ss.items;
       middle = t.middle;
@@ -48,7 +48,7 @@ returns-in-Ok-false-clause-takes g c =
     let t = c.take_placed-taken.ensures.took c.self.inside.fields in
     let ss = c.take_placed-taken.new.done in
     let size : c.len.result ≡ length ss.items = search rules in
-    let counted = ap (λ (k : ℕ). standing c.take_placed-taken.new.splitter c.take_placed-taken.new.opened (c.self.inside.fields + k)) size in
+    let counted = ap (λ (k : ℕ). standing c.take_placed-taken.new.intake.splitter c.take_placed-taken.new.intake.opened (c.self.inside.fields + k)) size in
     record {
       fresh = ss.items;
       middle = t.middle;
@@ -66,5 +66,5 @@ returns-clause-takes g c =
       middle = t.middle;
       adds = c.in-Ok.ensures.items;
       placed = subst (λ p. Placed c.args.schema.now c.args.given.now p ss.items t.middle) c.self.view_is t.placed;
-      rests = rests_stop c.args.names.now.texts.items ss.items t.middle (standing c.take_placed-taken.new.splitter c.take_placed-taken.new.opened (c.self.inside.fields + c.len.result)) c.in-Err-taken.end c.stopped.result (rw c.in-Err-taken.is at t.stays) c.stopped.ensures;
+      rests = rests_stop c.args.names.now.texts.items ss.items t.middle (standing c.take_placed-taken.new.intake.splitter c.take_placed-taken.new.intake.opened (c.self.inside.fields + c.len.result)) c.in-Err-taken.end c.stopped.result (rw c.in-Err-taken.is at t.stays) c.stopped.ensures;
     }
