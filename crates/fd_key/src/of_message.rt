@@ -58,7 +58,7 @@ fn message_key(alloc: Global, message: &Message<'_>) -> Result<Key, KeyFault>
 fn discipline(message: &Message<'_>) -> u8
     ensures { result ≡ discipline_of (sections_of message.now).indicator }
 {
-    message.indicator()[6]
+    message.indicator[6]
 }
 
 /// The pairs of sections 0, 1 and 4, where the reference time is a day and a time of day.

@@ -186,12 +186,12 @@ fn description(alloc: Global, number: u64, message: &Message<'_>) -> Result<Stri
     ensures { IfOk result (λ t. string_bytes t ≡ describe_text number (sections_of message.now)) }
 {
     let mut out = String::new(alloc);
-    push_message(&mut out, number, message.indicator())?;
+    push_message(&mut out, number, message.indicator)?;
     push_ident(&mut out, message)?;
     push_grid(&mut out, message)?;
     push_product(alloc, &mut out, message)?;
     push_packing(&mut out, message)?;
-    push_map(&mut out, message.bit_map())?;
+    push_map(&mut out, message.bit_map)?;
     push_key(alloc, &mut out, message)?;
     Ok(out)
 }

@@ -35,7 +35,7 @@ impl Ident {
     pub fn read(message: &Message) -> Ident
         ensures { result ≡ identification_of (sections_of message.now).identification }
     {
-        numbers(message.identification())
+        numbers(message.identification)
     }
 
     /// Appends a section 1 of 21 octets, that reads as these numbers. After `NoMemory` nothing has changed.
