@@ -33,7 +33,8 @@ fn ident_numbers(ident: &Ident) -> [Option<i64>; 13]
 {
     plain_all!(
         ident: centre, sub_centre, master_tables_version, local_tables_version, reference_time_significance,
-        year, month, day, hour, minute, second, production_status, data_type
+        reference_time.year, reference_time.month, reference_time.day, reference_time.hour, reference_time.minute,
+        reference_time.second, production_status, data_type
     )
 }
 
