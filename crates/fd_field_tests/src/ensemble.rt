@@ -6,7 +6,7 @@ use fd_listing::describe;
 use fd_rows::{agreed, lines};
 use fd_schema::{PlaceFault, Schema};
 use fd_sections::message;
-use fd_templates::{AnyProduct, Ensemble, Interval, Range, Ranges};
+use fd_templates::{AnyProduct, DateTime, Ensemble, Interval, Range, Ranges};
 use std::alloc::Global;
 
 /// The member of an ensemble.
@@ -260,12 +260,14 @@ fn two_ranges(alloc: Global) -> Option<Interval> {
     };
     let items = Vec::from_array(alloc, [range, range]).ok()?;
     Some(Interval {
-        year: 2024,
-        month: 1,
-        day: 1,
-        hour: 6,
-        minute: 0,
-        second: 0,
+        end: DateTime {
+            year: 2024,
+            month: 1,
+            day: 1,
+            hour: 6,
+            minute: 0,
+            second: 0,
+        },
         missing: 0,
         ranges: Ranges::from_vec(items),
     })

@@ -49,9 +49,10 @@ fn numbers(alloc: Global, i: u64) -> Option<([u8; 4], i32, i32)> {
     let field = message(&octets).ok()?;
     let ident = Ident::read(&field);
     let product = Product::read(&field).ok()?;
-    let day = [ident.month, ident.day, product.category, product.parameter];
+    let time = ident.reference_time;
+    let day = [time.month, time.day, product.category, product.parameter];
     let level = product.first_surface_value.unwrap_or(0);
-    (ident.year == 2024).then_some((day, product.forecast_time, level))
+    (time.year == 2024).then_some((day, product.forecast_time, level))
 }
 
 #[test]

@@ -48,20 +48,22 @@ fn put_page(out: &mut Vec<u8>, count: u16, text: &[u8]) -> Result<(), NoMemory>
     push_zeros(out, ROOM - text.len())
 }
 
-/// The pages of the records, one after the other, and how many they are.
+/// The pages of the records, one after the other, and how many they are. Without a record there are none.
 fn put_pages(
     alloc: Global,
     out: &mut Vec<u8>,
     texts: &Region,
     slots: &[Slot],
 ) -> Result<u32, NoMemory>
-    requires some { 0 < length slots.now }
     requires small { length slots.now < 2 ^ 32 }
     requires within { AreWithin texts.now.texts slots.now }
     requires fit { AllFit (records_of texts.now.texts slots.now) }
     ensures bytes { OnOk result (out.new.items ≡ out.old.items ++ pages_bytes (pages_of (records_of texts.now.texts slots.now))) }
     ensures count { IfOk result (λ n. n ≡ length (pages_of (records_of texts.now.texts slots.now))) }
 {
+    if slots.is_empty() {
+        return Ok(0);
+    }
     let mut text = Vec::new(alloc);
     let mut count: u16 = 0;
     let mut pages: u32 = 1;
@@ -80,25 +82,6 @@ fn put_pages(
     Ok(pages)
 }
 
-/// The pages, of which there are none without a record.
-fn put_all(
-    alloc: Global,
-    out: &mut Vec<u8>,
-    texts: &Region,
-    slots: &[Slot],
-) -> Result<u32, NoMemory>
-    requires small { length slots.now < 2 ^ 32 }
-    requires within { AreWithin texts.now.texts slots.now }
-    requires fit { AllFit (records_of texts.now.texts slots.now) }
-    ensures bytes { OnOk result (out.new.items ≡ out.old.items ++ pages_bytes (pages_of (records_of texts.now.texts slots.now))) }
-    ensures count { IfOk result (λ n. n ≡ length (pages_of (records_of texts.now.texts slots.now))) }
-{
-    if slots.is_empty() {
-        return Ok(0);
-    }
-    put_pages(alloc, out, texts, slots)
-}
-
 /// The index file of some records.
 #[tactic(auto, unfolding(crate::specs::Pages::index_of))]
 pub(crate) fn file_of(alloc: Global, texts: &Region, slots: &[Slot]) -> Result<Vec<u8>, NoMemory>
@@ -109,7 +92,7 @@ pub(crate) fn file_of(alloc: Global, texts: &Region, slots: &[Slot]) -> Result<V
 {
     let mut out = Vec::new(alloc);
     out.extend_from_slice(b"FDIDX001")?;
-    let pages = put_all(alloc, &mut out, texts, slots)?;
+    let pages = put_pages(alloc, &mut out, texts, slots)?;
     out.extend_from_slice(&(slots.len() as u64).to_be_bytes())?;
     out.extend_from_slice(&pages.to_be_bytes())?;
     out.extend_from_slice(b"FEND")?;

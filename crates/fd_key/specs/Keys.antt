@@ -29,11 +29,11 @@ step_of p = step_text (is_negative p.forecast_time) (unsigned_abs p.forecast_tim
 
 -- the day of the reference time
 abbrev pub date_of : Ident → List ℕ
-date_of i = date_text i.year i.month i.day
+date_of i = date_text i.reference_time.year i.reference_time.month i.reference_time.day
 
 -- its time of day
 abbrev pub time_of : Ident → List ℕ
-time_of i = time_text i.hour i.minute i.second
+time_of i = time_text i.reference_time.hour i.reference_time.minute i.reference_time.second
 
 -- the quantity, by its discipline, category and number
 abbrev pub param_in : ℕ → Product → List ℕ
@@ -88,7 +88,7 @@ discipline_of indicator = octets.number 7 7 indicator
 
 -- the reference time is a day of the years 0 to 9999 and a time of day
 abbrev pub has_date : Ident → Bool
-has_date i = is_date i.year i.month i.day && is_time i.hour i.minute i.second
+has_date i = is_date i.reference_time.year i.reference_time.month i.reference_time.day && is_time i.reference_time.hour i.reference_time.minute i.reference_time.second
 
 abbrev pub dated_pairs : ℕ → Ident → AnyProduct → Result (List Pair) KeyFault
 dated_pairs discipline i p = if has_date i then Ok (pairs_in discipline i p) else Err faults.BadDate

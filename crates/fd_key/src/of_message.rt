@@ -58,7 +58,7 @@ fn message_key(alloc: Global, message: &Message<'_>) -> Result<Key, KeyFault>
 fn discipline(message: &Message<'_>) -> u8
     ensures { result ≡ discipline_of (sections_of message.now).indicator }
 {
-    message.indicator()[6]
+    message.indicator[6]
 }
 
 /// The pairs of sections 0, 1 and 4, where the reference time is a day and a time of day.
@@ -231,14 +231,15 @@ fn put_stat(alloc: Global, key: &mut Key, interval: &Option<Interval>) -> Result
 fn has_date(ident: &Ident) -> bool
     ensures { result ≡ has_date ident.now }
 {
+    let time = ident.reference_time;
     is_date(
-        u32::from(ident.year),
-        u32::from(ident.month),
-        u32::from(ident.day),
+        u32::from(time.year),
+        u32::from(time.month),
+        u32::from(time.day),
     ) && is_time(
-        u32::from(ident.hour),
-        u32::from(ident.minute),
-        u32::from(ident.second),
+        u32::from(time.hour),
+        u32::from(time.minute),
+        u32::from(time.second),
     )
 }
 
@@ -249,9 +250,9 @@ fn date_of(ident: &Ident) -> Value
     ensures short { length (value_text result) ≤ 8 }
 {
     Value::Date {
-        year: u32::from(ident.year),
-        month: u32::from(ident.month),
-        day: u32::from(ident.day),
+        year: u32::from(ident.reference_time.year),
+        month: u32::from(ident.reference_time.month),
+        day: u32::from(ident.reference_time.day),
     }
 }
 
@@ -262,9 +263,9 @@ fn time_of(ident: &Ident) -> Value
     ensures short { length (value_text result) ≤ 6 }
 {
     Value::Time {
-        hour: u32::from(ident.hour),
-        minute: u32::from(ident.minute),
-        second: u32::from(ident.second),
+        hour: u32::from(ident.reference_time.hour),
+        minute: u32::from(ident.reference_time.minute),
+        second: u32::from(ident.reference_time.second),
     }
 }
 

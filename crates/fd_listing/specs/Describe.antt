@@ -33,12 +33,12 @@ ident_numbers i =
     ∷ plain i.master_tables_version
     ∷ plain i.local_tables_version
     ∷ plain i.reference_time_significance
-    ∷ plain i.year
-    ∷ plain i.month
-    ∷ plain i.day
-    ∷ plain i.hour
-    ∷ plain i.minute
-    ∷ plain i.second
+    ∷ plain i.reference_time.year
+    ∷ plain i.reference_time.month
+    ∷ plain i.reference_time.day
+    ∷ plain i.reference_time.hour
+    ∷ plain i.reference_time.minute
+    ∷ plain i.reference_time.second
     ∷ plain i.production_status
     ∷ plain i.data_type
     ∷ []

@@ -41,12 +41,12 @@ ensemble_text (Some e) = numbers_text (ensemble_numbers e)
 -- the end of the interval, the number of its ranges, and how many values are missing
 unfoldable pub end_numbers : Interval → List (Option ℤ)
 end_numbers i =
-    plain i.year
-    ∷ plain i.month
-    ∷ plain i.day
-    ∷ plain i.hour
-    ∷ plain i.minute
-    ∷ plain i.second
+    plain i.end.year
+    ∷ plain i.end.month
+    ∷ plain i.end.day
+    ∷ plain i.end.hour
+    ∷ plain i.end.minute
+    ∷ plain i.end.second
     ∷ plain (length i.ranges)
     ∷ plain i.missing
     ∷ []

@@ -33,7 +33,8 @@ fn ident_numbers(ident: &Ident) -> [Option<i64>; 13]
 {
     plain_all!(
         ident: centre, sub_centre, master_tables_version, local_tables_version, reference_time_significance,
-        year, month, day, hour, minute, second, production_status, data_type
+        reference_time.year, reference_time.month, reference_time.day, reference_time.hour, reference_time.minute,
+        reference_time.second, production_status, data_type
     )
 }
 
@@ -186,12 +187,12 @@ fn description(alloc: Global, number: u64, message: &Message<'_>) -> Result<Stri
     ensures { IfOk result (λ t. string_bytes t ≡ describe_text number (sections_of message.now)) }
 {
     let mut out = String::new(alloc);
-    push_message(&mut out, number, message.indicator())?;
+    push_message(&mut out, number, message.indicator)?;
     push_ident(&mut out, message)?;
     push_grid(&mut out, message)?;
     push_product(alloc, &mut out, message)?;
     push_packing(&mut out, message)?;
-    push_map(&mut out, message.bit_map())?;
+    push_map(&mut out, message.bit_map)?;
     push_key(alloc, &mut out, message)?;
     Ok(out)
 }

@@ -3,8 +3,8 @@
 
 /// These numbers of one octet or two, none of which is missing.
 macro_rules! plain_all {
-    ($numbers:ident: $($name:ident),+) => {
-        [$(plain(u32::from($numbers.$name))),+]
+    ($numbers:ident: $($($name:ident).+),+) => {
+        [$(plain(u32::from($numbers.$($name).+))),+]
     };
 }
 

@@ -60,12 +60,12 @@ fn end_numbers(interval: &Interval) -> [Option<i64>; 8]
 {
     let count = interval.ranges.as_slice().len() as u32;
     [
-        plain(u32::from(interval.year)),
-        plain(u32::from(interval.month)),
-        plain(u32::from(interval.day)),
-        plain(u32::from(interval.hour)),
-        plain(u32::from(interval.minute)),
-        plain(u32::from(interval.second)),
+        plain(u32::from(interval.end.year)),
+        plain(u32::from(interval.end.month)),
+        plain(u32::from(interval.end.day)),
+        plain(u32::from(interval.end.hour)),
+        plain(u32::from(interval.end.minute)),
+        plain(u32::from(interval.end.second)),
         plain(count),
         plain(interval.missing),
     ]

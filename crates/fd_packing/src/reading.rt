@@ -135,11 +135,11 @@ pub fn read_parts<'a>(message: &Message<'a>) -> Result<Parts<'a>, FieldFault>
 {
     let simple = Simple::read(message)?;
     let reference = scaling_of(&simple)?;
-    let points = points_of(message.grid());
-    let map = map_of(message.bit_map(), points)?;
+    let points = points_of(message.grid);
+    let map = map_of(message.bit_map, points)?;
     let width = simple.bits as u32;
     let there = place_of(map, points, points);
-    let octets = octets_at(message.values(), simple.coded, width, there)?;
+    let octets = octets_at(message.values, simple.coded, width, there)?;
     Ok(Parts {
         reference,
         binary_scale: simple.binary_scale,

@@ -5,14 +5,22 @@ ghost use Rattle.fd_sections.specs.Message.{section_octets};
 #[derive(Clone, Copy)]
 pub struct Message<'a> {
     pub(crate) octets: &'a [u8],
-    pub(crate) indicator: &'a [u8],
-    pub(crate) identification: &'a [u8],
-    pub(crate) local_use: Option<&'a [u8]>,
-    pub(crate) grid: &'a [u8],
-    pub(crate) product: &'a [u8],
-    pub(crate) representation: &'a [u8],
-    pub(crate) bit_map: &'a [u8],
-    pub(crate) values: &'a [u8],
+    /// Section 0, the indicator section, which has 16 octets.
+    pub indicator: &'a [u8],
+    /// Section 1, the identification section.
+    pub identification: &'a [u8],
+    /// Section 2, the local use section, where there is one.
+    pub local_use: Option<&'a [u8]>,
+    /// Section 3, the grid definition section.
+    pub grid: &'a [u8],
+    /// Section 4, the product definition section.
+    pub product: &'a [u8],
+    /// Section 5, the data representation section.
+    pub representation: &'a [u8],
+    /// Section 6, the bit-map section.
+    pub bit_map: &'a [u8],
+    /// Section 7, the data section.
+    pub values: &'a [u8],
     pub ghost indicator_long: { length indicator.now ≡ 16 },
     pub ghost identification_long: { 21 ≤ length identification.now },
     pub ghost grid_long: { 14 ≤ length grid.now },
@@ -48,61 +56,5 @@ impl<'a> Message<'a> {
             7 => Some(self.values),
             _ => Some(b"7777"),
         }
-    }
-
-    /// Section 0, the indicator section, which has 16 octets.
-    pub fn indicator(&self) -> &'a [u8]
-        ensures octets { result.now ≡ (sections_of self.now).indicator }
-        ensures long { length result.now ≡ 16 }
-    {
-        self.indicator
-    }
-
-    /// Section 1, the identification section.
-    pub fn identification(&self) -> &'a [u8]
-        ensures octets { result.now ≡ (sections_of self.now).identification }
-        ensures long { 21 ≤ length result.now }
-    {
-        self.identification
-    }
-
-    /// Section 3, the grid definition section.
-    pub fn grid(&self) -> &'a [u8]
-        ensures octets { result.now ≡ (sections_of self.now).grid }
-        ensures long { 14 ≤ length result.now }
-    {
-        self.grid
-    }
-
-    /// Section 4, the product definition section.
-    pub fn product(&self) -> &'a [u8]
-        ensures octets { result.now ≡ (sections_of self.now).product }
-        ensures long { 9 ≤ length result.now }
-    {
-        self.product
-    }
-
-    /// Section 5, the data representation section.
-    pub fn representation(&self) -> &'a [u8]
-        ensures octets { result.now ≡ (sections_of self.now).representation }
-        ensures long { 11 ≤ length result.now }
-    {
-        self.representation
-    }
-
-    /// Section 6, the bit-map section.
-    pub fn bit_map(&self) -> &'a [u8]
-        ensures octets { result.now ≡ (sections_of self.now).bit_map }
-        ensures long { 6 ≤ length result.now }
-    {
-        self.bit_map
-    }
-
-    /// Section 7, the data section.
-    pub fn values(&self) -> &'a [u8]
-        ensures octets { result.now ≡ (sections_of self.now).values }
-        ensures long { 5 ≤ length result.now }
-    {
-        self.values
     }
 }

@@ -3,6 +3,7 @@ use Rattle.std.proofs.Common.{◌≡◌, ℕ, zero, suc, ◌<◌, ◌+◌, ◌-�
 use Rattle.fd_templates.specs.declared.interval.Range.{Range}
 use Rattle.fd_templates.specs.declared.interval.Interval.{Interval}
 use Rattle.fd_templates.specs.Octets.{number, octets_of}
+use Rattle.fd_templates.specs.DateTime.{date_time_octets}
 use Rattle.fd_templates.specs.Interval.{range_of, ranges_of, count_of, interval_of, range_octets, ranges_octets, end_octets}
 use Rattle.fd_templates.specs.Widths.{RangeRanges, AllRanges, IntervalRanges}
 use Rattle.fd_templates.proofs.Again.{one_again, two_again, four_again}
@@ -48,36 +49,31 @@ ranges_long (r ∷ rs) = omega (arith, length-append (range_octets r) (ranges_oc
 -- ---- an interval
 
 pub count_again : (i : Interval) → IntervalRanges i → count_of (end_octets i ++ ranges_octets i.ranges) ≡ length i.ranges
-unfolding number octets_of end_octets
+unfolding number octets_of date_time_octets end_octets
 count_again i f = one_again (length i.ranges) (omega (arith, f.few))
 
 end_behind : (i : Interval) (rest : List ℕ) → drop 12 (end_octets i ++ rest) ≡ rest
-unfolding octets_of end_octets
+unfolding octets_of date_time_octets end_octets
 end_behind i rest = refl
 
 -- the numbers before the ranges, and any ranges
 abbrev with_ranges : Interval → List Range → Interval
 with_ranges i rs = record {
-  year = i.year;
-  month = i.month;
-  day = i.day;
-  hour = i.hour;
-  minute = i.minute;
-  second = i.second;
+  end = i.end;
   missing = i.missing;
   ranges = rs;
 }
 
 front_again : (i : Interval) (rest : List ℕ) → IntervalRanges i → interval_of (end_octets i ++ rest) ≡ with_ranges i (ranges_of (count_of (end_octets i ++ rest)) (drop 12 (end_octets i ++ rest)))
-unfolding number octets_of end_octets
+unfolding number octets_of date_time_octets end_octets
 front_again i rest f =
     rw (
-      two_again i.year f.year,
-      one_again i.month f.month,
-      one_again i.day f.day,
-      one_again i.hour f.hour,
-      one_again i.minute f.minute,
-      one_again i.second f.second,
+      two_again i.end.year f.end.year,
+      one_again i.end.month f.end.month,
+      one_again i.end.day f.end.day,
+      one_again i.end.hour f.end.hour,
+      one_again i.end.minute f.end.minute,
+      one_again i.end.second f.end.second,
       four_again i.missing f.missing,
     ) refl
 
@@ -90,7 +86,7 @@ interval_again i f =
     ∙ ap (λ (rs : List Range). with_ranges i rs) (ranges_again i.ranges f.ranges)
 
 end_long : (i : Interval) → length (end_octets i) ≡ 12
-unfolding octets_of end_octets
+unfolding octets_of date_time_octets end_octets
 end_long i = refl
 
 pub interval_long : (i : Interval) → length (end_octets i ++ ranges_octets i.ranges) ≡ 12 + 12 * length i.ranges

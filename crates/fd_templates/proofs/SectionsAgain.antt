@@ -8,7 +8,7 @@ use Rattle.fd_templates.specs.declared.grid.LatLon.{LatLon}
 use Rattle.fd_templates.specs.declared.product.Product.{Product}
 use Rattle.fd_templates.specs.declared.simple.Simple.{Simple}
 use Rattle.fd_templates.specs.Octets.{FitsSigned, FitsOrMissing, number, signed_number, number_or_missing, signed_or_missing, octets_of, signed_octets, octets_or_ones, signed_or_ones, raw_or_ones, signed_raw_or_ones}
-use Rattle.fd_templates.specs.Identification as identification
+use Rattle.fd_templates.specs.DateTime.{date_time_octets}
 use Rattle.fd_templates.specs.Identification.{identification_of, identification_octets, origin_octets}
 use Rattle.fd_templates.specs.Grid as grid
 use Rattle.fd_templates.specs.Grid.{grid_is, grid_octets, earth_octets, size_octets, area_octets, step_octets}
@@ -16,7 +16,7 @@ use Rattle.fd_templates.specs.Product as product
 use Rattle.fd_templates.specs.Product.{product_is, product_octets, process_octets, surface_octets}
 use Rattle.fd_templates.specs.Simple as simple
 use Rattle.fd_templates.specs.Simple.{simple_is, simple_octets, packing_octets}
-use Rattle.fd_templates.specs.Widths.{ProductRanges}
+use Rattle.fd_templates.specs.Widths.{DateTimeRanges, ProductRanges}
 use Rattle.fd_templates.proofs.Again.{one_again, two_again, four_again, signed_again, signed_fits, missing_fits, missing_again, number_missing_fits, number_missing_again}
 
 fits_two : (z : ℤ) → FitsSigned 2 z → sign_and_magnitude 16 z < 2 ^ 16
@@ -41,17 +41,12 @@ pub record IdentRanges (i : Ident) : Type 0 where
   pub master_tables_version : i.master_tables_version < 2 ^ 8
   pub local_tables_version : i.local_tables_version < 2 ^ 8
   pub reference_time_significance : i.reference_time_significance < 2 ^ 8
-  pub year : i.year < 2 ^ 16
-  pub month : i.month < 2 ^ 8
-  pub day : i.day < 2 ^ 8
-  pub hour : i.hour < 2 ^ 8
-  pub minute : i.minute < 2 ^ 8
-  pub second : i.second < 2 ^ 8
+  pub reference_time : DateTimeRanges i.reference_time
   pub production_status : i.production_status < 2 ^ 8
   pub data_type : i.data_type < 2 ^ 8
 
 pub ident_again : (i : Ident) → IdentRanges i → identification_of (identification_octets i) ≡ i
-unfolding number octets_of identification_octets origin_octets identification.time_octets
+unfolding number octets_of identification_octets origin_octets date_time_octets
 ident_again i r =
     rw (
       two_again i.centre r.centre,
@@ -59,12 +54,12 @@ ident_again i r =
       one_again i.master_tables_version r.master_tables_version,
       one_again i.local_tables_version r.local_tables_version,
       one_again i.reference_time_significance r.reference_time_significance,
-      two_again i.year r.year,
-      one_again i.month r.month,
-      one_again i.day r.day,
-      one_again i.hour r.hour,
-      one_again i.minute r.minute,
-      one_again i.second r.second,
+      two_again i.reference_time.year r.reference_time.year,
+      one_again i.reference_time.month r.reference_time.month,
+      one_again i.reference_time.day r.reference_time.day,
+      one_again i.reference_time.hour r.reference_time.hour,
+      one_again i.reference_time.minute r.reference_time.minute,
+      one_again i.reference_time.second r.reference_time.second,
       one_again i.production_status r.production_status,
       one_again i.data_type r.data_type,
     ) refl
@@ -169,7 +164,7 @@ simple_again p f r =
 -- ---- What is written is a section
 
 pub ident_section : (i : Ident) → IsSection 1 21 (identification_octets i)
-unfolding octets_of identification_octets origin_octets identification.time_octets
+unfolding octets_of identification_octets origin_octets date_time_octets
 ident_section i = record { size = refl; number_is = refl; long = omega arith; header = omega arith }
 
 pub latlon_section : (g : LatLon) → IsSection 3 72 (grid_octets g)

@@ -2,6 +2,7 @@
 use Rattle.std.specs.Prelude.{List, ℕ, ◌++◌}
 use Rattle.fd_templates.specs.declared.identification.Ident.{Ident}
 use Rattle.fd_templates.specs.Octets.{number, octets_of}
+use Rattle.fd_templates.specs.DateTime.{date_time_of, date_time_octets}
 
 abbrev pub identification_of : List ℕ → Ident
 identification_of s = record {
@@ -10,12 +11,7 @@ identification_of s = record {
   master_tables_version = number 10 10 s;
   local_tables_version = number 11 11 s;
   reference_time_significance = number 12 12 s;
-  year = number 13 14 s;
-  month = number 15 15 s;
-  day = number 16 16 s;
-  hour = number 17 17 s;
-  minute = number 18 18 s;
-  second = number 19 19 s;
+  reference_time = date_time_of 13 s;
   production_status = number 20 20 s;
   data_type = number 21 21 s;
 }
@@ -26,9 +22,6 @@ unfoldable pub origin_octets : Ident → List ℕ
 origin_octets i =
     octets_of 2 i.centre ++ octets_of 2 i.sub_centre ++ octets_of 1 i.master_tables_version ++ octets_of 1 i.local_tables_version ++ octets_of 1 i.reference_time_significance
 
-unfoldable pub time_octets : Ident → List ℕ
-time_octets i = octets_of 2 i.year ++ octets_of 1 i.month ++ octets_of 1 i.day ++ octets_of 1 i.hour ++ octets_of 1 i.minute ++ octets_of 1 i.second
-
 unfoldable pub identification_octets : Ident → List ℕ
 identification_octets i =
-    octets_of 4 21 ++ octets_of 1 1 ++ origin_octets i ++ time_octets i ++ octets_of 1 i.production_status ++ octets_of 1 i.data_type
+    octets_of 4 21 ++ octets_of 1 1 ++ origin_octets i ++ date_time_octets i.reference_time ++ octets_of 1 i.production_status ++ octets_of 1 i.data_type

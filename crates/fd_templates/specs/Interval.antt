@@ -4,6 +4,7 @@ use Rattle.std.specs.Prelude.{ℕ, zero, suc, List, [], ◌∷◌, ◌++◌, dro
 use Rattle.fd_templates.specs.declared.interval.Range.{Range}
 use Rattle.fd_templates.specs.declared.interval.Interval.{Interval}
 use Rattle.fd_templates.specs.Octets.{number, octets_of}
+use Rattle.fd_templates.specs.DateTime.{date_time_of, date_time_octets}
 
 -- a time range has twelve octets
 abbrev pub range_of : List ℕ → Range
@@ -27,12 +28,7 @@ count_of tail = number 8 8 tail
 
 abbrev pub interval_of : List ℕ → Interval
 interval_of tail = record {
-  year = number 1 2 tail;
-  month = number 3 3 tail;
-  day = number 4 4 tail;
-  hour = number 5 5 tail;
-  minute = number 6 6 tail;
-  second = number 7 7 tail;
+  end = date_time_of 1 tail;
   missing = number 9 12 tail;
   ranges = ranges_of (count_of tail) (drop 12 tail);
 }
@@ -49,9 +45,7 @@ ranges_octets (r ∷ rs) = range_octets r ++ ranges_octets rs
 
 -- the interval's end, the number of ranges, and how many values are missing
 unfoldable pub end_octets : Interval → List ℕ
-end_octets i =
-    octets_of 2 i.year ++ octets_of 1 i.month ++ octets_of 1 i.day ++ octets_of 1 i.hour ++ octets_of 1 i.minute ++ octets_of 1 i.second
-    ++ octets_of 1 (length i.ranges) ++ octets_of 4 i.missing
+end_octets i = date_time_octets i.end ++ octets_of 1 (length i.ranges) ++ octets_of 4 i.missing
 
 abbrev pub interval_octets : Option Interval → List ℕ
 interval_octets None = []

@@ -1,5 +1,6 @@
 pub mod Octets
 pub mod Whole
+pub mod DateTime
 pub mod Identification
 pub mod Grid
 pub mod Product

@@ -1,5 +1,6 @@
--- The range of each number of section 4, by its type.
+-- The range of each number of section 4, and of the reference time of section 1, by its type.
 use Rattle.std.specs.Prelude.{◌^◌, ◌<◌, ◌≤◌, List, [], ◌∷◌, length, IfSome}
+use Rattle.fd_templates.specs.declared.date_time.DateTime.{DateTime}
 use Rattle.fd_templates.specs.declared.product.Product.{Product}
 use Rattle.fd_templates.specs.declared.ensemble.Ensemble.{Ensemble}
 use Rattle.fd_templates.specs.declared.interval.Range.{Range}
@@ -24,6 +25,14 @@ pub record EnsembleRanges (e : Ensemble) : Type 0 where
   pub number : e.number < 2 ^ 8
   pub size : e.size < 2 ^ 8
 
+pub record DateTimeRanges (t : DateTime) : Type 0 where
+  pub year : t.year < 2 ^ 16
+  pub month : t.month < 2 ^ 8
+  pub day : t.day < 2 ^ 8
+  pub hour : t.hour < 2 ^ 8
+  pub minute : t.minute < 2 ^ 8
+  pub second : t.second < 2 ^ 8
+
 pub record RangeRanges (r : Range) : Type 0 where
   pub process : r.process < 2 ^ 8
   pub increment_kind : r.increment_kind < 2 ^ 8
@@ -37,12 +46,7 @@ AllRanges [] = Unit {0}
 AllRanges (r ∷ rs) = RangeRanges r × AllRanges rs
 
 pub record IntervalRanges (i : Interval) : Type 0 where
-  pub year : i.year < 2 ^ 16
-  pub month : i.month < 2 ^ 8
-  pub day : i.day < 2 ^ 8
-  pub hour : i.hour < 2 ^ 8
-  pub minute : i.minute < 2 ^ 8
-  pub second : i.second < 2 ^ 8
+  pub end : DateTimeRanges i.end
   pub missing : i.missing < 2 ^ 32
   pub few : length i.ranges ≤ 255
   pub ranges : AllRanges i.ranges

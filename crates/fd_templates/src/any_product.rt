@@ -26,7 +26,7 @@ pub struct AnyProduct {
 pub fn product_template(message: &Message) -> u16
     ensures { result ≡ template_in (sections_of message.now).product }
 {
-    read_u16(message.product(), 8)
+    read_u16(message.product, 8)
 }
 
 impl AnyProduct {
@@ -37,7 +37,7 @@ impl AnyProduct {
         ensures numbers { GivesAny result (any_product_is (sections_of message.now).product) }
         ensures fits { IfOk result (λ p. Fits p.base) }
     {
-        read_section(alloc, message.product())
+        read_section(alloc, message.product)
     }
 
     /// The number of the template: 0, 1, 8 or 11.

@@ -56,7 +56,7 @@ impl LatLon {
         ensures numbers { result ≡ grid_is (sections_of message.now).grid }
         ensures fits { IfOk result Fits }
     {
-        let section = message.grid();
+        let section = message.grid;
         check_whole(section, 13, 72)?;
         Ok(numbers(section))
     }

@@ -1,7 +1,8 @@
 ghost use Rattle.std.specs.Prelude.{◌≡◌, ◌≤◌, ◌++◌, length, OnOk, OnErr};
 ghost use Rattle.fd_sections.specs.{Message.{IsSection}, Parts.{sections_of}};
-ghost use Rattle.fd_templates.specs.Identification.{identification_of, identification_octets, origin_octets, time_octets};
+ghost use Rattle.fd_templates.specs.Identification.{identification_of, identification_octets, origin_octets};
 
+use crate::date_time::{DateTime, date_time_octets, date_time_of};
 use crate::octets::{read_u8, read_u16};
 use fd_bytes::NoMemory;
 use fd_sections::Message;
@@ -15,15 +16,9 @@ pub struct Ident {
     /// Which versions of the code tables hold.
     pub master_tables_version: u8,
     pub local_tables_version: u8,
-    /// Code table 1.2: what the time that follows is.
+    /// Code table 1.2: what the reference time is.
     pub reference_time_significance: u8,
-    /// The reference time, in UTC.
-    pub year: u16,
-    pub month: u8,
-    pub day: u8,
-    pub hour: u8,
-    pub minute: u8,
-    pub second: u8,
+    pub reference_time: DateTime,
     /// Code table 1.3.
     pub production_status: u8,
     /// Code table 1.4: analysis, forecast, and so on.
@@ -35,7 +30,7 @@ impl Ident {
     pub fn read(message: &Message) -> Ident
         ensures { result ≡ identification_of (sections_of message.now).identification }
     {
-        numbers(message.identification())
+        numbers(message.identification)
     }
 
     /// Appends a section 1 of 21 octets, that reads as these numbers. After `NoMemory` nothing has changed.
@@ -61,12 +56,7 @@ fn numbers(section: &[u8]) -> Ident
         master_tables_version: read_u8(section, 10),
         local_tables_version: read_u8(section, 11),
         reference_time_significance: read_u8(section, 12),
-        year: read_u16(section, 13),
-        month: read_u8(section, 15),
-        day: read_u8(section, 16),
-        hour: read_u8(section, 17),
-        minute: read_u8(section, 18),
-        second: read_u8(section, 19),
+        reference_time: date_time_of(section, 13),
         production_status: read_u8(section, 20),
         data_type: read_u8(section, 21),
     }
@@ -89,22 +79,6 @@ fn origin(ident: Ident) -> [u8; 7]
     ]
 }
 
-/// The reference time.
-fn time(ident: Ident) -> [u8; 7]
-    ensures { result ≡ time_octets ident }
-{
-    let year = ident.year.to_be_bytes();
-    [
-        year[0],
-        year[1],
-        ident.month,
-        ident.day,
-        ident.hour,
-        ident.minute,
-        ident.second,
-    ]
-}
-
 /// The section with these numbers.
 fn section(ident: Ident) -> [u8; 21]
     ensures { result ≡ identification_octets ident }
@@ -112,7 +86,7 @@ fn section(ident: Ident) -> [u8; 21]
     let mut section = [0; 21];
     section[..5].copy_from_slice(b"\x00\x00\x00\x15\x01");
     section[5..12].copy_from_slice(&origin(ident));
-    section[12..19].copy_from_slice(&time(ident));
+    section[12..19].copy_from_slice(&date_time_octets(ident.reference_time));
     section[19] = ident.production_status;
     section[20] = ident.data_type;
     section

@@ -1,7 +1,8 @@
 ghost use Rattle.std.specs.Prelude.{◌≡◌, ◌≤◌, ◌<◌, ◌*◌, ◌+◌, ◌++◌, ◌^◌, List, true, length, IfOk, IfSome, OnOk, OnErr};
 ghost use Rattle.fd_templates.specs.{Interval.{range_of, ranges_of, count_of, interval_of, range_octets, ranges_octets, end_octets, interval_octets}, AnyProduct.{Extends, interval_if}, Widths.{RangeRanges, AllRanges, IntervalRanges}};
 
-use crate::octets::{read_u8, read_u16, read_u32};
+use crate::date_time::{DateTime, date_time_in_range, date_time_octets, date_time_of};
+use crate::octets::{read_u8, read_u32};
 use fd_bytes::NoMemory;
 use std::alloc::Global;
 use std::marker::Model;
@@ -68,13 +69,8 @@ impl Ranges {
 /// An interval of time: its end, and the time ranges that were processed.
 #[derive(Debug, Drop)]
 pub struct Interval {
-    /// The end of the interval, in UTC.
-    pub year: u16,
-    pub month: u8,
-    pub day: u8,
-    pub hour: u8,
-    pub minute: u8,
-    pub second: u8,
+    /// The end of the interval.
+    pub end: DateTime,
     /// How many values were missing in the process.
     pub missing: u32,
     pub ranges: Ranges,
@@ -126,12 +122,7 @@ fn numbers(alloc: Global, tail: &[u8]) -> Result<Interval, NoMemory>
     let (_, behind) = tail.split_at(12);
     let ranges = ranges_of(alloc, count_of(tail), behind)?;
     Ok(Interval {
-        year: read_u16(tail, 1),
-        month: read_u8(tail, 3),
-        day: read_u8(tail, 4),
-        hour: read_u8(tail, 5),
-        minute: read_u8(tail, 6),
-        second: read_u8(tail, 7),
+        end: date_time_of(tail, 1),
         missing: read_u32(tail, 9),
         ranges,
     })
@@ -167,30 +158,17 @@ fn ranges_in_range(ranges: &[Range])
     }
 }
 
-/// Each number before the ranges is in the range of its type.
-fn end_in_range(year: u16, month: u8, day: u8, hour: u8, minute: u8, second: u8, missing: u32)
-    ensures year { year < 2 ^ 16 }
-    ensures month { month < 2 ^ 8 }
-    ensures day { day < 2 ^ 8 }
-    ensures hour { hour < 2 ^ 8 }
-    ensures minute { minute < 2 ^ 8 }
-    ensures second { second < 2 ^ 8 }
-    ensures missing { missing < 2 ^ 32 }
+/// How many values were missing is in the range of its type.
+fn missing_in_range(missing: u32)
+    ensures { missing < 2 ^ 32 }
 {}
 
 /// Each number of an interval is in the range of its type.
 fn in_range(interval: &Interval)
     ensures { IntervalRanges interval.now }
 {
-    end_in_range(
-        interval.year,
-        interval.month,
-        interval.day,
-        interval.hour,
-        interval.minute,
-        interval.second,
-        interval.missing,
-    );
+    date_time_in_range(interval.end);
+    missing_in_range(interval.missing);
     ranges_in_range(interval.ranges.as_slice());
 }
 
@@ -242,22 +220,12 @@ fn end_octets(interval: &Interval) -> [u8; 12]
     ensures { result ≡ end_octets interval.now }
 {
     in_range(interval);
-    let year = interval.year.to_be_bytes();
+    let end = date_time_octets(interval.end);
     let count = interval.ranges.as_slice().len() as u8;
     let missing = interval.missing.to_be_bytes();
     [
-        year[0],
-        year[1],
-        interval.month,
-        interval.day,
-        interval.hour,
-        interval.minute,
-        interval.second,
-        count,
-        missing[0],
-        missing[1],
-        missing[2],
-        missing[3],
+        end[0], end[1], end[2], end[3], end[4], end[5], end[6], count, missing[0], missing[1],
+        missing[2], missing[3],
     ]
 }
 

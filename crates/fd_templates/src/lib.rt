@@ -4,6 +4,7 @@
 #![tactic(auto)]
 
 mod any_product;
+mod date_time;
 mod ensemble;
 mod fault;
 mod grid;
@@ -15,6 +16,7 @@ mod simple;
 mod whole;
 
 pub use any_product::{AnyProduct, product_template};
+pub use date_time::DateTime;
 pub use ensemble::Ensemble;
 pub use fault::{AnyFault, TemplateFault};
 pub use grid::LatLon;

@@ -50,7 +50,7 @@ impl Product {
         ensures numbers { result ≡ product_is (sections_of message.now).product }
         ensures fits { IfOk result Fits }
     {
-        let section = message.product();
+        let section = message.product;
         check_whole(section, 8, 34)?;
         Ok(numbers(section))
     }

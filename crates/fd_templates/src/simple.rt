@@ -34,7 +34,7 @@ impl Simple {
         ensures numbers { result ≡ simple_is (sections_of message.now).representation }
         ensures fits { IfOk result Fits }
     {
-        let section = message.representation();
+        let section = message.representation;
         check_whole(section, 10, 21)?;
         Ok(Simple {
             coded: read_u32(section, 6),

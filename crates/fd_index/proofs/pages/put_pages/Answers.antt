@@ -1,13 +1,25 @@
-use Rattle.std.proofs.Common.{◌≡◌, ◌<◌, ◌≤◌, ◌+◌, ◌-◌, [], ◌∷◌, ◌++◌, List, ℕ, Option, length, drop, get_or, ap, ◌∙◌, sym, subst, arith}
+use Rattle.std.proofs.Common.{◌≡◌, ◌≢◌, ◌<◌, ◌≤◌, ◌+◌, ◌-◌, [], ◌∷◌, ◌++◌, List, ℕ, Bool, false, eqb, Option, length, drop, get_or, ap, ◌∙◌, sym, subst, arith}
 use Rattle.std.specs.Prelude.{unwrap_or}
+use Rattle.std.proofs.lemmas.Bool.{eqb-true, eqb-false}
 use Rattle.std.proofs.lemmas.List.{drop_more, drop_all, length-map}
 use Rattle.fd_index.specs.Pages.{closed, size}
 use Rattle.fd_index.specs.Records.{Record}
 use Rattle.fd_index.specs.Slots.{record_of, records_of}
 use Rattle.fd_index.specs.declared.slots.Slot.{Slot}
-use Rattle.fd_index.proofs.Paging.{Filling, starts, adds, turns, stops}
+use Rattle.fd_index.proofs.Paging.{Filling, starts, adds, turns, stops, none_to_put}
 use Rattle.fd_index.proofs.pages.put_pages.Goals as goal
 use Rattle.fd_index.proofs.pages.put_pages.Goals.{then-len-size_of+in_ok-put_page, else-len-size_of}
+
+some_are : (ss : List Slot) (b : Bool) → b ≡ eqb (length ss) 0 → b ≡ false → length ss ≢ 0
+some_are ss b is not = eqb-false (length ss) 0 (sym is ∙ not)
+
+pub returns-then-is_empty : goal.returns-then-is_empty
+returns-then-is_empty c =
+    let ts = c.args.texts.now.texts in
+    let ss = c.args.slots.now in
+    let empty : length ss ≡ 0 = eqb-true (length ss) 0 (sym c.is_empty.ensures ∙ c.if-is_empty.true) in
+    let none = none_to_put (records_of ts ss) c.args.out.now.items (length-map ss (record_of ts) ∙ empty) in
+    record { bytes = none.0; count = none.1 }
 
 pub loop-slot-init : goal.loop-slot-init
 loop-slot-init c =
@@ -53,7 +65,7 @@ returns-clause-bytes c =
     let text = c.loop-slot.text.items in
     let f : Filling es [] start c.loop-slot.out.items c.loop-slot.count c.loop-slot.pages text = subst (λ xs. Filling es (records_of ts xs) start c.loop-slot.out.items c.loop-slot.count c.loop-slot.pages text) none c.loop-slot.invariant in
     c.in_ok-put_page-2.ensures ∙ ap (λ (t : List ℕ). c.loop-slot.out.items ++ closed c.loop-slot.count t) c.deref-2.ensures.value
-    ∙ (stops es start c.loop-slot.out.items c.loop-slot.count c.loop-slot.pages text f (omega (arith, c.requires.some, length-map ss (record_of ts)))).0
+    ∙ (stops es start c.loop-slot.out.items c.loop-slot.count c.loop-slot.pages text f (omega (arith, some_are ss c.is_empty.result c.is_empty.ensures c.if-is_empty.false, length-map ss (record_of ts)))).0
 
 pub returns-clause-count : goal.returns-clause-count
 returns-clause-count c =
@@ -64,4 +76,4 @@ returns-clause-count c =
     let start = c.args.out.now.items in
     let text = c.loop-slot.text.items in
     let f : Filling es [] start c.loop-slot.out.items c.loop-slot.count c.loop-slot.pages text = subst (λ xs. Filling es (records_of ts xs) start c.loop-slot.out.items c.loop-slot.count c.loop-slot.pages text) none c.loop-slot.invariant in
-    (stops es start c.loop-slot.out.items c.loop-slot.count c.loop-slot.pages text f (omega (arith, c.requires.some, length-map ss (record_of ts)))).1
+    (stops es start c.loop-slot.out.items c.loop-slot.count c.loop-slot.pages text f (omega (arith, some_are ss c.is_empty.result c.is_empty.ensures c.if-is_empty.false, length-map ss (record_of ts)))).1
