@@ -23,7 +23,7 @@ impl MemStore {
         shelves: Vec<MemShelf>,
     ) -> Result<MemStore, (MemStore, NoMemory)>
         requires table { folder_out folder ≡ is_some table }
-        requires table_name { IfSome table (λ t. disk_name t ≡ folder_name folder) }
+        requires table_name { IfSome table (λ t. (disk_name t).items ≡ folder_name folder) }
         requires shelves { AreOf (folder_name folder) shelves.items }
         requires apart { AreApart shelves.items }
         ensures image { IfOk result (λ s. IsStoreLeft (holdings self) (one_out (folder_name folder) (parts_of folder table shelves.items)) (holdings s).schema (folders_left (holdings s))) }

@@ -2,7 +2,7 @@
 ghost use Rattle.std.specs.Prelude.{◌≡◌, ◌≤◌, ◌<◌, ◌+◌, ◌^◌, true, false, Some, length, max, not, is_ok, is_err, OnOk, OnErr, IfOk, option_map};
 ghost use Rattle.fd_bytes.specs.Causes.{Rose, HasCause};
 ghost use Rattle.fd_disk.specs.{Images.{IsAfterFailedWrite, loosened, written}, Moments.{Elapses}, Folders.{WhereTold}, Images.{synced}, Reading.{ReadsBytes}};
-ghost use Rattle.fd_file_mem.specs.{Calls.{begun, file_of, fits, has_room, new_file, synced_by, extent_by}, Past.{LeftSince}, Left.{IsLeft}, Plans.{FailsByPlan, after_call, is_due}};
+ghost use Rattle.fd_file_mem.specs.{Calls.{begun, file_of, fits, has_room, new_file, synced_by, extent_by}, Past.{LeftSince}, Left.{IsLeft}, Plans.{FailsByPlan, after_call, is_due}, Told.{disk_faults, disk_made, disk_memory, disk_name, disk_plan}};
 
 use crate::plan::{Op, Plan};
 use crate::recorded::{Recorded, Room};
@@ -36,10 +36,10 @@ impl MemDisk {
         plan: Plan,
         room: Room,
     ) -> Result<MemDisk, AllocError>
-        ensures name { IfOk result (λ d. d.name.items ≡ name.items) }
-        ensures made { IfOk result (λ d. d.made ≡ made) }
-        ensures file { IfOk result (λ d. d.file ≡ new_file room) }
-        ensures plan { IfOk result (λ d. d.plan ≡ plan) }
+        ensures name { IfOk result (λ d. (disk_name d).items ≡ name.items) }
+        ensures made { IfOk result (λ d. disk_made d ≡ made) }
+        ensures file { IfOk result (λ d. disk_memory d ≡ new_file room) }
+        ensures plan { IfOk result (λ d. disk_plan d ≡ plan) }
     {
         Ok(MemDisk {
             name,
@@ -52,7 +52,7 @@ impl MemDisk {
 
     /// The file with its calls once more, as it is now.
     pub fn copied(&self, alloc: Global) -> Result<MemDisk, AllocError>
-        ensures { IfOk result (λ d. d.file ≡ self.now.file) }
+        ensures { IfOk result (λ d. disk_memory d ≡ disk_memory self.now) }
     {
         Ok(MemDisk {
             name: Vec::from_slice(alloc, &self.name)?,
@@ -65,35 +65,35 @@ impl MemDisk {
 
     /// How many bytes it may have.
     pub fn size(&self) -> usize
-        ensures { result ≡ self.now.file.size }
+        ensures { result ≡ (disk_memory self.now).size }
     {
         self.file.size()
     }
 
     /// Begins with these bytes, which are firm.
     pub fn begin(&mut self, bytes: &[u8])
-        requires { length bytes.now ≤ self.old.file.size }
-        ensures file { self.new.file ≡ begun self.old.file bytes.now }
-        ensures name { self.new.name ≡ self.old.name }
-        ensures plan { self.new.plan ≡ self.old.plan }
+        requires { length bytes.now ≤ (disk_memory self.old).size }
+        ensures file { disk_memory self.new ≡ begun (disk_memory self.old) bytes.now }
+        ensures name { disk_name self.new ≡ disk_name self.old }
+        ensures plan { disk_plan self.new ≡ disk_plan self.old }
     {
         self.file.begin(bytes);
     }
 
     /// Counts the creation of the file, and says whether it is to fail.
     pub fn fails_to_begin(&mut self) -> bool
-        ensures same { (self.new.file ≡ self.old.file) × ((self.new.name ≡ self.old.name) × (self.new.made ≡ self.old.made)) }
-        ensures fails { FailsByPlan (is_due Op.Create self.old.plan) self.old.plan.fuse.allowed true (not result) result }
-        ensures asked { self.new.plan ≡ after_call Op.Create self.old.plan }
+        ensures same { (disk_memory self.new ≡ disk_memory self.old) × ((disk_name self.new ≡ disk_name self.old) × (disk_made self.new ≡ disk_made self.old)) }
+        ensures fails { FailsByPlan (is_due Op.Create (disk_plan self.old)) (disk_plan self.old).fuse.allowed true (not result) result }
+        ensures asked { disk_plan self.new ≡ after_call Op.Create (disk_plan self.old) }
     {
         self.plan.meets(Op::Create)
     }
 
     /// The file as it is handed out under a dataset's name.
     pub fn opened(self, name: Vec<u8>, plan: Plan) -> MemDisk
-        ensures file { result.file ≡ self.file }
-        ensures name { result.name ≡ name }
-        ensures plan { result.plan ≡ plan }
+        ensures file { disk_memory result ≡ disk_memory self }
+        ensures name { disk_name result ≡ name }
+        ensures plan { disk_plan result ≡ plan }
     {
         let MemDisk {
             name: _,
@@ -113,8 +113,8 @@ impl MemDisk {
 
     /// A crash: the file is firm with what is left of it.
     pub fn crash(&mut self, choice: u64)
-        ensures left { IsLeft choice (file_of self.old.file) self.new.file.start }
-        ensures begun { self.new.file ≡ begun self.old.file self.new.file.start }
+        ensures left { IsLeft choice (file_of (disk_memory self.old)) (disk_memory self.new).start }
+        ensures begun { disk_memory self.new ≡ begun (disk_memory self.old) (disk_memory self.new).start }
     {
         self.file.crash(choice);
     }
@@ -151,16 +151,16 @@ impl Disk<MemFault> for MemDisk {
     ghost synced_firm = { λ d f is synced. firm_told d.file f is synced };
 
     fn read_at(&mut self, at: u64, into: &mut [u8]) -> Result<usize, MemFault>
-        ensures bytes { ReadsBytes (Some (file_of self.old.file).reads) at into.old into.new result }
-        ensures file { Some (file_of self.new.file) ≡ Some (file_of self.old.file) }
-        ensures synced { synced_by false self.new.file.calls ≡ synced_by false self.old.file.calls }
-        ensures extent { extent_by 0 self.new.file.calls ≡ extent_by 0 self.old.file.calls }
-        ensures name { self.new.name.items ≡ self.old.name.items }
-        ensures made { self.new.made ≡ self.old.made }
-        ensures time { Elapses (length self.old.file.calls) (length self.new.file.calls) (LeftSince self.old.file) (LeftSince self.new.file) (Some (file_of self.new.file)) }
-        ensures cause { HasCause self.old.faults self.new.faults result }
-        ensures fails { FailsByPlan (is_due Op.Read self.old.plan) self.old.plan.fuse.allowed true (is_ok result) (is_err result) }
-        ensures asked { self.new.plan ≡ after_call Op.Read self.old.plan }
+        ensures bytes { ReadsBytes (Some (file_of (disk_memory self.old)).reads) at into.old into.new result }
+        ensures file { Some (file_of (disk_memory self.new)) ≡ Some (file_of (disk_memory self.old)) }
+        ensures synced { synced_by false (disk_memory self.new).calls ≡ synced_by false (disk_memory self.old).calls }
+        ensures extent { extent_by 0 (disk_memory self.new).calls ≡ extent_by 0 (disk_memory self.old).calls }
+        ensures name { (disk_name self.new).items ≡ (disk_name self.old).items }
+        ensures made { disk_made self.new ≡ disk_made self.old }
+        ensures time { Elapses (length (disk_memory self.old).calls) (length (disk_memory self.new).calls) (LeftSince (disk_memory self.old)) (LeftSince (disk_memory self.new)) (Some (file_of (disk_memory self.new))) }
+        ensures cause { HasCause (disk_faults self.old) (disk_faults self.new) result }
+        ensures fails { FailsByPlan (is_due Op.Read (disk_plan self.old)) (disk_plan self.old).fuse.allowed true (is_ok result) (is_err result) }
+        ensures asked { disk_plan self.new ≡ after_call Op.Read (disk_plan self.old) }
     {
         if self.plan.meets(Op::Read) {
             return Err(counted(&mut self.faults));
@@ -171,20 +171,20 @@ impl Disk<MemFault> for MemDisk {
     /// A write that fails has made its range loose, and a read gives what it gave; beyond the room it has done nothing.
     fn write_at(&mut self, at: u64, bytes: &[u8]) -> Result<(), MemFault>
         requires { at + length bytes.now < 2 ^ 63 }
-        ensures ok { OnOk result (Some (file_of self.new.file) ≡ option_map (λ f. written f at bytes.now) (Some (file_of self.old.file))) }
-        ensures err { OnErr result (WhereTold (Some (file_of self.old.file)) (Some (file_of self.new.file)) (λ f g. IsAfterFailedWrite f at (length bytes.now) g)) }
-        ensures loose { OnErr result (fits self.old.file at (length bytes.now) ≡ true → file_of self.new.file ≡ loosened (file_of self.old.file) at (length bytes.now) (file_of self.old.file).reads) }
-        ensures beyond { OnErr result (fits self.old.file at (length bytes.now) ≡ false → file_of self.new.file ≡ file_of self.old.file) }
-        ensures synced { OnOk result (synced_by false self.new.file.calls ≡ false) }
-        ensures synced_err { OnErr result (synced_by false self.new.file.calls ≡ true → synced_by false self.old.file.calls ≡ true) }
-        ensures extent { OnOk result (extent_by 0 self.new.file.calls ≡ max (extent_by 0 self.old.file.calls) (at + length bytes.now)) }
-        ensures extent_err { OnErr result (extent_by 0 self.new.file.calls ≡ extent_by 0 self.old.file.calls) }
-        ensures name { self.new.name.items ≡ self.old.name.items }
-        ensures made { self.new.made ≡ self.old.made }
-        ensures time { Elapses (length self.old.file.calls) (length self.new.file.calls) (LeftSince self.old.file) (LeftSince self.new.file) (Some (file_of self.new.file)) }
-        ensures cause { HasCause self.old.faults self.new.faults result }
-        ensures fails { FailsByPlan (is_due Op.Write self.old.plan) self.old.plan.fuse.allowed (fits self.old.file at (length bytes.now)) (is_ok result) (is_err result) }
-        ensures asked { self.new.plan ≡ after_call Op.Write self.old.plan }
+        ensures ok { OnOk result (Some (file_of (disk_memory self.new)) ≡ option_map (λ f. written f at bytes.now) (Some (file_of (disk_memory self.old)))) }
+        ensures err { OnErr result (WhereTold (Some (file_of (disk_memory self.old))) (Some (file_of (disk_memory self.new))) (λ f g. IsAfterFailedWrite f at (length bytes.now) g)) }
+        ensures loose { OnErr result (fits (disk_memory self.old) at (length bytes.now) ≡ true → file_of (disk_memory self.new) ≡ loosened (file_of (disk_memory self.old)) at (length bytes.now) (file_of (disk_memory self.old)).reads) }
+        ensures beyond { OnErr result (fits (disk_memory self.old) at (length bytes.now) ≡ false → file_of (disk_memory self.new) ≡ file_of (disk_memory self.old)) }
+        ensures synced { OnOk result (synced_by false (disk_memory self.new).calls ≡ false) }
+        ensures synced_err { OnErr result (synced_by false (disk_memory self.new).calls ≡ true → synced_by false (disk_memory self.old).calls ≡ true) }
+        ensures extent { OnOk result (extent_by 0 (disk_memory self.new).calls ≡ max (extent_by 0 (disk_memory self.old).calls) (at + length bytes.now)) }
+        ensures extent_err { OnErr result (extent_by 0 (disk_memory self.new).calls ≡ extent_by 0 (disk_memory self.old).calls) }
+        ensures name { (disk_name self.new).items ≡ (disk_name self.old).items }
+        ensures made { disk_made self.new ≡ disk_made self.old }
+        ensures time { Elapses (length (disk_memory self.old).calls) (length (disk_memory self.new).calls) (LeftSince (disk_memory self.old)) (LeftSince (disk_memory self.new)) (Some (file_of (disk_memory self.new))) }
+        ensures cause { HasCause (disk_faults self.old) (disk_faults self.new) result }
+        ensures fails { FailsByPlan (is_due Op.Write (disk_plan self.old)) (disk_plan self.old).fuse.allowed (fits (disk_memory self.old) at (length bytes.now)) (is_ok result) (is_err result) }
+        ensures asked { disk_plan self.new ≡ after_call Op.Write (disk_plan self.old) }
     {
         let is_to_fail = self.plan.meets(Op::Write);
         if !self.file.fits(at, bytes.len()) {
@@ -199,17 +199,17 @@ impl Disk<MemFault> for MemDisk {
     }
 
     fn sync(&mut self) -> Result<(), MemFault>
-        ensures ok { OnOk result (Some (file_of self.new.file) ≡ option_map synced (Some (file_of self.old.file))) }
-        ensures err { OnErr result (Some (file_of self.new.file) ≡ Some (file_of self.old.file)) }
-        ensures synced { OnOk result (synced_by false self.new.file.calls ≡ true) }
-        ensures synced_err { OnErr result (synced_by false self.new.file.calls ≡ synced_by false self.old.file.calls) }
-        ensures extent { extent_by 0 self.new.file.calls ≡ extent_by 0 self.old.file.calls }
-        ensures name { self.new.name.items ≡ self.old.name.items }
-        ensures made { self.new.made ≡ self.old.made }
-        ensures time { Elapses (length self.old.file.calls) (length self.new.file.calls) (LeftSince self.old.file) (LeftSince self.new.file) (Some (file_of self.new.file)) }
-        ensures cause { HasCause self.old.faults self.new.faults result }
-        ensures fails { FailsByPlan (is_due Op.Sync self.old.plan) self.old.plan.fuse.allowed (has_room self.old.file) (is_ok result) (is_err result) }
-        ensures asked { self.new.plan ≡ after_call Op.Sync self.old.plan }
+        ensures ok { OnOk result (Some (file_of (disk_memory self.new)) ≡ option_map synced (Some (file_of (disk_memory self.old)))) }
+        ensures err { OnErr result (Some (file_of (disk_memory self.new)) ≡ Some (file_of (disk_memory self.old))) }
+        ensures synced { OnOk result (synced_by false (disk_memory self.new).calls ≡ true) }
+        ensures synced_err { OnErr result (synced_by false (disk_memory self.new).calls ≡ synced_by false (disk_memory self.old).calls) }
+        ensures extent { extent_by 0 (disk_memory self.new).calls ≡ extent_by 0 (disk_memory self.old).calls }
+        ensures name { (disk_name self.new).items ≡ (disk_name self.old).items }
+        ensures made { disk_made self.new ≡ disk_made self.old }
+        ensures time { Elapses (length (disk_memory self.old).calls) (length (disk_memory self.new).calls) (LeftSince (disk_memory self.old)) (LeftSince (disk_memory self.new)) (Some (file_of (disk_memory self.new))) }
+        ensures cause { HasCause (disk_faults self.old) (disk_faults self.new) result }
+        ensures fails { FailsByPlan (is_due Op.Sync (disk_plan self.old)) (disk_plan self.old).fuse.allowed (has_room (disk_memory self.old)) (is_ok result) (is_err result) }
+        ensures asked { disk_plan self.new ≡ after_call Op.Sync (disk_plan self.old) }
     {
         if self.plan.meets(Op::Sync) || !self.file.has_room() {
             return Err(counted(&mut self.faults));

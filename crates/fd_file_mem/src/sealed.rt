@@ -2,7 +2,7 @@
 ghost use Rattle.std.specs.Prelude.{◌≡◌, ◌-◌, ◌++◌, Some, length, min, take, drop, true, is_ok, is_err, IfOk};
 ghost use Rattle.fd_bytes.specs.Causes.{HasCause};
 ghost use Rattle.fd_disk.specs.Reading.{ReadsBytes, ReadsCount, raised};
-ghost use Rattle.fd_file_mem.specs.Plans.{FailsByPlan, IsAnew, after_call, is_due};
+ghost use Rattle.fd_file_mem.specs.{Plans.{FailsByPlan, IsAnew, after_call, is_due}, Told.{reader_asked, reader_bytes, reader_faults, reader_plan, reader_reads, sealed_bytes, sealed_made, sealed_name, sealed_plan}};
 
 use crate::MemFault;
 use crate::disk::counted;
@@ -22,10 +22,10 @@ pub struct MemSealed {
 impl MemSealed {
     /// A sealed file of these bytes.
     pub fn new(name: Vec<u8>, made: Option<FileName>, bytes: Vec<u8>, plan: Plan) -> MemSealed
-        ensures name { result.name ≡ name }
-        ensures made { result.made ≡ made }
-        ensures bytes { result.bytes ≡ bytes }
-        ensures plan { result.plan ≡ plan }
+        ensures name { sealed_name result ≡ name }
+        ensures made { sealed_made result ≡ made }
+        ensures bytes { sealed_bytes result ≡ bytes }
+        ensures plan { sealed_plan result ≡ plan }
     {
         MemSealed {
             name,
@@ -37,7 +37,7 @@ impl MemSealed {
 
     /// The file's bytes.
     pub fn bytes(&self) -> &[u8]
-        ensures { result.now ≡ self.now.bytes.items }
+        ensures { result.now ≡ (sealed_bytes self.now).items }
     {
         &self.bytes
     }
@@ -70,15 +70,15 @@ impl Reader<MemFault> for MemReader {
     ghost len_told = { λ r b is. len_told r.bytes.items b is };
 
     fn read_at(&mut self, at: u64, into: &mut [u8]) -> Result<usize, MemFault>
-        ensures count { ReadsCount (length self.old.bytes.items) at (length into.old) result }
-        ensures bytes { ReadsBytes (Some self.old.bytes.items) at into.old into.new result }
-        ensures same { Some self.new.bytes.items ≡ Some self.old.bytes.items }
-        ensures len { length self.new.bytes.items ≡ length self.old.bytes.items }
-        ensures reads { self.new.reads ≡ raised self.old.reads 1 }
-        ensures asked { self.new.asked ≡ raised self.old.asked (length into.old) }
-        ensures cause { HasCause self.old.faults self.new.faults result }
-        ensures fails { FailsByPlan (is_due Op.Read self.old.plan) self.old.plan.fuse.allowed true (is_ok result) (is_err result) }
-        ensures counted { self.new.plan ≡ after_call Op.Read self.old.plan }
+        ensures count { ReadsCount (length (reader_bytes self.old)) at (length into.old) result }
+        ensures bytes { ReadsBytes (Some (reader_bytes self.old)) at into.old into.new result }
+        ensures same { Some (reader_bytes self.new) ≡ Some (reader_bytes self.old) }
+        ensures len { length (reader_bytes self.new) ≡ length (reader_bytes self.old) }
+        ensures reads { reader_reads self.new ≡ raised (reader_reads self.old) 1 }
+        ensures asked { reader_asked self.new ≡ raised (reader_asked self.old) (length into.old) }
+        ensures cause { HasCause (reader_faults self.old) (reader_faults self.new) result }
+        ensures fails { FailsByPlan (is_due Op.Read (reader_plan self.old)) (reader_plan self.old).fuse.allowed true (is_ok result) (is_err result) }
+        ensures counted { reader_plan self.new ≡ after_call Op.Read (reader_plan self.old) }
     {
         self.reads = self.reads.saturating_add(1);
         self.asked = self.asked.saturating_add(into.len() as u64);
@@ -110,10 +110,10 @@ impl Sealed<MemFault> for MemSealed {
     }
 
     fn reader(&self, alloc: Global) -> Result<MemReader, Down<MemFault>>
-        ensures bytes { IfOk result (λ r. Some r.bytes.items ≡ Some self.now.bytes.items) }
-        ensures len { IfOk result (λ r. length r.bytes.items ≡ length self.now.bytes.items) }
-        ensures new { IfOk result (λ r. (r.reads ≡ 0) × (r.asked ≡ 0)) }
-        ensures plan { IfOk result (λ r. IsAnew self.now.plan.fails.items self.now.plan.fuse.allowed r.plan) }
+        ensures bytes { IfOk result (λ r. Some (reader_bytes r) ≡ Some (sealed_bytes self.now).items) }
+        ensures len { IfOk result (λ r. length (reader_bytes r) ≡ length (sealed_bytes self.now).items) }
+        ensures new { IfOk result (λ r. (reader_reads r ≡ 0) × (reader_asked r ≡ 0)) }
+        ensures plan { IfOk result (λ r. IsAnew (sealed_plan self.now).fails.items (sealed_plan self.now).fuse.allowed (reader_plan r)) }
     {
         let (Ok(plan), Ok(bytes)) = (self.plan.again(alloc), self.bytes.to_vec(alloc)) else {
             return Err(Down::NoMemory);
