@@ -15,7 +15,7 @@ mod status;
 mod stored;
 
 pub use kinds::{
-    is_request_limit, is_schema_limit, request_kind, schema_kind, tell_limit, tell_place, tell_text,
+    is_request_limit, request_kind, tell_limit, tell_no_schema, tell_place, tell_text,
 };
 pub use listing::Listing;
 pub use pieces::{INPUT_LIMIT, new_buffer, read_piece, read_some};
