@@ -6,7 +6,7 @@ ghost use Rattle.fd_schema.specs.{Reading.{IsFirst, Names}, FaultTexts.{schema_w
 ghost use Rattle.fd_request.specs.{Reading.{seen_kind}, FaultTexts.{request_kind_text}};
 ghost use Rattle.fd_outcome.specs.{Causes.{is_schema_limit, is_request_limit, no_schema}, Told.{Told, ToldOrNoMemory}};
 
-use crate::report::{tell, tell_no_memory};
+use crate::report::{tell_made, tell_no_memory};
 use crate::status::Status;
 use fd_io::Sink;
 use fd_request::RequestKind;
@@ -54,10 +54,7 @@ pub fn is_request_limit(kind: &RequestKind) -> bool
 pub fn tell_limit<X: Drop, E: Sink<X>>(alloc: Global, report: &mut E, kind: &str) -> Status
     ensures { ToldOrNoMemory Status.Limit (line (codes "limit " ++ kind.now)) result (E.taken report.old) (E.taken report.new) (E.faults report.old) (E.faults report.new) }
 {
-    match format!(in alloc; "limit {kind}\n") {
-        Ok(line) => tell(report, line.as_str(), Status::Limit),
-        Err(_) => tell_no_memory(report),
-    }
+    tell_made(report, format!(in alloc; "limit {kind}\n"), Status::Limit)
 }
 
 /// Writes the line of a status: a text, a number, a blank, and a kind.
@@ -71,10 +68,7 @@ pub fn tell_place<X: Drop, E: Sink<X>>(
 ) -> Status
     ensures { ToldOrNoMemory status (line (text.now ++ decimal number ++ blank kind.now)) result (E.taken report.old) (E.taken report.new) (E.faults report.old) (E.faults report.new) }
 {
-    match format!(in alloc; "{text}{number} {kind}\n") {
-        Ok(line) => tell(report, line.as_str(), status),
-        Err(_) => tell_no_memory(report),
-    }
+    tell_made(report, format!(in alloc; "{text}{number} {kind}\n"), status)
 }
 
 /// Writes the line of a text and another one.
@@ -87,10 +81,7 @@ pub fn tell_text<X: Drop, E: Sink<X>>(
 ) -> Status
     ensures { ToldOrNoMemory status (line (text.now ++ more.now)) result (E.taken report.old) (E.taken report.new) (E.faults report.old) (E.faults report.new) }
 {
-    match format!(in alloc; "{text}{more}\n") {
-        Ok(line) => tell(report, line.as_str(), status),
-        Err(_) => tell_no_memory(report),
-    }
+    tell_made(report, format!(in alloc; "{text}{more}\n"), status)
 }
 
 /// Writes the line of a text that is no schema: that of the limit which it passes, or these words, the line's number, and what is

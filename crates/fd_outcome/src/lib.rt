@@ -22,7 +22,7 @@ pub use pieces::{INPUT_LIMIT, new_buffer, read_piece, read_some};
 pub use reading::{Unread, read_front};
 pub use refusal::{Refusal, refusal_of};
 pub use report::{
-    tell, tell_disk_failed, tell_input_failed, tell_no_memory, tell_noted, tell_number,
+    tell, tell_disk_failed, tell_input_failed, tell_made, tell_no_memory, tell_noted, tell_number,
     tell_output_failed, tell_refusal,
 };
 pub use status::Status;
