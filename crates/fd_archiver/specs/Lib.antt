@@ -3,3 +3,4 @@ pub mod Waiting
 pub mod Whole
 pub mod Flushing
 pub mod Causes
+pub mod Archiving

@@ -1,11 +1,10 @@
-ghost use Rattle.std.specs.Prelude.{◌≡◌, ◌≢◌, ◌≤◌, ◌<◌, ◌+◌, ◌-◌, ◌^◌, ◌↔◌, ◌++◌, [], ◌∷◌, List, true, false, length, None, Err, IsSome, is_some, IsTrue, IfOk, IfErr, IfSome, OnOk, OnErr};
+ghost use Rattle.std.specs.Prelude.{◌≡◌, ◌≤◌, ◌<◌, ◌-◌, ◌^◌, ◌↔◌, [], List, true, false, length, None, IsSome, is_some, IsTrue, IfOk, IfErr, IfSome};
 ghost use Rattle.fd_bytes.specs.Causes.{Rose};
 ghost use Rattle.fd_disk.specs.{declared.folders.FileName.{FileName}, Causes.{OnFault}};
 ghost use Rattle.fd_entries.specs.{declared.batch.Pair.{Pair}, Batches.{distinct}};
-ghost use Rattle.fd_index.specs.Builder.{room_for};
 ghost use Rattle.fd_segment.specs.Filling.{Puts};
-ghost use Rattle.fd_schema.specs.{Rules.{file_key}, Reading.{seen_place}};
-ghost use Rattle.fd_archiver.specs.{Causes.{FullAs, OnArchiveDisk, OnUntouched, RefusedAs}, Whole.{Created}, Writing.{IsKept, IsPending}};
+ghost use Rattle.fd_schema.specs.Reading.{seen_place};
+ghost use Rattle.fd_archiver.specs.{Archiving.{CanArchive, HasArchived}, Causes.{RefusedAs}, Whole.{Created}, Writing.{IsKept, IsPending}};
 
 use crate::fault::ArchiveFault;
 use fd_disk::{Down, Sealed, Shelf};
@@ -136,21 +135,8 @@ impl<F: Send, H: Shelf<F>> Archiver<F, H> {
     /// `Unlisted` comes exactly while a sealed batch waits to be listed, `Full` exactly where the batch has no room for
     /// the key, both before anything is written, and `Disk` only where the field file's count of faults rose.
     pub fn archive(&mut self, place: &Place, bytes: &[u8]) -> Result<(), ArchiveFault<F>>
-        requires dataset { (seen_place place.now).dataset ≡ self.old.dataset }
-        requires key { length (file_key (seen_place place.now)) ≤ 256 }
-        requires bytes { length bytes.now ≤ 134217728 }
-        requires sum { self.old.draft.end + (length bytes.now + 32) < 2 ^ 63 }
-        ensures unlisted { (result ≡ Err ArchiveFault.Unlisted) ↔ IsSome self.old.unlisted }
-        ensures ok { OnOk result ((b : List Pair) → IsPending self.old b → IsPending self.new (b ++ record { key = file_key (seen_place place.now); bytes = bytes.now } ∷ [])) }
-        ensures end { OnOk result (self.new.draft.end ≡ self.old.draft.end + (length bytes.now + 32)) }
-        ensures err { OnErr result ((b : List Pair) → IsPending self.old b → IsPending self.new b) }
-        ensures refused { OnErr result ((self.new.draft.held ≡ self.old.draft.held) × (self.new.draft.end ≡ self.old.draft.end)) }
-        ensures untouched { IfErr result (λ e. OnUntouched e (self.new ≡ self.old)) }
-        ensures full { self.old.unlisted ≡ None → FullAs (room_for self.old.draft.held (file_key (seen_place place.now))) result }
-        ensures cause { IfErr result (λ e. OnArchiveDisk e (Rose self.old.draft.field_faults self.new.draft.field_faults)) }
-        ensures origin { self.new.draft.origin ≡ self.old.draft.origin }
-        ensures room { (self.new.draft.held.keys ≡ self.old.draft.held.keys) × (self.new.draft.held.bytes ≡ self.old.draft.held.bytes) }
-        ensures rest { self.new ≡ record self.old { draft = self.new.draft } }
+        requires { CanArchive self.old (seen_place place.now) bytes.now }
+        ensures { HasArchived self.old self.new (seen_place place.now) bytes.now result }
     {
         if self.unlisted() {
             return Err(ArchiveFault::Unlisted);
@@ -164,21 +150,8 @@ impl<F: Send, H: Shelf<F>> Archiver<F, H> {
 
     /// The same for a field whose digest was perhaps looked for: where it was, none is computed here.
     pub fn archive_field(&mut self, place: &Place, field: &Field) -> Result<(), ArchiveFault<F>>
-        requires dataset { (seen_place place.now).dataset ≡ self.old.dataset }
-        requires key { length (file_key (seen_place place.now)) ≤ 256 }
-        requires field { length field.now ≤ 134217728 }
-        requires sum { self.old.draft.end + (length field.now + 32) < 2 ^ 63 }
-        ensures unlisted { (result ≡ Err ArchiveFault.Unlisted) ↔ IsSome self.old.unlisted }
-        ensures ok { OnOk result ((b : List Pair) → IsPending self.old b → IsPending self.new (b ++ record { key = file_key (seen_place place.now); bytes = field.now } ∷ [])) }
-        ensures end { OnOk result (self.new.draft.end ≡ self.old.draft.end + (length field.now + 32)) }
-        ensures err { OnErr result ((b : List Pair) → IsPending self.old b → IsPending self.new b) }
-        ensures refused { OnErr result ((self.new.draft.held ≡ self.old.draft.held) × (self.new.draft.end ≡ self.old.draft.end)) }
-        ensures untouched { IfErr result (λ e. OnUntouched e (self.new ≡ self.old)) }
-        ensures full { self.old.unlisted ≡ None → FullAs (room_for self.old.draft.held (file_key (seen_place place.now))) result }
-        ensures cause { IfErr result (λ e. OnArchiveDisk e (Rose self.old.draft.field_faults self.new.draft.field_faults)) }
-        ensures origin { self.new.draft.origin ≡ self.old.draft.origin }
-        ensures room { (self.new.draft.held.keys ≡ self.old.draft.held.keys) × (self.new.draft.held.bytes ≡ self.old.draft.held.bytes) }
-        ensures rest { self.new ≡ record self.old { draft = self.new.draft } }
+        requires { CanArchive self.old (seen_place place.now) field.now }
+        ensures { HasArchived self.old self.new (seen_place place.now) field.now result }
     {
         if self.unlisted() {
             return Err(ArchiveFault::Unlisted);

@@ -5,7 +5,7 @@ ghost use Rattle.fd_entries.specs.declared.batch.Pair.{Pair};
 ghost use Rattle.fd_schema.specs.Reading.{seen_place};
 ghost use Rattle.fd_retriever.specs.Answers.{Tells};
 ghost use Rattle.fd_turn.specs.{declared.view.Lock.TheVariants.{Free}, Passes.{view, IsOf, IsSame}, Views.{all_parts, recipient}};
-ghost use Rattle.fd_lanes.specs.{Acts.{ArePlaces, LanesFit, all_acts}, Legal.{IsRunOf}, Fits.{Keeps}, Jobs.{AllKept, archivers_of, AreKeptFrom, ends_of, IsFresh, IsReady, IsRoom, MayBegin, owners_of, RanAt, Ran, TookIn, writers_of}};
+ghost use Rattle.fd_lanes.specs.{Acts.{ArePlaces, LanesFit, all_acts}, Legal.{IsRunOf}, Fits.{Keeps, Looked}, Jobs.{AllKept, archivers_of, AreKeptFrom, ends_of, IsFresh, IsReady, IsRoom, MayBegin, owners_of, RanAt, Ran, TookIn, writers_of}};
 ghost use Rattle.fd_numbers.specs.Numbers.{Differ};
 
 use crate::end::{End, Ends};
@@ -104,9 +104,7 @@ fn settled<F: Send, T: Disk<F>, Z: Sealed<F>, R: Wait>(
     requires free { (view pass.old).lock ≡ Free }
     requires all { (view pass.old).parts ≡ all_parts }
     ensures own { IsSame pass.old pass.new }
-    ensures keeps { Keeps (view pass.old) (view pass.new) }
-    ensures amount { (view pass.new).amount ≡ (view pass.old).amount }
-    ensures doubts { (view pass.new).doubts ≡ (view pass.old).doubts }
+    ensures looked { Looked (view pass.old) (view pass.new) }
     ensures number { IfOk result (λ n. (n ≡ length (view pass.new).history) × (n ≡ (view pass.old).opening + (view pass.old).amount)) }
 {
     let snapshot = dataset.snapshot(rt, alloc, pass)?;
@@ -148,9 +146,7 @@ where
     requires free { (view pass.old).lock ≡ Free }
     requires all { (view pass.old).parts ≡ all_parts }
     ensures own { IsSame pass.old pass.new }
-    ensures keeps { Keeps (view pass.old) (view pass.new) }
-    ensures amount { (view pass.new).amount ≡ (view pass.old).amount }
-    ensures doubts { (view pass.new).doubts ≡ (view pass.old).doubts }
+    ensures looked { Looked (view pass.old) (view pass.new) }
     ensures number { IfOk result (λ m. (m.before ≡ length (view pass.new).history) × (m.before ≡ (view pass.old).opening + (view pass.old).amount)) }
     ensures rooms { IfOk result (λ m. (length m.rooms.items ≡ n) × All IsRoom m.rooms.items) }
     ensures jobs { IfOk result (λ m. (m.jobs.items ≡ []) × (vec_capacity m.jobs ≡ n)) }

@@ -97,6 +97,12 @@ schema_place text fault = codes "schema " ++ decimal (line_of text fault.at) ++ 
 abbrev pub schema_limit : List ℕ → schemas.Fault → Telling
 schema_limit text fault = limited_so (schema_wrong_text (slice_index text fault.at) fault.kind)
 
+-- what is told of a text that is no schema: the limit that it passes, or these words, the line, and what is wrong there
+abbrev pub no_schema : List ℕ → Status → List ℕ → schemas.Fault → Telling
+no_schema words status text fault =
+    if is_schema_limit fault.kind then schema_limit text fault
+    else record { status = status; line = line (words ++ decimal (line_of text fault.at) ++ blank (schema_wrong_text (slice_index text fault.at) fault.kind)) }
+
 abbrev pub telling : Cause → Telling
 telling (InStream refusal) = record { status = refusal_status refusal; line = refusal_line refusal }
 telling SchemaMissing = refused_so (codes "SchemaMissing")

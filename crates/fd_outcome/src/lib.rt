@@ -15,14 +15,14 @@ mod status;
 mod stored;
 
 pub use kinds::{
-    is_request_limit, is_schema_limit, request_kind, schema_kind, tell_limit, tell_place, tell_text,
+    is_request_limit, request_kind, tell_limit, tell_no_schema, tell_place, tell_text,
 };
 pub use listing::Listing;
 pub use pieces::{INPUT_LIMIT, new_buffer, read_piece, read_some};
 pub use reading::{Unread, read_front};
 pub use refusal::{Refusal, refusal_of};
 pub use report::{
-    tell, tell_disk_failed, tell_input_failed, tell_no_memory, tell_noted, tell_number,
+    tell, tell_disk_failed, tell_input_failed, tell_made, tell_no_memory, tell_noted, tell_number,
     tell_output_failed, tell_refusal,
 };
 pub use status::Status;

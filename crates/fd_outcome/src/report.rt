@@ -1,5 +1,5 @@
 // The lines on the report.
-ghost use Rattle.std.specs.{Prelude.{◌≡◌, ◌≤◌, ◌++◌, codes}, Fmt.{decimal}};
+ghost use Rattle.std.specs.{Prelude.{◌≡◌, ◌≤◌, ◌++◌, List, ℕ, IfOk, codes, string_bytes}, Fmt.{decimal}};
 ghost use Rattle.fd_bytes.specs.Causes.{Rose};
 ghost use Rattle.fd_listing.specs.Lines.{line};
 ghost use Rattle.fd_outcome.specs.{Refusals.{refusal_line, refusal_status, refused_message_line, cut_message_line, refused_map_line, refused_key_line, refused_field_line}, Ends.{disk_failed, input_failed, output_failed}, Told.{OnLongInput, Told, ToldOrNoMemory}};
@@ -11,7 +11,7 @@ use fd_io::{Sink, write_all};
 use fd_key::KeyFault;
 use fd_packing::FieldFault;
 use fd_sections::{BadAt, Truncated};
-use std::alloc::Global;
+use std::alloc::{AllocError, Global};
 
 /// Writes the text that goes with a status. Where it can't be written, the status is that of a failed output.
 pub fn tell<X: Drop, E: Sink<X>>(report: &mut E, text: &str, status: Status) -> Status
@@ -65,6 +65,20 @@ pub fn tell_noted<F: Send, X: Drop, S: Store<F>, E: Sink<X>>(
 {
     store.note(fault);
     tell_disk_failed(report)
+}
+
+/// Writes a line that was made. Where there was no memory for it, the status and the line tell that.
+pub fn tell_made<X: Drop, E: Sink<X>>(
+    report: &mut E,
+    made: Result<String, AllocError>,
+    status: Status,
+) -> Status
+    ensures { (text : List ℕ) → IfOk made (λ line. string_bytes line ≡ text) → ToldOrNoMemory status text result (E.taken report.old) (E.taken report.new) (E.faults report.old) (E.faults report.new) }
+{
+    match made {
+        Ok(line) => tell(report, line.as_str(), status),
+        Err(_) => tell_no_memory(report),
+    }
 }
 
 /// Writes the line of octets that are no message.
@@ -158,10 +172,7 @@ pub fn tell_number<X: Drop, E: Sink<X>>(
 ) -> Status
     ensures { ToldOrNoMemory status (line (text.now ++ decimal number)) result (E.taken report.old) (E.taken report.new) (E.faults report.old) (E.faults report.new) }
 {
-    match format!(in alloc; "{text}{number}\n") {
-        Ok(line) => tell(report, line.as_str(), status),
-        Err(_) => tell_no_memory(report),
-    }
+    tell_made(report, format!(in alloc; "{text}{number}\n"), status)
 }
 
 /// Writes the line of a refusal. That of an input which is longer than an input may be is always the same: want of memory isn't told

@@ -3,7 +3,7 @@ ghost use Rattle.std.specs.Prelude.{◌≡◌, Some, None, IfOk, string_bytes, o
 ghost use Rattle.fd_script.specs.Grammar as scripts;
 ghost use Rattle.fd_script.specs.Reading.{seen_wrong};
 ghost use Rattle.fd_outcome.specs.Told.{ToldOrNoMemory};
-ghost use Rattle.fd_session.specs.Telling.{limit_text, miscast_telling, script_telling, wrong_text};
+ghost use Rattle.fd_session.specs.Telling.{limit_text, line_refused, miscast_telling, script_telling, wrong_text};
 
 use fd_casting::{Miscast, miscast_text};
 use fd_io::Sink;
@@ -38,6 +38,25 @@ fn limit_text(alloc: Global, kind: &ScriptKind) -> Result<Option<String>, AllocE
     }
 }
 
+/// Writes that a line of a script is refused, for the reason of this text.
+fn tell_line_refused<X: Drop, E: Sink<X>>(
+    alloc: Global,
+    report: &mut E,
+    line: u32,
+    text: &str,
+) -> Status
+    ensures { ToldOrNoMemory (line_refused line text.now).status (line_refused line text.now).line result (E.taken report.old) (E.taken report.new) (E.faults report.old) (E.faults report.new) }
+{
+    tell_place(
+        alloc,
+        report,
+        "refused script ",
+        line,
+        text,
+        Status::Refused,
+    )
+}
+
 /// Writes the line of what is wrong with a script.
 pub fn tell_script<X: Drop, E: Sink<X>>(
     alloc: Global,
@@ -53,14 +72,7 @@ pub fn tell_script<X: Drop, E: Sink<X>>(
     };
     match limit_text(alloc, kind) {
         Ok(Some(limit)) => tell_limit(alloc, report, limit.as_str()),
-        Ok(None) => tell_place(
-            alloc,
-            report,
-            "refused script ",
-            line,
-            text.as_str(),
-            Status::Refused,
-        ),
+        Ok(None) => tell_line_refused(alloc, report, line, text.as_str()),
         Err(_) => tell_no_memory(report),
     }
 }
@@ -75,14 +87,7 @@ pub fn tell_miscast<X: Drop, E: Sink<X>>(
     ensures { ToldOrNoMemory (miscast_telling line kind).status (miscast_telling line kind).line result (E.taken report.old) (E.taken report.new) (E.faults report.old) (E.faults report.new) }
 {
     match miscast_text(alloc, kind) {
-        Ok(text) => tell_place(
-            alloc,
-            report,
-            "refused script ",
-            line,
-            text.as_str(),
-            Status::Refused,
-        ),
+        Ok(text) => tell_line_refused(alloc, report, line, text.as_str()),
         Err(_) => tell_no_memory(report),
     }
 }

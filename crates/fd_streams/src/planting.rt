@@ -11,8 +11,7 @@ use fd_disk::{Down, Store};
 use fd_io::Sink;
 use fd_objects::{Objects, World};
 use fd_outcome::{
-    Status, Unread, is_schema_limit, read_front, schema_kind, tell, tell_input_failed, tell_limit,
-    tell_no_memory, tell_noted, tell_place,
+    Status, Unread, read_front, tell, tell_input_failed, tell_no_memory, tell_no_schema, tell_noted,
 };
 use fd_schema::{Schema, SchemaFault, SchemaKind};
 use fd_words::Root;
@@ -29,21 +28,14 @@ fn tell_schema<X: Drop, E: Sink<X>>(
         → ToldOrNoMemory (telling (InSchema text fault)).status (telling (InSchema text fault)).line result
         (E.taken report.old) (E.taken report.new) (E.faults report.old) (E.faults report.new) }
 {
-    let Ok(text) = schema_kind(alloc, kind) else {
-        return tell_no_memory(report);
-    };
-    if is_schema_limit(kind) {
-        tell_limit(alloc, report, text.as_str())
-    } else {
-        tell_place(
-            alloc,
-            report,
-            "refused schema ",
-            line,
-            text.as_str(),
-            Status::Refused,
-        )
-    }
+    tell_no_schema(
+        alloc,
+        report,
+        "refused schema ",
+        line,
+        kind,
+        Status::Refused,
+    )
 }
 
 /// Stores the input as the schema of a store that has none. Where it has one, nothing of the input is read; and whatever is

@@ -12,8 +12,8 @@ use crate::stop::{Broken, Stop};
 use fd_disk::{FileKind, FileName, Store};
 use fd_io::Sink;
 use fd_outcome::{
-    Status, Unruled, is_request_limit, is_schema_limit, request_kind, schema_kind, tell,
-    tell_input_failed, tell_limit, tell_no_memory, tell_noted, tell_place, tell_text,
+    Status, Unruled, is_request_limit, request_kind, tell, tell_input_failed, tell_limit,
+    tell_no_memory, tell_no_schema, tell_noted, tell_place, tell_text,
 };
 use fd_request::RequestKind;
 use fd_schema::SchemaKind;
@@ -90,21 +90,14 @@ pub fn tell_schema<X: Drop, E: Sink<X>>(
     ensures told { (text : List ℕ) (fault : Fault) → IsFirst text line kind.now fault
         → ToldOrNoMemory (telling (InStored text fault)).status (telling (InStored text fault)).line result (E.taken report.old) (E.taken report.new) (E.faults report.old) (E.faults report.new) }
 {
-    let Ok(text) = schema_kind(alloc, kind) else {
-        return tell_no_memory(report);
-    };
-    if is_schema_limit(kind) {
-        tell_limit(alloc, report, text.as_str())
-    } else {
-        tell_place(
-            alloc,
-            report,
-            "damaged schema ",
-            line,
-            text.as_str(),
-            Status::Damaged,
-        )
-    }
+    tell_no_schema(
+        alloc,
+        report,
+        "damaged schema ",
+        line,
+        kind,
+        Status::Damaged,
+    )
 }
 
 /// Writes the line of an input that is no request.
