@@ -1,9 +1,8 @@
 //! The bytes at a place of a segment, copied, or read as a whole.
 ghost use Rattle.std.specs.Prelude.{◌≡◌, ◌≤◌, ◌+◌, ◌-◌, ◌⊎◌, length, slice_get, Contains, IfOk, IfErr, IfSome, IsSome, OnOk};
-ghost use Rattle.fd_bytes.specs.Causes.{Rose};
 ghost use Rattle.fd_segment.specs.Causes as segments;
 ghost use Rattle.fd_segment.specs.{Causes.{IsBadFrame, IsBadIndex, IsFieldDamage}, Copying.{IsCopied, IsCopiedInPart, IsDigestedAt, IsPiece}, Held.{Files, behind}};
-ghost use Rattle.fd_retriever.specs.{Kept.{AreThose, Kept}, Answers.{OnDamaged, OnWrite, UnlessWrite, Unwritten}};
+ghost use Rattle.fd_retriever.specs.{Kept.{AreThose, Kept}, Answers.{HasFetchCause, OnDamaged, Unwritten}};
 
 use crate::checked::copy_checked;
 use crate::fault::FetchFault;
@@ -42,9 +41,7 @@ where
     ensures err { IfErr result (λ _. IfSome (slice_get snapshot.now (number - 1)) (λ s. IsCopiedInPart s.files.fields at len (K.taken sink.old) (K.taken sink.new))) }
     ensures unwritten { IfErr result (λ e. Unwritten e (K.taken sink.new ≡ K.taken sink.old)) }
     ensures damaged { IfErr result (λ e. OnDamaged e (λ d. IfSome (slice_get snapshot.now (number - 1)) (λ s. (IsBadIndex s.files.entry s.files.index d × IsBadFrame s.files.entry s.files.index d) ⊎ IsFieldDamage s.files.entry s.files.fields at len d))) }
-    ensures sink { K.faults sink.old ≤ K.faults sink.new }
-    ensures calm { UnlessWrite result (K.faults sink.new ≡ K.faults sink.old) }
-    ensures write { IfErr result (λ e. OnWrite e (Rose (K.faults sink.old) (K.faults sink.new))) }
+    ensures cause { HasFetchCause (K.faults sink.old) (K.faults sink.new) result }
 {
     let segment = snapshot.segment(number);
     let mut lens = match opened(alloc, segment, number, lenses) {
