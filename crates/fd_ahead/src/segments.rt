@@ -10,7 +10,6 @@ use crate::opened::Opened;
 use fd_bytes::{Bytes, NoMemory};
 use fd_dataset::Snapshot;
 use fd_disk::Sealed;
-use fd_finding::Spot;
 use fd_io::Sink;
 use fd_retriever::{FetchFault, Lenses, copy_at, read_at};
 use fd_segment::LensFault;
@@ -83,9 +82,8 @@ impl<F: Send, Z: Sealed<F>> OpenSegments<F, Z> {
         let Ok(mut lenses) = self.take(alloc, located.number) else {
             return Err(FetchFault::NoMemory);
         };
-        let Spot { number, at, len } = located.spot;
         let snapshot = snapshot_of(opened, located.number);
-        let answer = copy_at(alloc, snapshot, number, &mut lenses, at, len, sink);
+        let answer = copy_at(alloc, snapshot, located.spot, &mut lenses, sink);
         self.keep(located.number, lenses);
         answer
     }
@@ -108,9 +106,8 @@ impl<F: Send, Z: Sealed<F>> OpenSegments<F, Z> {
         let Ok(mut lenses) = self.take(alloc, located.number) else {
             return Err(LensFault::NoMemory);
         };
-        let Spot { number, at, len } = located.spot;
         let snapshot = snapshot_of(opened, located.number);
-        let answer = read_at(alloc, snapshot, number, &mut lenses, at, len);
+        let answer = read_at(alloc, snapshot, located.spot, &mut lenses);
         self.keep(located.number, lenses);
         answer
     }
