@@ -1,5 +1,5 @@
 // The keys that a request asks for, and where they belong.
-ghost use Rattle.std.specs.Prelude.{◌≡◌, ◌⊎◌, ◌≤◌, ◌<◌, [], List, ℕ, Some, Ok, length, map, slice_get, ◌^◌, IfOk, IfErr, IfSome, OnOk};
+ghost use Rattle.std.specs.Prelude.{◌≡◌, ◌⊎◌, ◌≤◌, ◌<◌, [], List, ℕ, Some, Ok, length, map, slice_get, ◌^◌, IfOk, IfErr, IfSome};
 ghost use Rattle.fd_key.specs.Pairs.{Pair};
 ghost use Rattle.fd_schema.specs.{Reading.{seen_place}, Rules.{place_from}};
 ghost use Rattle.fd_request.specs.Expansion.{expand};
