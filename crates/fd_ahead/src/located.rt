@@ -1,4 +1,4 @@
-use fd_finding::Spot;
+use fd_retriever::Spot;
 
 /// Where the newest bytes of a key stand: the number of its dataset among those that are open, and the spot in its
 /// segments.

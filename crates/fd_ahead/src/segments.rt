@@ -1,9 +1,8 @@
 //! The segments that are kept open for reading.
 ghost use Rattle.std.specs.Prelude.{◌≡◌, ◌≤◌, ◌<◌, None, Some, List, length, IfOk, IfErr, IfSome, IsSome, OnOk, slice_get};
-ghost use Rattle.fd_bytes.specs.Causes.{Rose};
 ghost use Rattle.fd_segment.specs.Causes as segments;
 ghost use Rattle.fd_segment.specs.{Copying.{IsCopied, IsCopiedInPart, IsDigestedAt, IsPiece}, Held.{Standing}};
-ghost use Rattle.fd_retriever.specs.{Answers.{OnDamaged, OnWrite, UnlessWrite, Unwritten}, Kept.{AreThose}};
+ghost use Rattle.fd_retriever.specs.{Answers.{HasFetchCause, OnDamaged, Unwritten}, Kept.{AreThose}};
 ghost use Rattle.fd_ahead.specs.Places.{InSegment, IsIn, IsMetAt, Keeping, Keeps};
 
 use crate::located::Located;
@@ -11,7 +10,6 @@ use crate::opened::Opened;
 use fd_bytes::{Bytes, NoMemory};
 use fd_dataset::Snapshot;
 use fd_disk::Sealed;
-use fd_finding::Spot;
 use fd_io::Sink;
 use fd_retriever::{FetchFault, Lenses, copy_at, read_at};
 use fd_segment::LensFault;
@@ -79,16 +77,13 @@ impl<F: Send, Z: Sealed<F>> OpenSegments<F, Z> {
         ensures err { IfErr result (λ _. InSegment opened.now located (λ s. IsCopiedInPart s.files.fields located.spot.at located.spot.len (K.taken sink.old) (K.taken sink.new))) }
         ensures unwritten { IfErr result (λ e. Unwritten e (K.taken sink.new ≡ K.taken sink.old)) }
         ensures damaged { IfErr result (λ e. OnDamaged e (λ d. InSegment opened.now located (IsMetAt located d))) }
-        ensures sink { K.faults sink.old ≤ K.faults sink.new }
-        ensures calm { UnlessWrite result (K.faults sink.new ≡ K.faults sink.old) }
-        ensures write { IfErr result (λ e. OnWrite e (Rose (K.faults sink.old) (K.faults sink.new))) }
+        ensures cause { HasFetchCause (K.faults sink.old) (K.faults sink.new) result }
     {
         let Ok(mut lenses) = self.take(alloc, located.number) else {
             return Err(FetchFault::NoMemory);
         };
-        let Spot { number, at, len } = located.spot;
         let snapshot = snapshot_of(opened, located.number);
-        let answer = copy_at(alloc, snapshot, number, &mut lenses, at, len, sink);
+        let answer = copy_at(alloc, snapshot, located.spot, &mut lenses, sink);
         self.keep(located.number, lenses);
         answer
     }
@@ -111,9 +106,8 @@ impl<F: Send, Z: Sealed<F>> OpenSegments<F, Z> {
         let Ok(mut lenses) = self.take(alloc, located.number) else {
             return Err(LensFault::NoMemory);
         };
-        let Spot { number, at, len } = located.spot;
         let snapshot = snapshot_of(opened, located.number);
-        let answer = read_at(alloc, snapshot, number, &mut lenses, at, len);
+        let answer = read_at(alloc, snapshot, located.spot, &mut lenses);
         self.keep(located.number, lenses);
         answer
     }

@@ -1,8 +1,7 @@
 //! The fields that were read ahead, as they are written.
 ghost use Rattle.std.specs.Prelude.{◌≡◌, ◌≤◌, ◌+◌, ◌++◌, ℕ, All, List, length, false, true, IfErr, IfSome, IsSome, IsTrue, OnOk};
-ghost use Rattle.fd_bytes.specs.Causes.{Rose};
 ghost use Rattle.fd_segment.specs.Copying.{IsCopied, IsCopiedInPart, IsDigestedAt};
-ghost use Rattle.fd_retriever.specs.Answers.{OnDamaged, OnWrite, UnlessWrite, Unwritten};
+ghost use Rattle.fd_retriever.specs.Answers.{HasFetchCause, OnDamaged, Unwritten};
 ghost use Rattle.fd_ahead.specs.{Places.{InSegment, IsIn, IsMetAt, Open}, Reading.{AreJoined, IsHeld, IsJob, IsRead, IsReadOf, IsStock}};
 
 use crate::job::{Item, ReadJob, keep};
@@ -196,9 +195,7 @@ impl<F: Send + Drop, Z: Sealed<F>> Stock<OpenSegments<F, Z>, F> {
         ensures err { IfErr result (λ _. InSegment opened.now located (λ s. IsCopiedInPart s.files.fields located.spot.at located.spot.len (K.taken sink.old) (K.taken sink.new))) }
         ensures unwritten { IfErr result (λ e. Unwritten e (K.taken sink.new ≡ K.taken sink.old)) }
         ensures damaged { IfErr result (λ e. OnDamaged e (λ d. InSegment opened.now located (IsMetAt located d))) }
-        ensures sink { K.faults sink.old ≤ K.faults sink.new }
-        ensures calm { UnlessWrite result (K.faults sink.new ≡ K.faults sink.old) }
-        ensures write { IfErr result (λ e. OnWrite e (Rose (K.faults sink.old) (K.faults sink.new))) }
+        ensures cause { HasFetchCause (K.faults sink.old) (K.faults sink.new) result }
     {
         match take_next(&mut self.ready, &located) {
             Some(Ok(bytes)) => match write_all(sink, bytes.as_slice()) {

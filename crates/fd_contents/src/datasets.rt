@@ -1,6 +1,5 @@
 // The lines of all datasets, one dataset after the other.
 ghost use Rattle.std.specs.Prelude.{◌≡◌, ◌≤◌, [], ◌∷◌, List, ℕ, Some, false, is_some, length, IfOk, IfErr, IfSome, OnErr, OnOk};
-ghost use Rattle.fd_bytes.specs.Causes.{Rose};
 ghost use Rattle.fd_disk.specs.Folders.{Holdings, WhereTold, folder_at};
 ghost use Rattle.fd_io.specs.Streams.{TakesFront};
 ghost use Rattle.fd_spelling.specs.Texts.{texts};
@@ -9,7 +8,7 @@ ghost use Rattle.fd_inventory.specs.Indexes.{IsAmongBad, OnLines};
 ghost use Rattle.fd_outcome.specs.Store.{AreNames, IsLookedThrough, has_table};
 ghost use Rattle.fd_retrieve.specs.{Open.{IsOpenIn}, Ready.{AreFirmOf, IsBrokenOf}};
 ghost use Rattle.fd_telling.specs.Stops.{OfDataset};
-ghost use Rattle.fd_contents.specs.{Halts.{IsWrite, OnStop, OnUnwritten}, Printed.{ArePrinted, IsPrinted}, Texts.{text_for, texts_for}};
+ghost use Rattle.fd_contents.specs.{Halts.{HasHaltCause, IsWrite, OnStop, OnUnwritten}, Printed.{ArePrinted, IsPrinted}, Texts.{text_for, texts_for}};
 
 use crate::lines::{Lines, write_lines};
 use fd_disk::{Down, Folder, Sealed, Store};
@@ -117,9 +116,7 @@ where
     ensures firm { OnOk result (IfSome (S.has store.new) (λ i. IsFirmTable (folder_at i name.now).table)) }
     ensures front { OnErr result (IfSome (S.has store.old) (λ h. (text : List ℕ) → text_for lines.now h name.now ≡ Some text → TakesFront (K.taken output.old) (K.taken output.new) text)) }
     ensures broken { IfErr result (λ e. OnStop e (λ stop. IfSome (S.has store.old) (λ h. IsBrokenOf stop h (name.now ∷ [])))) }
-    ensures of { IfErr result (λ e. OnStop e OfDataset) }
-    ensures calm { OnOk result (K.faults output.new ≡ K.faults output.old) }
-    ensures write { IfErr result (λ e. OnUnwritten e (Rose (K.faults output.old) (K.faults output.new))) }
+    ensures cause { HasHaltCause (K.faults output.old) (K.faults output.new) result }
     ensures looks { WhereTold (S.has store.old) (S.has store.new) IsLookedThrough }
     ensures home { (n : List ℕ) → S.out store.new n ≡ false }
     ensures later { S.faults store.old ≤ S.faults store.new }
@@ -149,9 +146,7 @@ where
     ensures firm { OnOk result (IfSome (S.has store.new) (λ i. AreFirmOf i (texts names.now))) }
     ensures front { OnErr result (IfSome (S.has store.old) (λ h. (text : List ℕ) → texts_for lines.now h (texts names.now) ≡ Some text → TakesFront (K.taken output.old) (K.taken output.new) text)) }
     ensures broken { IfErr result (λ e. OnStop e (λ stop. IfSome (S.has store.old) (λ h. IsBrokenOf stop h (texts names.now)))) }
-    ensures of { IfErr result (λ e. OnStop e OfDataset) }
-    ensures calm { OnOk result (K.faults output.new ≡ K.faults output.old) }
-    ensures write { IfErr result (λ e. OnUnwritten e (Rose (K.faults output.old) (K.faults output.new))) }
+    ensures cause { HasHaltCause (K.faults output.old) (K.faults output.new) result }
     ensures looks { WhereTold (S.has store.old) (S.has store.new) IsLookedThrough }
     ensures home { (n : List ℕ) → S.out store.new n ≡ false }
     ensures later { S.faults store.old ≤ S.faults store.new }
@@ -178,9 +173,7 @@ where
     ensures firm { OnOk result (IfSome (S.has store.old) (λ h. (names : List (List ℕ)) → AreNames h names → IfSome (S.has store.new) (λ i. AreFirmOf i names))) }
     ensures front { OnErr result (IfSome (S.has store.old) (λ h. (names : List (List ℕ)) (text : List ℕ) → AreNames h names → texts_for lines.now h names ≡ Some text → TakesFront (K.taken output.old) (K.taken output.new) text)) }
     ensures broken { IfErr result (λ e. OnStop e (λ stop. IfSome (S.has store.old) (λ h. (names : List (List ℕ)) → AreNames h names → IsBrokenOf stop h names))) }
-    ensures of { IfErr result (λ e. OnStop e OfDataset) }
-    ensures calm { OnOk result (K.faults output.new ≡ K.faults output.old) }
-    ensures write { IfErr result (λ e. OnUnwritten e (Rose (K.faults output.old) (K.faults output.new))) }
+    ensures cause { HasHaltCause (K.faults output.old) (K.faults output.new) result }
     ensures looks { WhereTold (S.has store.old) (S.has store.new) IsLookedThrough }
     ensures home { (n : List ℕ) → S.out store.new n ≡ false }
     ensures later { S.faults store.old ≤ S.faults store.new }

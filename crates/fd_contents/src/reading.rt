@@ -1,9 +1,8 @@
 // What is read before the first dataset is opened.
 ghost use Rattle.std.specs.{Prelude.{◌≡◌, ◌≤◌, [], Some, Ok, Err, IfOk, IfErr, IfSome, OnOk}, Result.{IsErr}};
-ghost use Rattle.fd_bytes.specs.Causes.{Rose};
 ghost use Rattle.fd_outcome.specs.{Asking.{partial_in, rules_of}, Noticing.{IsUnread}};
 ghost use Rattle.fd_objects.specs.Given.{source_of};
-ghost use Rattle.fd_telling.specs.Stops.{OnInput, OnRefusal, OnRequest};
+ghost use Rattle.fd_telling.specs.Stops.{HasReadCause, OnInput, OnRequest};
 ghost use Rattle.fd_contents.specs.Asked.{IsEarly, IsRuled, Refuses, asked_in, unruled};
 
 use fd_disk::Store;
@@ -42,9 +41,7 @@ fn partial_of<F, X: Drop, I: Source<X>>(alloc: Global, input: &mut I) -> Result<
     ensures ok { IfOk result (λ p. IfSome (I.left input.old) (λ octets. (partial_in octets ≡ Ok p) × (I.left input.new ≡ Some []))) }
     ensures refused { IfErr result (λ e. IfSome (I.left input.old) (λ octets. OnRequest e (partial_in octets))) }
     ensures early { IfErr result IsEarly }
-    ensures input { IfErr result (λ e. OnInput e (Rose (I.faults input.old) (I.faults input.new))) }
-    ensures calm { OnOk result (I.faults input.new ≡ I.faults input.old) }
-    ensures calm_err { IfErr result (λ e. OnRefusal e (I.faults input.new ≡ I.faults input.old)) }
+    ensures cause { HasReadCause (I.faults input.old) (I.faults input.new) result }
 {
     let text = match read_front(alloc, input, INPUT_LIMIT) {
         Ok(text) => text,
@@ -72,9 +69,7 @@ pub(crate) fn partial<F: Send, X: Drop, S: Store<F>, I: Source<X>>(
     ensures early { IfErr result IsEarly }
     ensures read { OnOk result (IfSome (I.left input.old) (λ octets. I.left input.new ≡ Some [])) }
     ensures unread { IfSome (S.has store.old) (λ h. IsErr (rules_of h.schema) → IsUnread (source_of I.Source input)) }
-    ensures input { IfErr result (λ e. OnInput e (Rose (I.faults input.old) (I.faults input.new))) }
-    ensures calm { OnOk result (I.faults input.new ≡ I.faults input.old) }
-    ensures calm_err { IfErr result (λ e. OnRefusal e (I.faults input.new ≡ I.faults input.old)) }
+    ensures cause { HasReadCause (I.faults input.old) (I.faults input.new) result }
     ensures has { S.has store.new ≡ S.has store.old }
     ensures out { S.out store.new ≡ S.out store.old }
     ensures later { S.faults store.old ≤ S.faults store.new }

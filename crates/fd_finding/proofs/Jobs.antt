@@ -15,7 +15,7 @@ use Rattle.fd_dataset.specs.Listed.{listing}
 use Rattle.fd_retriever.specs.Answers.{SomeUntold}
 use Rattle.fd_finding.specs.declared.spot.Job.{Job}
 use Rattle.fd_finding.specs.declared.spot.Sought.{Sought}
-use Rattle.fd_finding.specs.declared.spot.Spot.{Spot}
+use Rattle.fd_retriever.specs.declared.spot.Spot.{Spot}
 use Rattle.fd_finding.specs.Spots.{StandsForOne, StandsForSome}
 use Rattle.fd_finding.specs.Searching.{IsFresh, IsSearched, IsSoFar, Ran, SoFar, all_keys, all_spots, key_of, spot_of}
 

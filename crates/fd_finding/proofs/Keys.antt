@@ -13,7 +13,7 @@ use Rattle.fd_retriever.specs.Answers.{SomeUntold}
 use Rattle.fd_retriever.proofs.Copying.{bad_index}
 use Rattle.fd_retriever.proofs.Keeping.{numbered_map}
 use Rattle.fd_finding.specs.declared.spot.Sought.{Sought}
-use Rattle.fd_finding.specs.declared.spot.Spot.{Spot}
+use Rattle.fd_retriever.specs.declared.spot.Spot.{Spot}
 use Rattle.fd_finding.specs.Spots.{StandsForOne, StandsForSome}
 use Rattle.fd_finding.specs.Searching.{AllLooked, IsSearched, IsSoFar, Looked, key_of, spot_of}
 use Rattle.fd_finding.proofs.Spots.{found_stays, lacks_at_end, so_far_more}

@@ -10,7 +10,7 @@ use Rattle.fd_retriever.specs.declared.fault.Got.TheVariants.{Miss}
 use Rattle.fd_retriever.specs.Kept.{IsNumbered}
 use Rattle.fd_retriever.specs.Answers.{IsSaid, LackBehind, Says}
 use Rattle.fd_retriever.proofs.Keeping.{numbered_same}
-use Rattle.fd_finding.specs.declared.spot.Spot.{Spot}
+use Rattle.fd_retriever.specs.declared.spot.Spot.{Spot}
 use Rattle.fd_finding.specs.Spots.{AllSayOf, AllTold, AreTheOnly, IsShown, SaysAt}
 
 -- an index that is told says one thing of a key

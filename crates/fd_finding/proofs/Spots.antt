@@ -14,7 +14,7 @@ use Rattle.fd_retriever.proofs.Copying.{missed}
 use Rattle.fd_retriever.proofs.Newest.{here, missed_here, none_at_end}
 use Rattle.fd_retriever.proofs.Saying.{lack_at_end, lack_more}
 use Rattle.fd_finding.specs.declared.spot.Sought.{Sought}
-use Rattle.fd_finding.specs.declared.spot.Spot.{Spot}
+use Rattle.fd_retriever.specs.declared.spot.Spot.{Spot}
 use Rattle.fd_finding.specs.Spots.{AllSayOf, IsAnswer, IsNewestAt, IsShown, IsWithin, SaysAt}
 use Rattle.fd_finding.specs.Searching.{Finds, FindsAt, FindsMore, IsFound, IsSoFar, Lacks, Looked, SoFar}
 

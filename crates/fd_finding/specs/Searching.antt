@@ -12,7 +12,7 @@ use Rattle.fd_retriever.specs.Kept.{IsNumbered}
 use Rattle.fd_retriever.specs.Answers.{LackBehind, Says, SomeUntold, Tells}
 use Rattle.fd_finding.specs.declared.spot.Job.{Job}
 use Rattle.fd_finding.specs.declared.spot.Sought.{Sought}
-use Rattle.fd_finding.specs.declared.spot.Spot.{Spot}
+use Rattle.fd_retriever.specs.declared.spot.Spot.{Spot}
 use Rattle.fd_finding.specs.Spots.{SaysAt, StandsForSome}
 
 abbrev pub key_of : Sought → List ℕ

@@ -11,7 +11,7 @@ use Rattle.fd_segment.specs.Causes.{IsBadFrame, IsBadIndex, IsFindDamage}
 use Rattle.fd_segment.specs.Held.{Files, Standing, behind}
 use Rattle.fd_retriever.specs.Kept.{IsNumbered}
 use Rattle.fd_retriever.specs.Answers.{IsSaid, LackBehind}
-use Rattle.fd_finding.specs.declared.spot.Spot.{Spot}
+use Rattle.fd_retriever.specs.declared.spot.Spot.{Spot}
 
 -- the key under which a message of a place stands in the files
 abbrev pub place_key : Place → List ℕ

@@ -8,10 +8,11 @@ ghost use Rattle.fd_finding.specs.{Spots.{AllSayOf, AreTheOnly, IsAnswer, IsWith
 
 use crate::dealing::deal;
 use crate::searching::search;
-use crate::spot::{Job, Sought, Spot};
+use crate::spot::{Job, Sought};
 use fd_dataset::Snapshot;
 use fd_disk::Sealed;
 use fd_io::Gate;
+use fd_retriever::Spot;
 use fd_schema::Place;
 use fd_segment::LensFault;
 use std::alloc::Global;

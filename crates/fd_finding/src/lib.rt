@@ -11,4 +11,3 @@ mod spot;
 
 pub use finding::find_all;
 pub use places::again;
-pub use spot::Spot;

@@ -3,9 +3,10 @@ ghost use Rattle.std.specs.Prelude.{◌≡◌, None, map, IfErr, IfOk, IfSome, O
 ghost use Rattle.fd_segment.specs.{Held.{batch_of}, Causes.{AreAllOf, IsFindDamage, OnDamaged}};
 ghost use Rattle.fd_finding.specs.{Spots.{StandsForOne}, Searching.{AllLooked, Looked, key_of}};
 
-use crate::spot::{Sought, Spot};
+use crate::spot::Sought;
 use fd_disk::{Reader, Sealed};
 use fd_index::Index;
+use fd_retriever::Spot;
 use fd_segment::{Lens, LensFault, Segment};
 use std::alloc::Global;
 

@@ -1,6 +1,5 @@
 // What stands ready before the first key is answered.
 ghost use Rattle.std.specs.Prelude.{◌≡◌, ◌≤◌, [], List, ℕ, Some, Ok, false, length, map, IfOk, IfErr, IfSome, IsErr, OnOk};
-ghost use Rattle.fd_bytes.specs.Causes.{Rose};
 ghost use Rattle.fd_disk.specs.Folders.{WhereTold};
 ghost use Rattle.fd_request.specs.Expansion.{expand};
 ghost use Rattle.fd_schema.specs.Reading.{seen_place};
@@ -8,7 +7,7 @@ ghost use Rattle.fd_words.specs.Words.{AreLayers};
 ghost use Rattle.fd_outcome.specs.{Asking.{rules_of}, Ends.{AmongLaid}, Layered.{laid_of}, Noticing.{IsUnread}, Store.{Stays}};
 ghost use Rattle.fd_objects.specs.Given.{source_of};
 ghost use Rattle.fd_retrieve.specs.{Looking.{IsLookedThrough}, Ready.{AreFirmOf}, Tables.{datasets_in}};
-ghost use Rattle.fd_telling.specs.Stops.{IsOfRequest, IsRefused, OnInput, OnRefusal, Says};
+ghost use Rattle.fd_telling.specs.Stops.{HasReadCause, IsOfRequest, IsRefused, Says};
 ghost use Rattle.fd_layered.specs.{Chains.{AreChains}, Ready.{IsReady, laid_in, laid_with}};
 
 use crate::placing::places_over;
@@ -42,9 +41,7 @@ where
     ensures says { IfErr result (λ e. IfSome (S.has store.old)
         (λ h. IfSome (I.left input.old) (λ octets. Says e h (IsRefused (laid_of h layers.now octets))
         (AmongLaid (laid_of h layers.now octets))))) }
-    ensures input { IfErr result (λ e. OnInput e (Rose (I.faults input.old) (I.faults input.new))) }
-    ensures calm { OnOk result (I.faults input.new ≡ I.faults input.old) }
-    ensures calm_err { IfErr result (λ e. OnRefusal e (I.faults input.new ≡ I.faults input.old)) }
+    ensures cause { HasReadCause (I.faults input.old) (I.faults input.new) result }
     ensures stays { WhereTold (S.has store.old) (S.has store.new) Stays }
     ensures looks { WhereTold (S.has store.old) (S.has store.new) IsLookedThrough }
     ensures home { (n : List ℕ) → S.out store.new n ≡ false }
@@ -85,9 +82,7 @@ fn placed<F: Send, X: Drop, S: Store<F>, I: Source<X>>(
     ensures unread { IfSome (S.has store.old) (λ h. IsErr (rules_of h.schema) → IsUnread (source_of I.Source input)) }
     ensures says { IfErr result (λ e. IfSome (S.has store.old)
         (λ h. IfSome (I.left input.old) (λ octets. IsOfRequest e (IsRefused (laid_in h layers.now octets))))) }
-    ensures input { IfErr result (λ e. OnInput e (Rose (I.faults input.old) (I.faults input.new))) }
-    ensures calm { OnOk result (I.faults input.new ≡ I.faults input.old) }
-    ensures calm_err { IfErr result (λ e. OnRefusal e (I.faults input.new ≡ I.faults input.old)) }
+    ensures cause { HasReadCause (I.faults input.old) (I.faults input.new) result }
     ensures has { S.has store.new ≡ S.has store.old }
     ensures out { S.out store.new ≡ S.out store.old }
     ensures later { S.faults store.old ≤ S.faults store.new }

@@ -26,3 +26,9 @@ pub record TakesAllBut (old new : Option (List ℕ)) (text rest : List ℕ) : Ty
   pub front : List ℕ
   pub split : text ≡ front ++ rest
   pub took : Takes old new front
+
+-- this holds where memory ran out
+abbrev pub OnStarved : {A X : Type 0} → Result A (TextFault X) → Type 0 → Type 0
+OnStarved (Ok done) P = Unit {0}
+OnStarved (Err (Write fault)) P = Unit {0}
+OnStarved (Err NoMemory) P = P

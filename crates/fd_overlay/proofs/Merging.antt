@@ -17,7 +17,7 @@ use Rattle.fd_schema.specs.Reading.{seen_place}
 use Rattle.fd_schema.specs.Rules.{Texts, file_key}
 use mathlib.Core.List.{map-append}
 use Rattle.fd_retriever.specs.Answers.{SomeUntold, Tells}
-use Rattle.fd_finding.specs.declared.spot.Spot.{Spot}
+use Rattle.fd_retriever.specs.declared.spot.Spot.{Spot}
 use Rattle.fd_finding.specs.Spots.{AllSayOf, AllTold, IsAnswer, IsNewestAt, IsWithin, StandsForOne, StandsForSome, place_key}
 use Rattle.fd_finding.proofs.Jobs.{all_right, zip_as}
 use Rattle.fd_finding.proofs.Only.{the_only}

@@ -5,7 +5,7 @@ use Rattle.fd_entries.specs.declared.batch.Pair.{Pair}
 use Rattle.fd_segment.specs.Held.{Standing}
 use Rattle.fd_dataset.specs.Listed.{listing}
 use Rattle.fd_retriever.specs.Answers.{Tells}
-use Rattle.fd_finding.specs.declared.spot.Spot.{Spot}
+use Rattle.fd_retriever.specs.declared.spot.Spot.{Spot}
 use Rattle.fd_finding.specs.Spots.{AllSayOf, IsAnswer, IsWithin}
 use Rattle.fd_overlay.specs.declared.spot.LayerSpot.{LayerSpot}
 use Rattle.fd_overlay.specs.Layers.{EachNearer}

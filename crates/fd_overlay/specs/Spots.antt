@@ -9,7 +9,7 @@ use Rattle.fd_segment.specs.Held.{Standing}
 use Rattle.fd_dataset.specs.Listed.{listing}
 use Rattle.fd_retriever.specs.Answers.{SomeUntold}
 use Rattle.fd_retriever.specs.Kept.{IsNumbered}
-use Rattle.fd_finding.specs.declared.spot.Spot.{Spot}
+use Rattle.fd_retriever.specs.declared.spot.Spot.{Spot}
 use Rattle.fd_finding.specs.Spots.{AllSayOf, AllTold, IsWithin, StandsForSome}
 use Rattle.fd_overlay.specs.declared.spot.LayerSpot.{LayerSpot}
 use Rattle.fd_overlay.specs.declared.spot.FindFault.{FindFault}

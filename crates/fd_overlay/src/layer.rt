@@ -1,10 +1,9 @@
 // One layer: a dataset as it was at some moment, and its segments that are open for reading.
-ghost use Rattle.std.specs.Prelude.{◌≡◌, ◌≤◌, List, map, IfOk, IfErr};
-ghost use Rattle.fd_bytes.specs.Causes.{Rose};
+ghost use Rattle.std.specs.Prelude.{◌≡◌, List, map, IfOk, IfErr};
 ghost use Rattle.fd_entries.specs.{declared.batch.Pair.{Pair}, Batches.{newest}};
 ghost use Rattle.fd_schema.specs.{Rules.{file_key}, Reading.{seen_place}};
 ghost use Rattle.fd_dataset.specs.Listed.{listing};
-ghost use Rattle.fd_retriever.specs.Answers.{AllSay, IsAnswer, OnDamaged, OnWrite, SomeUntold, StandsAmong, Tells, TookAsMany, TookFront, UnlessWrite, Unwritten};
+ghost use Rattle.fd_retriever.specs.Answers.{AllSay, HasFetchCause, IsAnswer, OnDamaged, SomeUntold, StandsAmong, Tells, TookAsMany, TookFront, Unwritten};
 
 use fd_bytes::NoMemory;
 use fd_dataset::Snapshot;
@@ -59,9 +58,7 @@ impl<F: Send, Z: Sealed<F>> Layer<F, Z> {
         ensures unwritten { IfErr result (λ e. Unwritten e (K.taken sink.new ≡ K.taken sink.old)) }
         ensures damaged { IfErr result (λ e. OnDamaged e (StandsAmong self.old (file_key (seen_place place.now)))) }
         ensures sound { IfErr result (λ e. OnDamaged e (λ _. SomeUntold (map listing self.old))) }
-        ensures sink { K.faults sink.old ≤ K.faults sink.new }
-        ensures calm { UnlessWrite result (K.faults sink.new ≡ K.faults sink.old) }
-        ensures write { IfErr result (λ e. OnWrite e (Rose (K.faults sink.old) (K.faults sink.new))) }
+        ensures cause { HasFetchCause (K.faults sink.old) (K.faults sink.new) result }
     {
         every_snapshot();
         fetch(alloc, &self.snapshot, &mut self.lenses, place, sink)

@@ -1,9 +1,8 @@
 // The layers, and what is fetched of them.
-ghost use Rattle.std.specs.Prelude.{◌≡◌, ◌≤◌, List, IfOk, IfErr};
-ghost use Rattle.fd_bytes.specs.Causes.{Rose};
+ghost use Rattle.std.specs.Prelude.{◌≡◌, List, IfOk, IfErr};
 ghost use Rattle.fd_entries.specs.{declared.batch.Pair.{Pair}, Batches.{newest}};
 ghost use Rattle.fd_schema.specs.{Rules.{file_key}, Reading.{seen_place}};
-ghost use Rattle.fd_retriever.specs.Answers.{IsAnswer, OnDamaged, OnWrite, TookAsMany, TookFront, UnlessWrite, Unwritten};
+ghost use Rattle.fd_retriever.specs.Answers.{HasFetchCause, IsAnswer, OnDamaged, TookAsMany, TookFront, Unwritten};
 ghost use Rattle.fd_layers.specs.Tables.{laid};
 ghost use Rattle.fd_overlay.specs.Layers.{AllTell, LayersSay, SomeLayerUntold, StandsInLayer};
 
@@ -67,9 +66,7 @@ impl<F: Send, Z: Sealed<F>> Over<F, Z> {
         ensures unwritten { IfErr result (λ e. Unwritten e (K.taken sink.new ≡ K.taken sink.old)) }
         ensures damaged { IfErr result (λ e. OnDamaged e (StandsInLayer self.old (file_key (seen_place place.now)))) }
         ensures sound { IfErr result (λ e. OnDamaged e (λ _. SomeLayerUntold self.old)) }
-        ensures sink { K.faults sink.old ≤ K.faults sink.new }
-        ensures calm { UnlessWrite result (K.faults sink.new ≡ K.faults sink.old) }
-        ensures write { IfErr result (λ e. OnWrite e (Rose (K.faults sink.old) (K.faults sink.new))) }
+        ensures cause { HasFetchCause (K.faults sink.old) (K.faults sink.new) result }
     {
         for i in 0..self.layers.len() {
             match self.layers[i].fetch(alloc, place, sink) {

@@ -1,4 +1,4 @@
-use fd_finding::Spot;
+use fd_retriever::Spot;
 use fd_segment::Damage;
 
 /// Where the newest bytes of a key stand among layers: the number of the layer, from 0, and the spot in its segments.

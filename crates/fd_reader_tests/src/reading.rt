@@ -7,7 +7,7 @@ ghost use Rattle.fd_retriever.specs.Kept.{Fits};
 use crate::writing::{Key, SIZE, place};
 use fd_dataset::{Dataset, DatasetPass, Snapshot};
 use fd_disk::{Folder, Sealed};
-use fd_finding::{Spot, find_all};
+use fd_finding::find_all;
 use fd_io::{Gate, MemSink, Sink};
 use fd_recovery::{Recovered, recover};
 use fd_retriever::*;

@@ -7,7 +7,7 @@ use fd_bytes::NoMemory;
 use fd_dataset::Snapshot;
 use fd_disk::{Folder, Store};
 use fd_disk_mem::{MemFault, MemStore, Op};
-use fd_finding::Spot;
+use fd_retriever::Spot;
 use fd_toc::Toc;
 use std::alloc::Global;
 use std::process::Abort;

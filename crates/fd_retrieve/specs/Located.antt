@@ -8,7 +8,7 @@ use Rattle.fd_schema.specs.declared.place.Place.{Place}
 use Rattle.fd_segment.specs.declared.fault.Damage.{Damage}
 use Rattle.fd_schema.specs.Rules.{Texts, file_key}
 use Rattle.fd_schema.specs.Reading.{seen_place}
-use Rattle.fd_finding.specs.declared.spot.Spot.{Spot}
+use Rattle.fd_retriever.specs.declared.spot.Spot.{Spot}
 use Rattle.fd_finding.specs.Spots.{IsNewestAt}
 use Rattle.fd_outcome.specs.Asking.{is_among}
 use Rattle.fd_ahead.specs.declared.located.Located.{Located}

@@ -1,12 +1,11 @@
 // The keys that a request asks for, and where they belong.
-ghost use Rattle.std.specs.Prelude.{◌≡◌, ◌⊎◌, ◌≤◌, ◌<◌, [], List, ℕ, Some, Ok, length, map, slice_get, ◌^◌, IfOk, IfErr, IfSome, OnOk};
-ghost use Rattle.fd_bytes.specs.Causes.{Rose};
+ghost use Rattle.std.specs.Prelude.{◌≡◌, ◌⊎◌, ◌≤◌, ◌<◌, [], List, ℕ, Some, Ok, length, map, slice_get, ◌^◌, IfOk, IfErr, IfSome};
 ghost use Rattle.fd_key.specs.Pairs.{Pair};
 ghost use Rattle.fd_schema.specs.{Reading.{seen_place}, Rules.{place_from}};
 ghost use Rattle.fd_request.specs.Expansion.{expand};
 ghost use Rattle.fd_outcome.specs.Asking.{placed, request_in};
 ghost use Rattle.fd_answering.specs.Finding.{asked_of_all};
-ghost use Rattle.fd_telling.specs.Stops.{LacksRule, OnInput, OnRefusal, OnRequest};
+ghost use Rattle.fd_telling.specs.Stops.{HasReadCause, LacksRule, OnRequest};
 ghost use Rattle.fd_retrieve.specs.Seats.{AreSought, IsSought, IsUnplaced};
 
 use fd_bytes::NoMemory;
@@ -44,9 +43,7 @@ pub fn request_of<F, X: Drop, I: Source<X>>(
 ) -> Result<Request, Stop<F>>
     ensures ok { IfOk result (λ r. IfSome (I.left input.old) (λ octets. (request_in octets ≡ Ok r) × (I.left input.new ≡ Some []))) }
     ensures refused { IfErr result (λ e. IfSome (I.left input.old) (λ octets. OnRequest e (request_in octets))) }
-    ensures input { IfErr result (λ e. OnInput e (Rose (I.faults input.old) (I.faults input.new))) }
-    ensures calm { OnOk result (I.faults input.new ≡ I.faults input.old) }
-    ensures calm_err { IfErr result (λ e. OnRefusal e (I.faults input.new ≡ I.faults input.old)) }
+    ensures cause { HasReadCause (I.faults input.old) (I.faults input.new) result }
 {
     let text = match read_front(alloc, input, MOST) {
         Ok(text) => text,

@@ -1,6 +1,5 @@
 // What stands ready before the first key is answered.
 ghost use Rattle.std.specs.Prelude.{◌≡◌, ◌≤◌, ◌<◌, [], ◌∷◌, List, ℕ, Some, Ok, false, length, IfOk, IfErr, IfSome, IsErr, OnOk};
-ghost use Rattle.fd_bytes.specs.Causes.{Rose};
 ghost use Rattle.fd_disk.specs.Folders.{WhereTold, folder_at};
 ghost use Rattle.fd_spelling.specs.Texts.{texts};
 ghost use Rattle.fd_recovery.specs.{Causes.{NotTooMany}, Crashing.{IsFirmTable}, Recovered.{IsUndamaged}};
@@ -8,7 +7,7 @@ ghost use Rattle.fd_request.specs.Expansion.{expand};
 ghost use Rattle.fd_outcome.specs.{Asking.{asked_of, rules_of}, Ends.{AmongAsked}, Noticing.{IsUnread}, Store.{Stays}};
 ghost use Rattle.fd_objects.specs.Given.{source_of};
 ghost use Rattle.fd_retrieve.specs.{Looking.{IsLookedThrough}, Ready.{AreFirmOf, AreOpen, NoneIsDamaged, IsBrokenOf, IsReady, IsUnopened, MayOpen, asked_at, placed_of}, Tables.{datasets_in}};
-ghost use Rattle.fd_telling.specs.Stops.{IsOfRequest, IsRefused, OfDataset, OnInput, OnRefusal, Says};
+ghost use Rattle.fd_telling.specs.Stops.{HasReadCause, IsOfRequest, IsRefused, OfDataset, Says};
 
 use crate::asking::{places_of, request_of};
 use crate::opened::open;
@@ -55,9 +54,7 @@ where
     ensures unread { IfSome (S.has store.old) (λ h. IsErr (rules_of h.schema) → IsUnread (source_of I.Source input)) }
     ensures says { IfErr result (λ e. IfSome (S.has store.old)
         (λ h. IfSome (I.left input.old) (λ octets. Says e h (IsRefused (asked_of h octets)) (AmongAsked (asked_of h octets))))) }
-    ensures input { IfErr result (λ e. OnInput e (Rose (I.faults input.old) (I.faults input.new))) }
-    ensures calm { OnOk result (I.faults input.new ≡ I.faults input.old) }
-    ensures calm_err { IfErr result (λ e. OnRefusal e (I.faults input.new ≡ I.faults input.old)) }
+    ensures cause { HasReadCause (I.faults input.old) (I.faults input.new) result }
     ensures stays { WhereTold (S.has store.old) (S.has store.new) Stays }
     ensures looks { WhereTold (S.has store.old) (S.has store.new) IsLookedThrough }
     ensures home { (n : List ℕ) → S.out store.new n ≡ false }
@@ -99,9 +96,7 @@ fn placed<F: Send, X: Drop, S: Store<F>, I: Source<X>, R: Threads + Sync>(
     ensures unread { IfSome (S.has store.old) (λ h. IsErr (rules_of h.schema) → IsUnread (source_of I.Source input)) }
     ensures says { IfErr result (λ e. IfSome (S.has store.old)
         (λ h. IfSome (I.left input.old) (λ octets. IsOfRequest e (IsRefused (placed_of h octets))))) }
-    ensures input { IfErr result (λ e. OnInput e (Rose (I.faults input.old) (I.faults input.new))) }
-    ensures calm { OnOk result (I.faults input.new ≡ I.faults input.old) }
-    ensures calm_err { IfErr result (λ e. OnRefusal e (I.faults input.new ≡ I.faults input.old)) }
+    ensures cause { HasReadCause (I.faults input.old) (I.faults input.new) result }
     ensures has { S.has store.new ≡ S.has store.old }
     ensures out { S.out store.new ≡ S.out store.old }
     ensures later { S.faults store.old ≤ S.faults store.new }

@@ -1,5 +1,6 @@
 -- What a fetch answers, and why it refuses.
-use Rattle.std.specs.Prelude.{◌≡◌, ◌⊎◌, ◌<◌, ◌≤◌, ◌+◌, ℕ, List, length, map, Option, Some, None, Result, Ok, Err}
+use Rattle.std.specs.Prelude.{◌≡◌, ◌⊎◌, ◌<◌, ◌≤◌, ◌+◌, ℕ, List, length, map, Option, Some, None, Result, Ok, Err, IfErr}
+use Rattle.fd_bytes.specs.Causes.{Rose}
 use Rattle.fd_io.specs.Streams.{Takes, TakesFront}
 use Rattle.fd_entries.specs.declared.batch.Pair.{Pair}
 use Rattle.fd_entries.specs.declared.batch.Listing.{Listing}
@@ -62,6 +63,12 @@ module _ {F X : Type 0} where
   UnlessWrite (Err (Write x)) P = Unit {0}
   UnlessWrite (Err (Damaged d)) P = P
   UnlessWrite (Err NoMemory) P = P
+
+  -- A fault of the sink is told only where its count of faults rose, and at each other answer the count is as before.
+  pub record HasFetchCause {G : Type 0} (before now : ℕ) (result : Result G (FetchFault F X)) : Type 0 where
+    pub later : before ≤ now
+    pub calm : UnlessWrite result (now ≡ before)
+    pub write : IfErr result (λ e. OnWrite e (Rose before now))
 
 -- What the index says of a key, where told: by the pages of it that decide, each in the format by itself, and by all of it,
 -- where it is in its format.

@@ -1,8 +1,7 @@
 //! The bytes at a place of an opened segment, checked and copied.
 ghost use Rattle.std.specs.Prelude.{◌≡◌, ◌≤◌, ◌+◌, List, ℕ, Some, IfErr, IfOk, IfSome, IsSome, OnOk};
-ghost use Rattle.fd_bytes.specs.Causes.{Rose};
 ghost use Rattle.fd_segment.specs.{Causes.{IsFieldDamage, IsPlace, OnCheckDamaged, StandsForNone}, Copying.{IsCopied, IsCopiedInPart, IsDigestedAt, IsPiece}, Held.{behind}};
-ghost use Rattle.fd_retriever.specs.Answers.{OnDamaged, OnWrite, UnlessWrite, Unwritten};
+ghost use Rattle.fd_retriever.specs.Answers.{HasFetchCause, OnDamaged, Unwritten};
 
 use crate::fault::FetchFault;
 use fd_bytes::Bytes;
@@ -61,9 +60,7 @@ pub(crate) fn copy_checked<F: Send, R: Reader<F>, X, K: Sink<X>>(
     ensures damaged { IfErr result (λ e. OnDamaged e (IsFieldDamage lens.old.files.entry lens.old.files.fields at len)) }
     ensures sound { IfErr result (λ e. OnDamaged e (λ _. (key : List ℕ) → IsPlace lens.old.files.entry lens.old.files.index key (Some (at, len)) → StandsForNone lens.old.files)) }
     ensures files { lens.new.files ≡ lens.old.files }
-    ensures sink { K.faults sink.old ≤ K.faults sink.new }
-    ensures calm { UnlessWrite result (K.faults sink.new ≡ K.faults sink.old) }
-    ensures write { IfErr result (λ e. OnWrite e (Rose (K.faults sink.old) (K.faults sink.new))) }
+    ensures cause { HasFetchCause (K.faults sink.old) (K.faults sink.new) result }
 {
     match checked(alloc, lens, at, len) {
         Ok(Some(bytes)) => match write_all(sink, bytes.as_slice()) {

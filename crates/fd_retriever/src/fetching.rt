@@ -1,9 +1,8 @@
-ghost use Rattle.std.specs.Prelude.{◌≡◌, ◌≤◌, List, map, IfOk, IfErr};
-ghost use Rattle.fd_bytes.specs.Causes.{Rose};
+ghost use Rattle.std.specs.Prelude.{◌≡◌, List, map, IfOk, IfErr};
 ghost use Rattle.fd_entries.specs.{declared.batch.Pair.{Pair}, Batches.{newest}};
 ghost use Rattle.fd_schema.specs.{Rules.{file_key}, Reading.{seen_place}};
 ghost use Rattle.fd_dataset.specs.Listed.{listing};
-ghost use Rattle.fd_retriever.specs.{Kept.{AreThose, Fits}, Answers.{AllSay, IsAnswer, OnDamaged, OnWrite, SomeUntold, StandsAmong, Tells, TookAsMany, TookFront, UnlessWrite, Unwritten}};
+ghost use Rattle.fd_retriever.specs.{Kept.{AreThose, Fits}, Answers.{AllSay, HasFetchCause, IsAnswer, OnDamaged, SomeUntold, StandsAmong, Tells, TookAsMany, TookFront, Unwritten}};
 
 use crate::fault::{FetchFault, Got};
 use crate::lenses::Lenses;
@@ -41,9 +40,7 @@ where
     ensures unwritten { IfErr result (λ e. Unwritten e (K.taken sink.new ≡ K.taken sink.old)) }
     ensures damaged { IfErr result (λ e. OnDamaged e (StandsAmong snapshot.now (file_key (seen_place place.now)))) }
     ensures sound { IfErr result (λ e. OnDamaged e (λ _. SomeUntold (map listing snapshot.now))) }
-    ensures sink { K.faults sink.old ≤ K.faults sink.new }
-    ensures calm { UnlessWrite result (K.faults sink.new ≡ K.faults sink.old) }
-    ensures write { IfErr result (λ e. OnWrite e (Rose (K.faults sink.old) (K.faults sink.new))) }
+    ensures cause { HasFetchCause (K.faults sink.old) (K.faults sink.new) result }
 {
     let Ok(key) = place.file_key(alloc) else {
         return Err(FetchFault::NoMemory);

@@ -8,9 +8,11 @@ mod fetching;
 mod laws;
 mod lenses;
 mod looking;
+mod spot;
 
 pub use bytes_at::{copy_at, read_at};
 pub use fault::{FetchFault, Got};
 pub use fetching::fetch;
 pub use laws::{every_later_snapshot, every_snapshot};
 pub use lenses::Lenses;
+pub use spot::Spot;

@@ -1,9 +1,8 @@
-ghost use Rattle.std.specs.Prelude.{◌≡◌, ◌≤◌, ◌⊎◌, List, Some, None, Contains, IfOk, IfErr, OnErr};
-ghost use Rattle.fd_bytes.specs.Causes.{Rose};
+ghost use Rattle.std.specs.Prelude.{◌≡◌, ◌⊎◌, List, Some, None, Contains, IfOk, IfErr, OnErr};
 ghost use Rattle.fd_entries.specs.{declared.batch.Pair.{Pair}, Batches.{of_batch}};
 ghost use Rattle.fd_segment.specs.Held.{Files, batch_of};
 ghost use Rattle.fd_dataset.specs.Listed.{listing_in};
-ghost use Rattle.fd_retriever.specs.{Kept.{Kept}, Answers.{IsAnswer, IsMet, OnDamaged, OnWrite, Says, StandsIn, TookAsMany, TookFront, UnlessWrite, Unwritten}};
+ghost use Rattle.fd_retriever.specs.{Kept.{Kept}, Answers.{HasFetchCause, IsAnswer, IsMet, OnDamaged, Says, StandsIn, TookAsMany, TookFront, Unwritten}};
 
 use crate::checked::copy_checked;
 use crate::fault::{FetchFault, Got};
@@ -31,9 +30,7 @@ fn copied<F: Send, R: Reader<F>, X, K: Sink<X>>(
     ensures err { IfErr result (λ _. (b : List Pair) → batch_of lens.old.files ≡ Some b → TookFront (of_batch b key.now) (K.taken sink.old) (K.taken sink.new)) }
     ensures unwritten { IfErr result (λ e. Unwritten e (K.taken sink.new ≡ K.taken sink.old)) }
     ensures whole { IfErr result (λ e. OnDamaged e (λ d. ⊥)) }
-    ensures sink { K.faults sink.old ≤ K.faults sink.new }
-    ensures calm { UnlessWrite result (K.faults sink.new ≡ K.faults sink.old) }
-    ensures write { IfErr result (λ e. OnWrite e (Rose (K.faults sink.old) (K.faults sink.new))) }
+    ensures cause { HasFetchCause (K.faults sink.old) (K.faults sink.new) result }
 {
     let (at, len) = match lens.find(alloc, key) {
         Ok(Some(place)) => place,
@@ -71,9 +68,7 @@ where
     ensures unwritten { IfErr result (λ e. Unwritten e (K.taken sink.new ≡ K.taken sink.old)) }
     ensures damaged { IfErr result (λ e. OnDamaged e (StandsIn segment.now.files key.now)) }
     ensures sound { IfErr result (λ e. OnDamaged e (λ _. batch_of segment.now.files ≡ None)) }
-    ensures sink { K.faults sink.old ≤ K.faults sink.new }
-    ensures calm { UnlessWrite result (K.faults sink.new ≡ K.faults sink.old) }
-    ensures write { IfErr result (λ e. OnWrite e (Rose (K.faults sink.old) (K.faults sink.new))) }
+    ensures cause { HasFetchCause (K.faults sink.old) (K.faults sink.new) result }
 {
     if let Some(mut lens) = lenses.take(number) {
         match copied(alloc, &mut lens, key, sink) {
@@ -109,9 +104,7 @@ where
     ensures unwritten { IfErr result (λ e. Unwritten e (K.taken sink.new ≡ K.taken sink.old)) }
     ensures damaged { IfErr result (λ e. OnDamaged e (StandsIn segment.now.files key.now)) }
     ensures sound { IfErr result (λ e. OnDamaged e (λ _. batch_of segment.now.files ≡ None)) }
-    ensures sink { K.faults sink.old ≤ K.faults sink.new }
-    ensures calm { UnlessWrite result (K.faults sink.new ≡ K.faults sink.old) }
-    ensures write { IfErr result (λ e. OnWrite e (Rose (K.faults sink.old) (K.faults sink.new))) }
+    ensures cause { HasFetchCause (K.faults sink.old) (K.faults sink.new) result }
 {
     let mut lens = match segment.lens(alloc) {
         Ok(lens) => lens,

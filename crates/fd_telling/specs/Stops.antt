@@ -1,5 +1,6 @@
 -- What the causes of a request that isn't answered say.
-use Rattle.std.specs.Prelude.{◌≡◌, ◌⊎◌, ◌++◌, ℕ, List, codes, Option, None, Result, Err, string_bytes}
+use Rattle.std.specs.Prelude.{◌≡◌, ◌⊎◌, ◌++◌, ℕ, List, codes, Option, None, Result, Err, IfErr, OnOk, string_bytes}
+use Rattle.fd_bytes.specs.Causes.{Rose}
 use Rattle.fd_disk.specs.Folders.{Holdings, folder_at}
 use Rattle.fd_key.specs.Pairs.{Pair, key_text}
 use Rattle.fd_schema.specs.Grammar as schemas
@@ -95,6 +96,12 @@ module _ {F : Type 0} where
   OnRefusal stops.TooMany P = P
   OnRefusal (stops.Broken dataset broken) P = P
   OnRefusal stops.NoMemory P = Unit {0}
+
+  -- A fault of the input is told only where its count of faults rose; where nothing is told, or a refusal, the count is as before.
+  pub record HasReadCause {A : Type 0} (before now : ℕ) (result : Result A (Stop F)) : Type 0 where
+    pub input : IfErr result (λ e. OnInput e (Rose before now))
+    pub calm : OnOk result (now ≡ before)
+    pub calm_err : IfErr result (λ e. OnRefusal e (now ≡ before))
 
   -- The line of the cause was written, or a front of it; or that of want of memory in its place.
   abbrev pub ToldStop : Stop F → Status → Option (List ℕ) → Option (List ℕ) → ℕ → ℕ → Type 0

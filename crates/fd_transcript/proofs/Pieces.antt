@@ -8,9 +8,9 @@ use Rattle.fd_io.specs.Streams.{Takes, TakesFront}
 use Rattle.fd_listing.specs.Lines.{line}
 use Rattle.fd_listing.specs.declared.fault.TextFault.{TextFault}
 use Rattle.fd_listing.specs.declared.fault.TextFault.TheVariants.{Write, NoMemory}
-use Rattle.fd_listing.specs.Sinks.{HasSinkCause, TakesAllBut}
+use Rattle.fd_listing.specs.Sinks.{HasSinkCause, OnStarved, TakesAllBut}
 use Rattle.fd_listing.proofs.Taking.{takes_more, takes_nothing}
-use Rattle.fd_transcript.specs.Starving.{OnStarved, TakesShort}
+use Rattle.fd_transcript.specs.Starving.{TakesShort}
 
 -- ---- lists
 

@@ -5,7 +5,6 @@ mod found;
 mod history;
 mod steps;
 mod transcript;
-mod writing;
 
 pub use found::write_found;
 pub use transcript::tell_transcript;

@@ -1,15 +1,14 @@
 // The lines of steps.
 ghost use Rattle.std.specs.Prelude.{◌≡◌, ◌++◌, OnErr, OnOk, flat_map, string_bytes};
 ghost use Rattle.fd_io.specs.Streams.{TakesFront};
-ghost use Rattle.fd_listing.specs.Sinks.{HasSinkCause, TakesAllBut};
-ghost use Rattle.fd_transcript.specs.{Lines.{all_told, answer_line, answers_of, end_text, step_line, step_lines, told_from, word}, Starving.{OnStarved, TakesShort}};
+ghost use Rattle.fd_listing.specs.Sinks.{HasSinkCause, OnStarved, TakesAllBut};
+ghost use Rattle.fd_transcript.specs.{Lines.{all_told, answer_line, answers_of, end_text, step_line, step_lines, told_from, word}, Starving.{TakesShort}};
 
-use crate::writing::write_many;
 use fd_bytes::{Items, NoMemory};
 use fd_core::Answer;
 use fd_io::Sink;
 use fd_lanes::{End, Ends};
-use fd_listing::TextFault;
+use fd_listing::{TextFault, write_many};
 use fd_script::{Lane, Step};
 
 /// The word of a step.

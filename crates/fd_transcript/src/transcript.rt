@@ -1,16 +1,15 @@
 // The text of a transcript.
 ghost use Rattle.std.specs.Prelude.{◌≡◌, ◌++◌, OnErr, OnOk, string_bytes};
 ghost use Rattle.fd_io.specs.Streams.{Takes, TakesFront};
-ghost use Rattle.fd_listing.specs.Sinks.{HasSinkCause};
-ghost use Rattle.fd_transcript.specs.{History.{all_flushed, history_line, in_order}, Starving.{OnStarved, TakesShort}, Transcripts.{before_line, transcript_text}};
+ghost use Rattle.fd_listing.specs.Sinks.{HasSinkCause, OnStarved};
+ghost use Rattle.fd_transcript.specs.{History.{all_flushed, history_line, in_order}, Starving.{TakesShort}, Transcripts.{before_line, transcript_text}};
 
 use crate::history::{all_listed, push_history};
 use crate::steps::tell_lanes;
-use crate::writing::write_text;
 use fd_bytes::NoMemory;
 use fd_io::Sink;
 use fd_lanes::Transcript;
-use fd_listing::TextFault;
+use fd_listing::{TextFault, write_text};
 use fd_script::{Lane, Script};
 use std::alloc::Global;
 

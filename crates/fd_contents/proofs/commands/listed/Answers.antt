@@ -34,7 +34,7 @@ returns-in-Ok-clause-lists g c =
     (subst (λ i. IfSome has (λ h. IsErr (rules_of h.schema) → IsUnread (object left (g.W.Input.Source.left i) faults (g.W.Input.Source.faults i)))) (sym c.printed.ensures.input) c.in-Ok.ensures.unread)
     (c.printed.ensures.ran (command_with kind root) has m left faults
     (subst (λ l. Begins (command_with kind root) l has mid m (g.W.Store.Store.faults c.partial.new.store) read) (sym c.lines_with-lines.ensures)
-    (begins kind root c.in-Ok.partial has mid m (g.W.Store.Store.faults c.partial.new.store) read c.in-Ok.ensures.asked c.in-Ok.ensures.has c.in-Ok.ensures.later c.in-Ok.ensures.calm c.in-Ok.ensures.read)))
+    (begins kind root c.in-Ok.partial has mid m (g.W.Store.Store.faults c.partial.new.store) read c.in-Ok.ensures.asked c.in-Ok.ensures.has c.in-Ok.ensures.later c.in-Ok.ensures.cause.calm c.in-Ok.ensures.read)))
 
 pub returns-in-Err-clause-lists : goal.returns-in-Err-clause-lists
 returns-in-Err-clause-lists g c =
@@ -45,6 +45,6 @@ returns-in-Err-clause-lists g c =
     (object (g.W.Input.Source.left c.args.objects.now.input) (g.W.Input.Source.left c.partial.new.input) (g.W.Input.Source.faults c.args.objects.now.input) (g.W.Input.Source.faults c.partial.new.input)) (g.W.Output.Sink.taken c.args.objects.now.output) (g.W.Output.Sink.faults c.args.objects.now.output)
     (object (g.W.Report.Sink.taken c.args.objects.now.report) (g.W.Report.Sink.taken c.tell_stop.new.report) (g.W.Report.Sink.faults c.args.objects.now.report) (g.W.Report.Sink.faults c.tell_stop.new.report)) c.tell_stop.result
     (subst (λ o. WhereTold has o IsLookedThrough) (sym c.tell_stop.ensures.has) (looked_unmoved has (g.W.Store.Store.has c.partial.new.store) c.in-Err.ensures.has))
-    c.tell_stop.ensures.told c.in-Err.ensures.early c.in-Err.ensures.refused c.in-Err.ensures.input
-    (later_disk c.in-Err.stop m (g.W.Store.Store.faults c.partial.new.store) n c.in-Err.ensures.later c.tell_stop.ensures.noted) c.in-Err.ensures.calm_err
+    c.tell_stop.ensures.told c.in-Err.ensures.early c.in-Err.ensures.refused c.in-Err.ensures.cause.input
+    (later_disk c.in-Err.stop m (g.W.Store.Store.faults c.partial.new.store) n c.in-Err.ensures.later c.tell_stop.ensures.noted) c.in-Err.ensures.cause.calm_err
     c.args.kind c.in-Err.ensures.unread

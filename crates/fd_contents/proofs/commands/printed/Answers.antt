@@ -17,7 +17,7 @@ returns-in-Ok-clause-ran g c = λ command before faults left reads begins.
     done_ran command begins.is_listing before (g.W.Store.Store.has c.print.new.store) faults (g.W.Store.Store.faults c.print.new.store) input
     (object (g.W.Output.Sink.taken c.args.objects.now.output) (g.W.Output.Sink.taken c.print.new.output) (g.W.Output.Sink.faults c.args.objects.now.output) (g.W.Output.Sink.faults c.print.new.output))
     (object (g.W.Report.Sink.taken c.args.objects.now.report) (g.W.Report.Sink.taken c.args.objects.now.report) (g.W.Report.Sink.faults c.args.objects.now.report) (g.W.Report.Sink.faults c.args.objects.now.report)) _
-    (looks_since before (g.W.Store.Store.has c.args.objects.now.store) (g.W.Store.Store.has c.print.new.store) begins.same c.print.ensures.looks) refl refl begins.calm c.in-Ok.ensures.calm begins.read
+    (looks_since before (g.W.Store.Store.has c.args.objects.now.store) (g.W.Store.Store.has c.print.new.store) begins.same c.print.ensures.looks) refl refl begins.calm c.in-Ok.ensures.cause.calm begins.read
     (λ octets h names d e an. whole_lines command before input.before c.args.lines.now (g.W.Store.Store.has c.args.objects.now.store) (g.W.Output.Sink.taken c.args.objects.now.output) (g.W.Output.Sink.taken c.print.new.output) begins.prints begins.same
     (took_all c.args.lines.now (g.W.Store.Store.has c.args.objects.now.store) (g.W.Output.Sink.taken c.args.objects.now.output) (g.W.Output.Sink.taken c.print.new.output) c.in-Ok.ensures.printed) octets h names d e an)
 
@@ -27,7 +27,7 @@ returns-in-Err-Unwritten-clause-ran g c = λ command before faults left reads be
     unwritten_ran command begins.is_listing before (g.W.Store.Store.has c.print.new.store) faults (g.W.Store.Store.faults c.print.new.store) input
     (object (g.W.Output.Sink.taken c.args.objects.now.output) (g.W.Output.Sink.taken c.print.new.output) (g.W.Output.Sink.faults c.args.objects.now.output) (g.W.Output.Sink.faults c.print.new.output))
     (object (g.W.Report.Sink.taken c.args.objects.now.report) (g.W.Report.Sink.taken c.tell_output_failed.new.report) (g.W.Report.Sink.faults c.args.objects.now.report) (g.W.Report.Sink.faults c.tell_output_failed.new.report)) c.tell_output_failed.result
-    (looks_since before (g.W.Store.Store.has c.args.objects.now.store) (g.W.Store.Store.has c.print.new.store) begins.same c.print.ensures.looks) c.tell_output_failed.ensures (rw c.in-Err-Unwritten.field-0-is at c.in-Err-Unwritten.ensures.write)
+    (looks_since before (g.W.Store.Store.has c.args.objects.now.store) (g.W.Store.Store.has c.print.new.store) begins.same c.print.ensures.looks) c.tell_output_failed.ensures (rw c.in-Err-Unwritten.field-0-is at c.in-Err-Unwritten.ensures.cause.write)
     (λ octets h names d e an. lines_part command before input.before c.args.lines.now (g.W.Store.Store.has c.args.objects.now.store) (g.W.Output.Sink.taken c.args.objects.now.output) (g.W.Output.Sink.taken c.print.new.output) begins.prints begins.same c.in-Err-Unwritten.ensures.front octets h names d e an)
 
 pub returns-clause-ran : goal.returns-clause-ran
@@ -37,7 +37,7 @@ returns-clause-ran g c = λ command before faults left reads begins.
     (object (g.W.Output.Sink.taken c.args.objects.now.output) (g.W.Output.Sink.taken c.print.new.output) (g.W.Output.Sink.faults c.args.objects.now.output) (g.W.Output.Sink.faults c.print.new.output))
     (object (g.W.Report.Sink.taken c.args.objects.now.report) (g.W.Report.Sink.taken c.tell_stop.new.report) (g.W.Report.Sink.faults c.args.objects.now.report) (g.W.Report.Sink.faults c.tell_stop.new.report)) c.tell_stop.result
     (subst (λ o. WhereTold before o IsLookedThrough) (sym c.tell_stop.ensures.has) (looks_since before (g.W.Store.Store.has c.args.objects.now.store) (g.W.Store.Store.has c.print.new.store) begins.same c.print.ensures.looks))
-    c.in-Err-Stop.stop c.tell_stop.ensures.told (rw c.in-Err-Stop.field-0-is at c.in-Err-Stop.ensures.of)
+    c.in-Err-Stop.stop c.tell_stop.ensures.told (rw c.in-Err-Stop.field-0-is at c.in-Err-Stop.ensures.cause.of)
     (told_since before (g.W.Store.Store.has c.args.objects.now.store) (λ h. (names : List (List ℕ)) → AreNames h names → IsBrokenOf c.in-Err-Stop.stop h names) begins.same (rw c.in-Err-Stop.field-0-is at c.in-Err-Stop.ensures.broken))
     (later_disk c.in-Err-Stop.stop faults (g.W.Store.Store.faults c.print.new.store) (g.W.Store.Store.faults c.tell_stop.new.store) (later_both faults (g.W.Store.Store.faults c.args.objects.now.store) (g.W.Store.Store.faults c.print.new.store) begins.later c.print.ensures.later) c.tell_stop.ensures.noted)
     (λ octets h names d e an. lines_part command before input.before c.args.lines.now (g.W.Store.Store.has c.args.objects.now.store) (g.W.Output.Sink.taken c.args.objects.now.output) (g.W.Output.Sink.taken c.print.new.output) begins.prints begins.same c.in-Err-Stop.ensures.front octets h names d e an)

@@ -17,7 +17,7 @@ returns-in-Ok-clause-ran g c =
       asked = c.in-Ok.ensures.asked;
       same = c.in-Ok.ensures.has;
       later = c.in-Ok.ensures.later;
-      calm = c.in-Ok.ensures.calm;
+      calm = c.in-Ok.ensures.cause.calm;
       read = c.in-Ok.ensures.read;
       unread = c.in-Ok.ensures.unread;
     })
@@ -31,4 +31,4 @@ returns-in-Err-clause-ran g c =
     (subst (λ o. WhereTold (g.W.Store.Store.has c.args.objects.now.store) o IsLookedThrough) (sym c.tell_stop.ensures.has) (looked_unmoved (g.W.Store.Store.has c.args.objects.now.store) (g.W.Store.Store.has c.partial.new.store) c.in-Err.ensures.has)) c.in-Err.ensures.unread refl
     c.in-Err.stop c.tell_stop.ensures.told c.in-Err.ensures.early
     (λ octets h d e. both_at (g.W.Store.Store.has c.args.objects.now.store) (g.W.Input.Source.left c.args.objects.now.input) (λ octets h. Refuses c.in-Err.stop (λ cause. asked_in h octets ≡ Err cause)) c.in-Err.ensures.refused octets h d e)
-    c.in-Err.ensures.input (later_disk c.in-Err.stop (g.W.Store.Store.faults c.args.objects.now.store) (g.W.Store.Store.faults c.partial.new.store) (g.W.Store.Store.faults c.tell_stop.new.store) c.in-Err.ensures.later c.tell_stop.ensures.noted) c.in-Err.ensures.calm_err refl
+    c.in-Err.ensures.cause.input (later_disk c.in-Err.stop (g.W.Store.Store.faults c.args.objects.now.store) (g.W.Store.Store.faults c.partial.new.store) (g.W.Store.Store.faults c.tell_stop.new.store) c.in-Err.ensures.later c.tell_stop.ensures.noted) c.in-Err.ensures.cause.calm_err refl

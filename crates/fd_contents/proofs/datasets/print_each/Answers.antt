@@ -50,7 +50,7 @@ loop-i-preserved g c =
       firm = subst (λ l. IfSome (g.S.Store.has c.print_one.new.store) (λ i. AreFirmOf i l)) (sym more)
           (firm_told_more (g.S.Store.has c.loop-i.store) (g.S.Store.has c.print_one.new.store) (take c.loop-i.i (texts c.args.names.now)) (string_bytes c.index-names-i.result) c.print_one.ensures.looks c.loop-i.invariant.firm
           (subst (λ n. IfSome (g.S.Store.has c.print_one.new.store) (λ i. IsFirmTable (folder_at i n).table)) text c.in-Ok.ensures.firm));
-      calm = c.in-Ok.ensures.calm ∙ c.loop-i.invariant.calm;
+      calm = c.in-Ok.ensures.cause.calm ∙ c.loop-i.invariant.calm;
       later = omega (arith, later, before);
     }
 

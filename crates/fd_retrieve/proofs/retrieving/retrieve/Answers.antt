@@ -23,7 +23,7 @@ returns-in-Ok-clause-ran g c =
       ready = plain_told c.args.root.now c.args.workers (g.W.Store.Store.has c.args.objects.now.store) (g.W.Input.Source.left c.args.objects.now.input) c.in-Ok.ready.request c.in-Ok.ready.places.items c.in-Ok.ready.opened.items c.in-Ok.ensures.count c.in-Ok.ensures.prepared;
       looks = c.in-Ok.ensures.looks;
       later = c.in-Ok.ensures.later;
-      calm = c.in-Ok.ensures.calm;
+      calm = c.in-Ok.ensures.cause.calm;
       read = c.in-Ok.ensures.read;
     })
 
@@ -32,8 +32,8 @@ returns-in-Err-clause-ran g c =
     stopped c.args.root.now None c.args.workers (λ h octets. IsRefused (asked_of h octets)) (λ h octets. AmongAsked (asked_of h octets)) (plain_refuses c.args.root.now c.args.workers) (λ h names octets name among. among) (g.W.Store.Store.has c.args.objects.now.store) (g.W.Store.Store.has c.tell_stop.new.store) (g.W.Store.Store.faults c.args.objects.now.store) (g.W.Store.Store.faults c.tell_stop.new.store)
     (object (g.W.Input.Source.left c.args.objects.now.input) (g.W.Input.Source.left c.prepared.new.input) (g.W.Input.Source.faults c.args.objects.now.input) (g.W.Input.Source.faults c.prepared.new.input)) (g.W.Output.Sink.taken c.args.objects.now.output) (g.W.Output.Sink.faults c.args.objects.now.output)
     (object (g.W.Report.Sink.taken c.args.objects.now.report) (g.W.Report.Sink.taken c.tell_stop.new.report) (g.W.Report.Sink.faults c.args.objects.now.report) (g.W.Report.Sink.faults c.tell_stop.new.report)) c.tell_stop.result
-    (subst (λ o. WhereTold (g.W.Store.Store.has c.args.objects.now.store) o IsLookedThrough) (sym c.tell_stop.ensures.has) c.in-Err.ensures.looks) c.in-Err.stop c.tell_stop.ensures.told c.in-Err.ensures.says c.in-Err.ensures.input
-    (later_disk c.in-Err.stop (g.W.Store.Store.faults c.args.objects.now.store) (g.W.Store.Store.faults c.prepared.new.store) (g.W.Store.Store.faults c.tell_stop.new.store) c.in-Err.ensures.later c.tell_stop.ensures.noted) c.in-Err.ensures.calm_err
+    (subst (λ o. WhereTold (g.W.Store.Store.has c.args.objects.now.store) o IsLookedThrough) (sym c.tell_stop.ensures.has) c.in-Err.ensures.looks) c.in-Err.stop c.tell_stop.ensures.told c.in-Err.ensures.says c.in-Err.ensures.cause.input
+    (later_disk c.in-Err.stop (g.W.Store.Store.faults c.args.objects.now.store) (g.W.Store.Store.faults c.prepared.new.store) (g.W.Store.Store.faults c.tell_stop.new.store) c.in-Err.ensures.later c.tell_stop.ensures.noted) c.in-Err.ensures.cause.calm_err
 
 pub returns-in-Ok-clause-notices : goal.returns-in-Ok-clause-notices
 returns-in-Ok-clause-notices g c =

@@ -62,8 +62,8 @@ returns-in-Err-clause-sound g c =
 pub loop-i-preserved : goal.loop-i-preserved
 loop-i-preserved g c = record {
   taken = rw c.in-Ok-Miss.field-0-is at c.in-Ok-Miss.ensures.took ∙ c.loop-i.invariant.taken;
-  later = omega (arith, c.loop-i.invariant.later, c.fetch_from.ensures.sink);
-  calm = c.in-Ok-Miss.ensures.calm ∙ c.loop-i.invariant.calm;
+  later = omega (arith, c.loop-i.invariant.later, c.fetch_from.ensures.cause.later);
+  calm = c.in-Ok-Miss.ensures.cause.calm ∙ c.loop-i.invariant.calm;
   fits = still_fits c.loop-i.lenses c.fetch_from.new.lenses c.args.snapshot.now (c.len-count.result - c.loop-i.i) c.segment-segment.result.now c.loop-i.invariant.fits (omega (arith, c.loop-i-test.true), c.segment-segment.ensures) c.fetch_from.ensures.kept;
   those = λ those. still_those c.loop-i.lenses c.fetch_from.new.lenses c.args.snapshot.now (c.len-count.result - c.loop-i.i) c.segment-segment.result.now (c.loop-i.invariant.those those) (omega (arith, c.loop-i-test.true), c.segment-segment.ensures) c.fetch_from.ensures.kept;
   lack = λ those. lack_more c.args.snapshot.now c.deref.result.now c.in-Ok.key.items (c.len-count.result - c.loop-i.i) (c.len-count.result - (c.loop-i.i + 1)) c.segment-segment.result.now c.deref.ensures.value (omega arith) (omega (arith, c.loop-i-test.true), c.segment-segment.ensures)

@@ -47,7 +47,7 @@ loop-i-preserved g c =
     record {
       same = ap (λ (x : List Standing). slice_set c.loop-i.self-inside.layers.items c.loop-i.i x) c.fetch.ensures.same ∙ (put_back c.loop-i.self-inside.layers.items c.loop-i.i c.index_mut.result.now (search rules) ∙ c.loop-i.invariant.same);
       taken = rw c.in-Ok-Miss.field-0-is at c.in-Ok-Miss.ensures.took ∙ c.loop-i.invariant.taken;
-      calm = c.in-Ok-Miss.ensures.calm ∙ c.loop-i.invariant.calm;
+      calm = c.in-Ok-Miss.ensures.cause.calm ∙ c.loop-i.invariant.calm;
       lacks = one_nearer c.args.self.now c.loop-i.i c.index_mut.result.now (Lacks key) at
           (lacks_missed c.index_mut.result.now key (g.K.Sink.taken c.loop-i.sink) (g.K.Sink.taken c.fetch.new.sink) (rw c.in-Ok-Miss.field-0-is at c.in-Ok-Miss.ensures.answer)) c.loop-i.invariant.lacks;
       say = one_nearer c.args.self.now c.loop-i.i c.index_mut.result.now (λ ss. AllSay ss key Miss) at (rw c.in-Ok-Miss.field-0-is at c.in-Ok-Miss.ensures.says) c.loop-i.invariant.say;
