@@ -50,13 +50,13 @@ fn memory(rt: HostRuntime) {
 
 /// Whether a writer of std takes the octets.
 fn streams_out(alloc: Global) -> bool {
-    let mut sink = StdSink::new(Vec::new(alloc));
-    write(&mut sink, b"GRIB") && sink.writer().as_slice() == b"GRIB".as_slice()
+    let mut sink = StdStream::new(Vec::new(alloc));
+    write(&mut sink, b"GRIB") && sink.stream.as_slice() == b"GRIB".as_slice()
 }
 
 #[test]
 fn standard_streams(rt: HostRuntime) {
-    let mut source = StdSource::new(b"GRIB".as_slice());
+    let mut source = StdStream::new(b"GRIB".as_slice());
     let counts = [read(&mut source), read(&mut source)];
     assert!(rt; counts == [Some(3), Some(1)] && streams_out(rt.alloc()));
 }
@@ -80,7 +80,7 @@ impl Read for Interrupted {
 
 #[test]
 fn interrupted_reads_are_made_again(rt: HostRuntime) {
-    let mut source = StdSource::new(Interrupted { calls: 0 });
+    let mut source = StdStream::new(Interrupted { calls: 0 });
     let mut buffer = [0u8; 3];
     let is_late = match source.read(&mut buffer) {
         Err(error) => error.kind() == ErrorKind::TimedOut,

@@ -8,7 +8,7 @@ ghost use Rattle.fd_words.specs.Texts.{texts};
 use fd_bytes::NoMemory;
 use fd_disk::{Renew, Store};
 use fd_disk_real::RealStore;
-use fd_io::{Gate, StdSink, StdSource};
+use fd_io::{Gate, StdStream};
 use fd_objects::{Kinds, Objects};
 use fd_outcome::tell_no_memory;
 use fd_top::{ended, ran};
@@ -34,7 +34,7 @@ fn main(rt: HostRuntime) -> ExitCode {
 /// Runs the command that the program's words ask for, over the store in the folder that they name. The second handle is the
 /// runtime again, as that of what may wait and start threads.
 fn run<R: Threads + Wait + Sync>(rt: HostRuntime, waits: &R) -> ExitCode {
-    let mut report = StdSink::new(rt.stderr());
+    let mut report = StdStream::new(rt.stderr());
     let Ok(texts) = arguments(&rt) else {
         return ended(tell_no_memory(&mut report));
     };
@@ -64,9 +64,9 @@ where
     let mut objects = Objects::<Kinds<F, Error, S, _, _, _, _>> {
         alloc: rt.alloc(),
         store,
-        input: StdSource::new(rt.stdin().lock()),
-        output: StdSink::new(rt.stdout()),
-        report: StdSink::new(rt.stderr()),
+        input: StdStream::new(rt.stdin().lock()),
+        output: StdStream::new(rt.stdout()),
+        report: StdStream::new(rt.stderr()),
         gate: Open,
     };
     let code = ran(waits, &mut objects, words);

@@ -7,6 +7,7 @@ use Rattle.std.proofs.lemmas.Grind.{flat_map-append}
 use Rattle.std.specs.Arc.{arc_value}
 use Rattle.std.specs.declared.sync.Arc.{Arc}
 use Rattle.fd_disk.specs.declared.folders.FileName.{FileName}
+use Rattle.fd_disk.specs.declared.shelves.Folder as folders
 use Rattle.fd_disk.specs.declared.file.File.{File}
 use Rattle.fd_disk.specs.Folders.{Contents, with_table, without_table}
 use Rattle.fd_disk.specs.Images.{IsImage, synced}
@@ -19,8 +20,20 @@ use Rattle.fd_recovery.specs.declared.fault.FileFault.TheVariants.{Disk, Damaged
 use Rattle.fd_bytes.specs.Causes.{Rose}
 use Rattle.fd_recovery.specs.Causes.{OnFileDamaged, OnFileDisk}
 use Rattle.fd_recovery.specs.Damages.{IsFirst, damages, damages_at, damages_of, digest_damages, field_file, index_file, lengths_at}
+use Rattle.fd_recovery.specs.Looking.{OnlyLooked}
 use Rattle.fd_recovery.specs.Recovered.{AreTakenUp, IsNamed, ReadsImage, ReadsIndex, SomeDigest, TableFailed, all_of, batches_listed, files_of, held, held_by}
 use Rattle.fd_segment.specs.Shared.{AreOf, entries, entry_of, standings}
+use Rattle.fd_disk.proofs.RenewalLemmas.{still_then}
+
+pub looked_then : {D F A B C E G H J : Type 0} (says : folders.Ghosts D F A B C E G H J) (a b c : D) → OnlyLooked says a b → OnlyLooked says b c → OnlyLooked says a c
+looked_then says a b c x y = record {
+  has = y.has ∙ x.has;
+  out = y.out ∙ x.out;
+  last_writer = y.last_writer ∙ x.last_writer;
+  name = y.name ∙ x.name;
+  time = λ out. still_then _ _ _ _ _ _ (x.time out) (y.time out);
+  later = omega (arith, x.later, y.later);
+}
 
 pub none_taken : (dataset : List ℕ) (has : Option Contents) → AreTakenUp dataset has [] []
 none_taken dataset has = record { entries = refl; named = λ k d lt. absurd (omega arith); files = go has }

@@ -1,4 +1,5 @@
 pub mod Damages
 pub mod Causes
+pub mod Looking
 pub mod Recovered
 pub mod Crashing

@@ -1,7 +1,6 @@
-ghost use Rattle.std.specs.Prelude.{◌≡◌, ◌≤◌, [], ◌∷◌, Option, Some, IfOk, IfErr, OnOk, IfSome, IsSome};
+ghost use Rattle.std.specs.Prelude.{◌≡◌, ◌≤◌, [], ◌∷◌, Some, IfOk, IfErr, OnOk, IfSome, IsSome};
 ghost use Rattle.fd_bytes.specs.Causes.{Rose};
-ghost use Rattle.fd_disk.specs.Renewals.{StandsStill};
-ghost use Rattle.fd_recovery.specs.{Causes.{OnFileDamaged, OnFileDisk}, Damages.{damages_of, digest_damages, index_file}};
+ghost use Rattle.fd_recovery.specs.{Causes.{OnFileDamaged, OnFileDisk}, Damages.{damages_of, digest_damages, index_file}, Looking.{OnlyLooked}};
 ghost use Rattle.fd_segment.specs.Copying.{IsDigestOf};
 
 use crate::fault::FileFault;
@@ -22,12 +21,7 @@ where
     ensures file { IfOk result (λ z. (D.Sealed.name z ≡ D.name folder.old) × ((D.Sealed.made z ≡ Some file) × (want ≤ D.Sealed.len z))) }
     ensures told { IfOk result (λ z. IfSome (D.has folder.old) (λ v. (D.Sealed.bytes z ≡ v.files file) × (damages_of file want (v.files file) ≡ []))) }
     ensures damaged { IfErr result (λ e. OnFileDamaged e (λ d. IfSome (D.has folder.old) (λ v. damages_of file want (v.files file) ≡ d ∷ []))) }
-    ensures has { D.has folder.new ≡ D.has folder.old }
-    ensures out { D.table_out folder.new ≡ D.table_out folder.old }
-    ensures last_writer { D.last_writer folder.new ≡ D.last_writer folder.old }
-    ensures name { D.name folder.new ≡ D.name folder.old }
-    ensures time { (out : Option D.Table) → StandsStill (D.moment folder.old out) (D.moment folder.new out) (D.left_since folder.old out) (D.left_since folder.new out) }
-    ensures later { D.faults folder.old ≤ D.faults folder.new }
+    ensures looked { OnlyLooked D.Folder folder.old folder.new }
     ensures cause { IfErr result (λ e. OnFileDisk e (Rose (D.faults folder.old) (D.faults folder.new))) }
 {
     match folder.sealed(alloc, file) {

@@ -1,7 +1,6 @@
-ghost use Rattle.std.specs.Prelude.{◌≡◌, ◌≤◌, ◌⊎◌, [], Option, IfOk, IfErr, IfSome, IsSome};
+ghost use Rattle.std.specs.Prelude.{◌≡◌, ◌⊎◌, [], IfOk, IfErr, IfSome, IsSome};
 ghost use Rattle.fd_bytes.specs.Causes.{Rose};
-ghost use Rattle.fd_disk.specs.Renewals.{StandsStill};
-ghost use Rattle.fd_recovery.specs.{Causes.{OnFileDamaged, OnFileDisk}, Damages.{IsFirst, damages, damages_at, field_file}, Recovered.{AreTakenUp, IsNamed, SomeDigest, files_of}};
+ghost use Rattle.fd_recovery.specs.{Causes.{OnFileDamaged, OnFileDisk}, Damages.{IsFirst, damages, damages_at, field_file}, Looking.{OnlyLooked}, Recovered.{AreTakenUp, IsNamed, SomeDigest, files_of}};
 ghost use Rattle.fd_segment.specs.Shared.{standings};
 
 use crate::fault::FileFault;
@@ -22,12 +21,7 @@ where
     ensures segments { IfOk result (λ v. AreTakenUp (D.name folder.old) (D.has folder.old) entries.now (standings v.items)) }
     ensures sound { IfOk result (λ v. IfSome (D.has folder.old) (λ v. damages v.files entries.now ≡ [])) }
     ensures damaged { IfErr result (λ e. OnFileDamaged e (λ d. IfSome (D.has folder.old) (λ v. IsFirst d (damages v.files entries.now)))) }
-    ensures has { D.has folder.new ≡ D.has folder.old }
-    ensures out { D.table_out folder.new ≡ D.table_out folder.old }
-    ensures last_writer { D.last_writer folder.new ≡ D.last_writer folder.old }
-    ensures name { D.name folder.new ≡ D.name folder.old }
-    ensures time { (out : Option D.Table) → StandsStill (D.moment folder.old out) (D.moment folder.new out) (D.left_since folder.old out) (D.left_since folder.new out) }
-    ensures later { D.faults folder.old ≤ D.faults folder.new }
+    ensures looked { OnlyLooked D.Folder folder.old folder.new }
     ensures cause { IfErr result (λ e. OnFileDisk e (Rose (D.faults folder.old) (D.faults folder.new) ⊎ SomeDigest entries.now)) }
 {
     let mut segments = Vec::new(alloc);
@@ -58,12 +52,7 @@ where
     ensures files { IfOk result (λ s. IfSome (D.has folder.old) (λ v. s.files ≡ files_of v.files entry.now)) }
     ensures sound { IfOk result (λ s. IfSome (D.has folder.old) (λ v. damages_at v.files entry.now ≡ [])) }
     ensures damaged { IfErr result (λ e. OnFileDamaged e (λ d. IfSome (D.has folder.old) (λ v. IsFirst d (damages_at v.files entry.now)))) }
-    ensures has { D.has folder.new ≡ D.has folder.old }
-    ensures out { D.table_out folder.new ≡ D.table_out folder.old }
-    ensures last_writer { D.last_writer folder.new ≡ D.last_writer folder.old }
-    ensures name { D.name folder.new ≡ D.name folder.old }
-    ensures time { (out : Option D.Table) → StandsStill (D.moment folder.old out) (D.moment folder.new out) (D.left_since folder.old out) (D.left_since folder.new out) }
-    ensures later { D.faults folder.old ≤ D.faults folder.new }
+    ensures looked { OnlyLooked D.Folder folder.old folder.new }
     ensures cause { IfErr result (λ e. OnFileDisk e (Rose (D.faults folder.old) (D.faults folder.new) ⊎ IsSome entry.now.digest)) }
 {
     let fields = match listed_file(alloc, folder, field_file(entry), entry.fields_len) {

@@ -4,5 +4,6 @@ pub mod Shared
 pub mod Filling
 pub mod Causes
 pub mod Copying
+pub mod CopyCalls
 pub mod Steps
 pub mod Putting

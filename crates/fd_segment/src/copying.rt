@@ -1,6 +1,5 @@
-ghost use Rattle.std.specs.Prelude.{◌≡◌, ◌≤◌, ◌<◌, ◌+◌, ◌^◌, length, IfErr, OnErr, OnOk};
-ghost use Rattle.fd_bytes.specs.Causes.{Rose};
-ghost use Rattle.fd_segment.specs.{Causes.{OnCopyFault, UnlessWrite}, Copying.{IsCopied, IsCopiedInPart}, Counts.{pieces}};
+ghost use Rattle.std.specs.Prelude.{◌≤◌, ◌<◌, ◌+◌, ◌^◌, length, OnErr, OnOk};
+ghost use Rattle.fd_segment.specs.{CopyCalls.{HasCopyCause}, Copying.{IsCopied, IsCopiedInPart}, Counts.{pieces}};
 
 use crate::fault::CopyFault;
 use fd_disk::Reader;
@@ -16,12 +15,7 @@ fn copy_piece<F: Send, X, R: Reader<F>, K: Sink<X>>(
     requires { at + length piece.old ≤ R.len file.old }
     ensures ok { OnOk result (IsCopied (R.bytes file.old) at (length piece.old) (K.taken sink.old) (K.taken sink.new)) }
     ensures err { OnErr result (IsCopiedInPart (R.bytes file.old) at (length piece.old) (K.taken sink.old) (K.taken sink.new)) }
-    ensures bytes { R.bytes file.new ≡ R.bytes file.old }
-    ensures len { R.len file.new ≡ R.len file.old }
-    ensures later { R.faults file.old ≤ R.faults file.new }
-    ensures sink { K.faults sink.old ≤ K.faults sink.new }
-    ensures calm { UnlessWrite result (K.faults sink.new ≡ K.faults sink.old) }
-    ensures cause { IfErr result (λ e. OnCopyFault e (Rose (R.faults file.old) (R.faults file.new)) (Rose (K.faults sink.old) (K.faults sink.new))) }
+    ensures call { HasCopyCause R.Reader K.Sink file.old file.new sink.old sink.new result }
     ensures reads { R.reads file.new ≤ R.reads file.old + 1 }
     ensures asked { R.asked file.new ≤ R.asked file.old + length piece.old }
 {
@@ -45,12 +39,7 @@ pub(crate) fn copy_pieces<F: Send, X, R: Reader<F>, K: Sink<X>>(
     requires fits { at + len < 2 ^ 64 }
     ensures ok { OnOk result (IsCopied (R.bytes file.old) at len (K.taken sink.old) (K.taken sink.new)) }
     ensures err { OnErr result (IsCopiedInPart (R.bytes file.old) at len (K.taken sink.old) (K.taken sink.new)) }
-    ensures bytes { R.bytes file.new ≡ R.bytes file.old }
-    ensures len { R.len file.new ≡ R.len file.old }
-    ensures later { R.faults file.old ≤ R.faults file.new }
-    ensures sink { K.faults sink.old ≤ K.faults sink.new }
-    ensures calm { UnlessWrite result (K.faults sink.new ≡ K.faults sink.old) }
-    ensures cause { IfErr result (λ e. OnCopyFault e (Rose (R.faults file.old) (R.faults file.new)) (Rose (K.faults sink.old) (K.faults sink.new))) }
+    ensures call { HasCopyCause R.Reader K.Sink file.old file.new sink.old sink.new result }
     ensures reads { R.reads file.new ≤ R.reads file.old + pieces len }
     ensures asked { R.asked file.new ≤ R.asked file.old + len }
 {

@@ -76,8 +76,7 @@ impl<F: Send, D: Folder<F>> Folder<StopFault<F>> for Stopped<D> {
         ensures stopped { OnCallStopped result (self.new.inner ≡ self.old.inner) }
         ensures counted { IfOk result (λ o. IfSome o (λ t. count_of t.stops ≡ count_of self.old.stops)) }
     {
-        let stops = shared!(self.stops);
-        passed!(self.inner.table(alloc), Ok(Some(table)) => Ok(Some(Stopped::new(table, stops))), Ok(None) => Ok(None))
+        passed_sharing_some!(self.stops, self.inner.table(alloc))
     }
 
     fn give_table(&mut self, table: Stopped<D::Table>) {
@@ -97,8 +96,7 @@ impl<F: Send, D: Folder<F>> Folder<StopFault<F>> for Stopped<D> {
         ensures stopped { OnCallStopped result (self.new.inner ≡ self.old.inner) }
         ensures counted { IfOk result (λ s. count_of s.stops ≡ count_of self.old.stops) }
     {
-        let stops = shared!(self.stops);
-        passed!(self.inner.shelf(alloc, writer), Ok(shelf) => Ok(Stopped::new(shelf, stops)))
+        passed_sharing!(self.stops, self.inner.shelf(alloc, writer))
     }
 
     fn give_shelf(&mut self, shelf: Stopped<D::Shelf>) {
@@ -121,7 +119,6 @@ impl<F: Send, D: Folder<F>> Folder<StopFault<F>> for Stopped<D> {
         ensures stopped { OnCallStopped result (self.new.inner ≡ self.old.inner) }
         ensures counted { IfOk result (λ o. IfSome o (λ z. count_of z.stops ≡ count_of self.old.stops)) }
     {
-        let stops = shared!(self.stops);
-        passed!(self.inner.sealed(alloc, file), Ok(Some(sealed)) => Ok(Some(Stopped::new(sealed, stops))), Ok(None) => Ok(None))
+        passed_sharing_some!(self.stops, self.inner.sealed(alloc, file))
     }
 }

@@ -35,6 +35,22 @@ macro_rules! passed {
     };
 }
 
+/// What a call of the object below hands out, which stops with the one whose calls are counted here.
+macro_rules! passed_sharing {
+    ($stops:expr, $call:expr) => {{
+        let stops = shared!($stops);
+        passed!($call, Ok(object) => Ok(Stopped::new(object, stops)))
+    }};
+}
+
+/// The same of a call that may find none.
+macro_rules! passed_sharing_some {
+    ($stops:expr, $call:expr) => {{
+        let stops = shared!($stops);
+        passed!($call, Ok(Some(object)) => Ok(Some(Stopped::new(object, stops))), Ok(None) => Ok(None))
+    }};
+}
+
 /// What a call of the file below gives, where it goes on.
 macro_rules! passed_by_file {
     ($stops:expr, $call:expr) => {{

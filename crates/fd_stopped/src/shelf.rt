@@ -44,8 +44,7 @@ impl<F: Send, H: Shelf<F>> Shelf<StopFault<F>> for Stopped<H> {
         ensures stopped { OnCallStopped result (self.new.inner ≡ self.old.inner) }
         ensures counted { IfOk result (λ d. count_of d.stops ≡ count_of self.old.stops) }
     {
-        let stops = shared!(self.stops);
-        passed!(self.inner.create(alloc, seq, kind), Ok(file) => Ok(Stopped::new(file, stops)))
+        passed_sharing!(self.stops, self.inner.create(alloc, seq, kind))
     }
 
     /// It makes no call of the disk, and goes on also behind the last one.

@@ -62,8 +62,7 @@ impl<F: Send, S: Store<F>> Store<StopFault<F>> for Stopped<S> {
         ensures stopped { OnCallStopped result (self.new.inner ≡ self.old.inner) }
         ensures counted { IfOk result (λ d. count_of d.stops ≡ count_of self.old.stops) }
     {
-        let stops = shared!(self.stops);
-        passed!(self.inner.folder(alloc, name), Ok(folder) => Ok(Stopped::new(folder, stops)))
+        passed_sharing!(self.stops, self.inner.folder(alloc, name))
     }
 
     fn give_folder(&mut self, folder: Stopped<S::Folder>) {

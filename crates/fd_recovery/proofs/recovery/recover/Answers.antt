@@ -54,7 +54,7 @@ returns-in-Ok-clause-time g c =
     let toc = c.in-Ok-Some.toc in
     let load : IsQuiet (g.D.Folder.moment d None) (g.D.Folder.moment mid (Some toc.table)) (g.D.Folder.left_since d None) (g.D.Folder.left_since mid (Some toc.table)) (g.D.Folder.has d) =
     subst (λ o. IsQuiet (g.D.Folder.moment d None) (g.D.Folder.moment mid (option_map (λ t. t.table) o)) (g.D.Folder.left_since d None) (g.D.Folder.left_since mid (option_map (λ t. t.table) o)) (g.D.Folder.has d)) c.in-Ok-Some.field-0-is c.in-Ok-Some.ensures.time in
-    let taken = quiet_still _ _ _ _ _ _ (g.D.Folder.has d) load (c.segments_of.ensures.time (Some toc.table)) in
+    let taken = quiet_still _ _ _ _ _ _ (g.D.Folder.has d) load (c.segments_of.ensures.looked.time (Some toc.table)) in
     taken
 
 pub returns-in-Disk-clause-time_err : goal.returns-in-Disk-clause-time_err
@@ -64,7 +64,7 @@ returns-in-Disk-clause-time_err g c =
     let toc = c.in-Ok-Some.toc in
     let load : IsQuiet (g.D.Folder.moment d None) (g.D.Folder.moment mid (Some toc.table)) (g.D.Folder.left_since d None) (g.D.Folder.left_since mid (Some toc.table)) (g.D.Folder.has d) =
     subst (λ o. IsQuiet (g.D.Folder.moment d None) (g.D.Folder.moment mid (option_map (λ t. t.table) o)) (g.D.Folder.left_since d None) (g.D.Folder.left_since mid (option_map (λ t. t.table) o)) (g.D.Folder.has d)) c.in-Ok-Some.field-0-is c.in-Ok-Some.ensures.time in
-    let taken = quiet_still _ _ _ _ _ _ (g.D.Folder.has d) load (c.segments_of.ensures.time (Some toc.table)) in
+    let taken = quiet_still _ _ _ _ _ _ (g.D.Folder.has d) load (c.segments_of.ensures.looked.time (Some toc.table)) in
     let last = c.segments_of.new.folder in
     let new = c.give_table.new.self in
     quiet_still _ _ _ _ _ _ (g.D.Folder.has d) taken
@@ -77,7 +77,7 @@ returns-in-Damaged-clause-time_err g c =
     let toc = c.in-Ok-Some.toc in
     let load : IsQuiet (g.D.Folder.moment d None) (g.D.Folder.moment mid (Some toc.table)) (g.D.Folder.left_since d None) (g.D.Folder.left_since mid (Some toc.table)) (g.D.Folder.has d) =
     subst (λ o. IsQuiet (g.D.Folder.moment d None) (g.D.Folder.moment mid (option_map (λ t. t.table) o)) (g.D.Folder.left_since d None) (g.D.Folder.left_since mid (option_map (λ t. t.table) o)) (g.D.Folder.has d)) c.in-Ok-Some.field-0-is c.in-Ok-Some.ensures.time in
-    let taken = quiet_still _ _ _ _ _ _ (g.D.Folder.has d) load (c.segments_of.ensures.time (Some toc.table)) in
+    let taken = quiet_still _ _ _ _ _ _ (g.D.Folder.has d) load (c.segments_of.ensures.looked.time (Some toc.table)) in
     let last = c.segments_of.new.folder in
     let new = c.give_table.new.self in
     quiet_still _ _ _ _ _ _ (g.D.Folder.has d) taken
@@ -90,7 +90,7 @@ returns-in-NoMemory-clause-time_err g c =
     let toc = c.in-Ok-Some.toc in
     let load : IsQuiet (g.D.Folder.moment d None) (g.D.Folder.moment mid (Some toc.table)) (g.D.Folder.left_since d None) (g.D.Folder.left_since mid (Some toc.table)) (g.D.Folder.has d) =
     subst (λ o. IsQuiet (g.D.Folder.moment d None) (g.D.Folder.moment mid (option_map (λ t. t.table) o)) (g.D.Folder.left_since d None) (g.D.Folder.left_since mid (option_map (λ t. t.table) o)) (g.D.Folder.has d)) c.in-Ok-Some.field-0-is c.in-Ok-Some.ensures.time in
-    let taken = quiet_still _ _ _ _ _ _ (g.D.Folder.has d) load (c.segments_of.ensures.time (Some toc.table)) in
+    let taken = quiet_still _ _ _ _ _ _ (g.D.Folder.has d) load (c.segments_of.ensures.looked.time (Some toc.table)) in
     let last = c.segments_of.new.folder in
     let new = c.give_table.new.self in
     quiet_still _ _ _ _ _ _ (g.D.Folder.has d) taken

@@ -12,14 +12,14 @@ pieces-preserved g c =
     record {
       inside = omega arith;
       copied = copied_more _ _ _ _ _ _ _ c.pieces.invariant.copied step;
-      bytes = c.in-Ok.ensures.bytes ∙ c.pieces.invariant.bytes;
-      len = c.in-Ok.ensures.len ∙ c.pieces.invariant.len;
-      later = omega arith;
-      calm = c.in-Ok.ensures.calm ∙ c.pieces.invariant.calm;
+      bytes = c.in-Ok.ensures.call.bytes ∙ c.pieces.invariant.bytes;
+      len = c.in-Ok.ensures.call.len ∙ c.pieces.invariant.len;
+      later = omega (arith, c.pieces.invariant.later, c.in-Ok.ensures.call.later);
+      calm = c.in-Ok.ensures.call.calm ∙ c.pieces.invariant.calm;
       reads = pieces_more (g.R.Reader.reads c.args.file.now) (g.R.Reader.reads c.pieces.file) (g.R.Reader.reads c.copy_piece.new.file) c.pieces.done n c.pieces.invariant.reads c.in-Ok.ensures.reads (c.pieces.invariant.whole c.pieces-test.true) (omega arith);
       asked = omega (arith, c.pieces.invariant.asked, c.in-Ok.ensures.asked, long);
       whole = λ left. let before = c.pieces.invariant.whole c.pieces-test.true in omega (arith, left, before);
-      sink = omega arith;
+      sink = omega (arith, c.pieces.invariant.sink, c.in-Ok.ensures.call.sink_later);
     }
 
 pub returns-in-Err-clause-err : goal.returns-in-Err-clause-err
