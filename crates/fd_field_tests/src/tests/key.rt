@@ -1,7 +1,7 @@
 //! Keys of messages, and their texts.
 ghost use Rattle.std.specs.Prelude.{◌≡◌, []};
 
-use crate::field::{FIELD, SECTION_1, SECTION_4, changed};
+use super::field::{FIELD, SECTION_1, SECTION_4, changed};
 use fd_key::*;
 use fd_sections::message;
 use std::alloc::Global;

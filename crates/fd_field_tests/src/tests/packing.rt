@@ -1,5 +1,5 @@
 //! The values of points, and numbers that are packed.
-use crate::field::{SECTION_3, SECTION_5, SECTION_6, SECTION_7, changed};
+use super::field::{SECTION_3, SECTION_5, SECTION_6, SECTION_7, changed};
 use fd_packing::{Field, FieldFault, PackFault, pack};
 use fd_scaled::Scaled;
 use fd_sections::message;

@@ -1,7 +1,7 @@
 //! The lines of a message and of its values.
 ghost use Rattle.std.specs.Prelude.{◌≤◌, IfSome};
 
-use crate::field::{FIELD, SECTION_3, SECTION_4, SECTION_5, SECTION_6, changed};
+use super::field::{FIELD, SECTION_3, SECTION_4, SECTION_5, SECTION_6, changed};
 use fd_io::{MemIoFault, MemSink};
 use fd_listing::{ValuesFault, describe, values};
 use fd_packing::FieldFault;

@@ -1,5 +1,5 @@
 //! Messages that are made up.
-use crate::field::{FIELD, SECTION_4, SECTION_7, changed};
+use super::field::{FIELD, SECTION_4, SECTION_7, changed};
 use fd_gen::generated;
 use fd_sections::message;
 use fd_templates::{Ident, Product};
