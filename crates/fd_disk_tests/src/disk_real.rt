@@ -119,6 +119,26 @@ fn two_folders(alloc: Global, host: HostRuntime, name: &str) -> Option<(RealFold
     Some((folder(alloc, host, name)?, folder(alloc, host, name)?))
 }
 
+/// What is told of the folder of a dataset, where there is one.
+macro_rules! of_one {
+    ($rt:expr, $name:expr, $told:expr) => {
+        match folder($rt.alloc(), $rt, $name) {
+            Some(mut folder) => $told($rt, &mut folder),
+            None => None,
+        }
+    };
+}
+
+/// What is told of both folders of a dataset, or that nothing is right.
+macro_rules! of_two {
+    ($rt:expr, $name:expr, $told:expr) => {
+        match two_folders($rt.alloc(), $rt, $name) {
+            Some((first, second)) => $told($rt.alloc(), first, second),
+            None => false,
+        }
+    };
+}
+
 /// Tells that a dataset of the store keeps a table.
 fn dataset_keeps_table(rt: HostRuntime) -> bool {
     match folder(rt.alloc(), rt, DATASET) {
@@ -233,10 +253,7 @@ where
 
 #[test]
 fn keeps_sealed_files(rt: HostRuntime) {
-    let reads = match folder(rt.alloc(), rt, "class=xd") {
-        Some(mut folder) => reads_of(rt, &mut folder),
-        None => None,
-    };
+    let reads = of_one!(rt, "class=xd", reads_of);
     assert!(rt; reads == Some([Some((3, *b"RIB\0\0\0\0\0")), None]));
 }
 
@@ -419,10 +436,7 @@ where
 
 #[test]
 fn one_writes_to_a_dataset(rt: HostRuntime) {
-    let is_right = match two_folders(rt.alloc(), rt, "class=wd") {
-        Some((first, second)) => one_writes(rt.alloc(), first, second),
-        None => false,
-    };
+    let is_right = of_two!(rt, "class=wd", one_writes);
     assert!(rt; is_right);
 }
 
@@ -532,10 +546,7 @@ where
 
 #[test]
 fn renews_a_table(rt: HostRuntime) {
-    let is_right = match folder(rt.alloc(), rt, "class=nd") {
-        Some(mut folder) => renews(rt, &mut folder),
-        None => None,
-    };
+    let is_right = of_one!(rt, "class=nd", renews);
     assert!(rt; is_right == Some(true));
 }
 
@@ -554,10 +565,7 @@ where
 
 #[test]
 fn removes_a_file(rt: HostRuntime) {
-    let is_right = match folder(rt.alloc(), rt, "class=vd") {
-        Some(mut folder) => removes(rt, &mut folder),
-        None => None,
-    };
+    let is_right = of_one!(rt, "class=vd", removes);
     assert!(rt; is_right == Some(true));
 }
 
@@ -623,9 +631,6 @@ where
 
 #[test]
 fn one_renews_a_dataset(rt: HostRuntime) {
-    let is_right = match two_folders(rt.alloc(), rt, "class=yd") {
-        Some((first, second)) => one_renews(rt.alloc(), first, second),
-        None => false,
-    };
+    let is_right = of_two!(rt, "class=yd", one_renews);
     assert!(rt; is_right);
 }

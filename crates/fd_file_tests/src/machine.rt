@@ -1,6 +1,7 @@
 //! Runs of the machine by its steps, and what each answers.
 use fd_bytes::{Bytes, Items, NoMemory};
 use fd_core::{Answer, State, Step, Took, every_run, step};
+use fd_rows::agreed;
 use std::alloc::Global;
 
 /// The table as it reads before a batch is listed, and its front afterwards.
@@ -124,31 +125,16 @@ pdxitbsg1!lq|yyyyyyyyyyyo|at the gate a crash may leave the batch listed\n\
 pdxitbsghor01!lqpdxit|yyyyyyyyyyynyyyoyyyyy|a listed batch stays, and its writer goes on\n\
 0pdlq0!q|ynnnnnyn|while it is down nothing but an opening is possible\n";
 
-/// The first row of a table: the steps, what they answer, and the rows behind it.
-fn row(table: &str) -> Option<(&str, &str, &str)> {
-    let (row, rest) = table.split_once('\n')?;
-    let (script, row) = row.split_once('|')?;
-    let (want, _) = row.split_once('|')?;
-    Some((script, want, rest))
-}
-
-/// The number of rows up to the first one that doesn't hold, or of all.
-fn agreed(alloc: Global, table: &str) -> usize {
-    let mut rest = table;
-    for n in 0..100usize {
-        let Some((script, want, more)) = row(rest) else {
-            return n;
-        };
-        if answers(alloc, script.as_bytes(), want.as_bytes()) != Ok(true) {
-            return n;
-        }
-        rest = more;
+/// Tells that the steps of a run answer as its row says.
+fn is_run(alloc: Global, script: &str, row: &str) -> bool {
+    match row.split_once('|') {
+        Some((want, _)) => answers(alloc, script.as_bytes(), want.as_bytes()) == Ok(true),
+        None => false,
     }
-    0
 }
 
 #[test]
 fn runs(rt: HostRuntime) {
     every_run();
-    assert_eq!(rt; agreed(rt.alloc(), RUNS), 14);
+    assert_eq!(rt; agreed(rt.alloc(), RUNS, is_run), 14);
 }

@@ -1,5 +1,5 @@
 //! One batch written and read, each of its calls failing in turn, damaged files, and what threads may do with its parts.
-ghost use Rattle.std.specs.Prelude.{◌≡◌, ◌⊎◌, ◌≤◌, ◌<◌, ◌+◌, ◌^◌, length, true, false, IfSome};
+ghost use Rattle.std.specs.Prelude.{◌≡◌, ◌⊎◌, ◌≤◌, ◌<◌, ◌+◌, ◌^◌, length, true, false, is_some, IfSome};
 ghost use Rattle.fd_disk.specs.{declared.folders.FileName.{FileName}, declared.folders.FileKind.TheVariants.{Fields, Index}, Names.{name_of}};
 ghost use Rattle.fd_segment.specs.{Filling.{IsOf}, Held.{behind}};
 
@@ -155,6 +155,28 @@ fn read<F: Send + Drop, Z: Sealed<F>, X: Drop, K: Sink<X>>(
     }
 }
 
+/// A batch of three puts of two keys: how its making, its puts and its sealing went.
+fn sealed<F: Send + Drop, H: Shelf<F>>(
+    alloc: Global,
+    shelf: &mut H,
+) -> ([Went; 3], Option<Segment<F, H::Sealed>>)
+where
+    requires writer { H.writer shelf.old ≡ 1 }
+    requires fields { H.created shelf.old (name_of 1 1 Fields) ≡ false }
+    requires index { H.created shelf.old (name_of 1 1 Index) ≡ false }
+    ensures files { IfSome result.1 (IsOf (record { writer = 1; seq = 1; dataset = H.name shelf.old; told = is_some (H.kept shelf.old) })) }
+    ensures writer { H.writer shelf.new ≡ 1 }
+    ensures name { H.name shelf.new ≡ H.name shelf.old }
+{
+    let room = Room { keys: 2, bytes: 6 };
+    let Ok(mut draft) = Draft::new(alloc, shelf, 1, 1, room) else {
+        return ([Never; 3], None);
+    };
+    let put = puts(&mut draft);
+    let (sealed, segment) = seal(alloc, draft);
+    ([AtOnce, put, sealed], segment)
+}
+
 /// The life of a batch: how its making, its puts, its sealing, its opening and the copying of its bytes went.
 fn live<F: Send + Drop, H: Shelf<F>, X: Drop, K: Sink<X>>(
     alloc: Global,
@@ -166,19 +188,15 @@ where
     requires fields { H.created shelf.old (name_of 1 1 Fields) ≡ false }
     requires index { H.created shelf.old (name_of 1 1 Index) ≡ false }
 {
-    let room = Room { keys: 2, bytes: 6 };
-    let Ok(mut draft) = Draft::new(alloc, shelf, 1, 1, room) else {
-        return [Never; 5];
-    };
-    let put = puts(&mut draft);
-    let (sealed, Some(segment)) = seal(alloc, draft) else {
-        return [AtOnce, put, Never, Never, Never];
+    let ([made, put, went], segment) = sealed(alloc, shelf);
+    let Some(segment) = segment else {
+        return [made, put, went, Never, Never];
     };
     if segment.keep(alloc, shelf).is_err() {
         return [Never; 5];
     }
     let (opened, copied) = read(alloc, &segment, sink);
-    [AtOnce, put, sealed, opened, copied]
+    [made, put, went, opened, copied]
 }
 
 /// The life of a batch in a store in which this call fails, and all calls after so many, and these writes of the sink:
@@ -458,25 +476,6 @@ fn digests(rt: HostRuntime) {
     );
 }
 
-/// A batch of three puts of two keys.
-fn sealed<F: Send + Drop, H: Shelf<F>>(
-    alloc: Global,
-    shelf: &mut H,
-) -> Option<Segment<F, H::Sealed>>
-where
-    requires writer { H.writer shelf.old ≡ 1 }
-    requires fields { H.created shelf.old (name_of 1 1 Fields) ≡ false }
-    requires index { H.created shelf.old (name_of 1 1 Index) ≡ false }
-{
-    let room = Room { keys: 2, bytes: 6 };
-    let Ok(mut draft) = Draft::new(alloc, shelf, 1, 1, room) else {
-        return None;
-    };
-    let _ = puts(&mut draft);
-    let (_, segment) = seal(alloc, draft);
-    segment
-}
-
 /// The places of `i|a` and of `i|c`, and the number of records.
 fn places<F: Send + Drop, Z: Sealed<F>>(
     alloc: Global,
@@ -492,7 +491,8 @@ fn places<F: Send + Drop, Z: Sealed<F>>(
 /// The entry of that batch without its digest, the places of keys, and the number of records.
 fn told(alloc: Global) -> Option<(Entry, [Option<(u64, u64)>; 2], u32)> {
     let mut shelf = shelf(alloc, NOTHING, u64::MAX)?;
-    let segment = sealed(alloc, &mut shelf)?;
+    let (_, segment) = sealed(alloc, &mut shelf);
+    let segment = segment?;
     let (places, count) = places(alloc, &segment)?;
     let mut entry = segment.entry();
     entry.digest = None;

@@ -6,6 +6,7 @@ use fd_disk::{Disk, Folder, Sealed, Shelf, Store};
 use fd_entries::Entry;
 use fd_recovery::{Recovered, recover};
 use fd_segment::{Draft, Room, Segment};
+use fd_tables::is_founded;
 use fd_toc::Toc;
 use std::alloc::Global;
 use std::sync::Arc;
@@ -68,21 +69,6 @@ where
     Some(entry)
 }
 
-/// Founds the table of a folder, and tells whether it did.
-fn begun<F: Send + Drop, D: Folder<F>>(alloc: Global, folder: &mut D) -> bool
-where
-    requires back { D.table_out folder.old ≡ false }
-    requires name { D.name folder.old ≡ codes "a=1" }
-    ensures back { result ≡ true → D.table_out folder.new ≡ false }
-    ensures name { D.name folder.new ≡ codes "a=1" }
-    ensures last { D.last_writer folder.new ≡ D.last_writer folder.old }
-{
-    let Ok(bytes) = Toc::<F, D::Table>::create_bytes(alloc, "a=1") else {
-        return false;
-    };
-    matches!(folder.table(alloc), Ok(None)) && folder.found(alloc, &bytes).is_ok()
-}
-
 /// Appends an entry, and tells whether it did.
 fn append<F: Send + Drop, T: Disk<F>>(toc: &mut Toc<F, T>, entry: Entry) -> bool
     requires { entry.writer ≤ 65536 }
@@ -132,7 +118,7 @@ where
     let Some(second) = write(alloc, folder, 2, b"the newest") else {
         return false;
     };
-    begun(alloc, folder) && list(alloc, folder, first, second)
+    is_founded(alloc, folder) && list(alloc, folder, first, second)
 }
 
 /// Writes them into the dataset of a store, and tells whether it did.

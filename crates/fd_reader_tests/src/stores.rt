@@ -8,24 +8,11 @@ use fd_dataset::Snapshot;
 use fd_disk::{Folder, Store};
 use fd_disk_mem::{MemFault, MemStore, Op};
 use fd_retriever::Spot;
-use fd_toc::Toc;
+use fd_tables::{folder_left, is_founded};
 use std::alloc::Global;
 use std::process::Abort;
 use std::sync::Wait;
 use std::thread::Threads;
-
-/// Founds the table of a folder, and tells whether it did.
-fn is_founded<F: Send + Drop, D: Folder<F>>(alloc: Global, folder: &mut D) -> bool
-where
-    requires back { D.table_out folder.old ≡ false }
-    requires name { D.name folder.old ≡ codes "a=1" }
-    ensures back { result ≡ true → D.table_out folder.new ≡ false }
-{
-    let Ok(bytes) = Toc::<F, D::Table>::create_bytes(alloc, "a=1") else {
-        return false;
-    };
-    matches!(folder.table(alloc), Ok(None)) && folder.found(alloc, &bytes).is_ok()
-}
 
 /// Founds the table of the dataset of a store, and tells whether it did.
 fn is_begun<F: Send + Drop, S: Store<F>>(alloc: Global, store: &mut S) -> bool
@@ -98,10 +85,7 @@ pub(crate) fn listed<F: Send + Drop, S: Store<F>, R: Wait>(
 where
     requires { IfOk left (λ s. S.out s (codes "a=1") ≡ false) }
 {
-    let Ok(mut store) = left else {
-        return None;
-    };
-    let Ok(mut folder) = store.folder(alloc, "a=1") else {
+    let Some(mut folder) = folder_left(alloc, left) else {
         return None;
     };
     snapshot(rt, alloc, &mut folder)

@@ -6,6 +6,7 @@ use fd_disk::{Disk, Folder, Store};
 use fd_disk_mem::{MemFault, MemStore, Op};
 use fd_entries::every_table;
 use fd_rows::table_of_one;
+use fd_tables::{folder_left, is_founded};
 use fd_toc::*;
 use std::alloc::Global;
 use std::test::Fail;
@@ -64,20 +65,6 @@ fn append<F: Send + Drop, T: Disk<F>>(toc: &mut Toc<F, T>, entry: Entry) -> Answ
     }
 }
 
-/// Founds the table of a folder, and tells whether it did.
-fn found<F: Send + Drop, D: Folder<F>>(alloc: Global, folder: &mut D) -> bool
-where
-    requires back { D.table_out folder.old ≡ false }
-    requires name { D.name folder.old ≡ codes "a=1" }
-    ensures back { result ≡ true → D.table_out folder.new ≡ false }
-    ensures name { D.name folder.new ≡ codes "a=1" }
-{
-    let Ok(bytes) = Toc::<F, D::Table>::create_bytes(alloc, "a=1") else {
-        return false;
-    };
-    matches!(folder.table(alloc), Ok(None)) && folder.found(alloc, &bytes).is_ok()
-}
-
 /// Takes the table of a folder out and loads it.
 fn loaded<F: Send + Drop, D: Folder<F>>(alloc: Global, folder: &mut D) -> Option<Toc<F, D::Table>>
 where
@@ -114,7 +101,7 @@ where
     requires { S.out store.old (codes "a=1") ≡ false }
 {
     let mut folder = store.folder(alloc, "a=1").ok()?;
-    if !found(alloc, &mut folder) {
+    if !is_founded(alloc, &mut folder) {
         return None;
     }
     let answers = appended(alloc, &mut folder)?;
@@ -154,10 +141,7 @@ fn stands<F: Send + Drop, S: Store<F>>(
 where
     requires { IfOk left (λ s. S.out s (codes "a=1") ≡ false) }
 {
-    let Ok(mut store) = left else {
-        return false;
-    };
-    let Ok(mut folder) = store.folder(alloc, "a=1") else {
+    let Some(mut folder) = folder_left(alloc, left) else {
         return false;
     };
     if !begins(alloc, &mut folder, want.bytes) {

@@ -1,5 +1,5 @@
 //! Messages that are made up.
-use crate::field::{FIELD, SECTION_4, SECTION_7, changed};
+use super::field::{Change, FIELD, SECTION_4, SECTION_7, changed};
 use fd_gen::generated;
 use fd_sections::message;
 use fd_templates::{Ident, Product};
@@ -16,16 +16,16 @@ fn is_made(alloc: Global, i: u64, octets: &[u8]) -> bool {
     }
 }
 
+/// The step and the values of message 13.
+const NEXT: [Change; 2] = [
+    (SECTION_4 + 21, &[6]),
+    (SECTION_7 + 5, &[0x5E, 0x6B, 0x78, 0x85]),
+];
+
 /// Message 0 is as it is written out, and message 13 differs in its step and its values alone.
 #[test]
 fn two_messages(rt: HostRuntime) {
-    let next = changed(&[
-        (SECTION_4 + 21, 6),
-        (SECTION_7 + 5, 0x5E),
-        (SECTION_7 + 6, 0x6B),
-        (SECTION_7 + 7, 0x78),
-        (SECTION_7 + 8, 0x85),
-    ]);
+    let next = changed(&NEXT);
     assert!(rt; is_made(rt.alloc(), 0, &FIELD) && is_made(rt.alloc(), 13, &next));
 }
 

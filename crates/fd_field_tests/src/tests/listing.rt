@@ -1,7 +1,7 @@
 //! The lines of a message and of its values.
 ghost use Rattle.std.specs.Prelude.{◌≤◌, IfSome};
 
-use crate::field::{FIELD, SECTION_3, SECTION_4, SECTION_5, SECTION_6, changed};
+use super::field::{FIELD, OTHERS, SECTION_5, changed, with};
 use fd_io::{MemIoFault, MemSink};
 use fd_listing::{ValuesFault, describe, values};
 use fd_packing::FieldFault;
@@ -73,7 +73,7 @@ fn written(
 #[test]
 fn values_of_a_field(rt: HostRuntime) {
     let alloc = rt.alloc();
-    let other = changed(&[(SECTION_5 + 10, 40)]);
+    let other = with(SECTION_5 + 10, &[40]);
     let went = [
         written(alloc, &FIELD, None, 1000, EXACT),
         written(alloc, &FIELD, Some(1), 1000, ROUNDED),
@@ -101,11 +101,6 @@ fn is_described(alloc: Global, octets: &[u8], want: &str) -> Option<bool> {
 #[test]
 fn description_of_a_message(rt: HostRuntime) {
     assert!(rt; is_described(rt.alloc(), &FIELD, DESCRIBED) == Some(true));
-    let other = changed(&[
-        (SECTION_3 + 13, 40),
-        (SECTION_4 + 7, 1),
-        (SECTION_5 + 10, 3),
-        (SECTION_6 + 5, 254),
-    ]);
+    let other = changed(&OTHERS);
     assert!(rt; is_described(rt.alloc(), &other, UNREAD) == Some(true));
 }

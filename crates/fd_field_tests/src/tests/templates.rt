@@ -1,5 +1,5 @@
 //! The numbers of a message's sections.
-use crate::field::{FIELD, SECTION_3, SECTION_4, SECTION_5, changed, with};
+use super::field::{Change, FIELD, OTHERS, SECTION_3, SECTION_4, SECTION_5, changed, with};
 use fd_gen::{grid, ident, packing, product};
 use fd_sections::message;
 use fd_templates::{Ident, LatLon, Product, Simple, TemplateFault};
@@ -45,19 +45,19 @@ fn numbers_of_a_field(rt: HostRuntime) {
     assert!(rt; is_written);
 }
 
-/// Signs, numbers that are missing, and other templates.
+/// Negative numbers in each of the templates, and a factor that was missing.
+const SIGNS: [Change; 6] = [
+    (SECTION_3 + 15, &[0x7F]),
+    (SECTION_3 + 46, &[0x80]),
+    (SECTION_4 + 18, &[0x80]),
+    (SECTION_4 + 21, &[6]),
+    (SECTION_4 + 23, &[0x82, 0x80]),
+    (SECTION_5 + 15, &[0xFF, 0xFF]),
+];
+
+/// Signs, and numbers that are missing.
 #[test]
-fn changed_octets(rt: HostRuntime) {
-    let signs = [
-        (SECTION_4 + 23, 0x82),
-        (SECTION_4 + 24, 0x80),
-        (SECTION_4 + 18, 0x80),
-        (SECTION_4 + 21, 6),
-        (SECTION_3 + 15, 0x7F),
-        (SECTION_3 + 46, 0x80),
-        (SECTION_5 + 15, 0xFF),
-        (SECTION_5 + 16, 0xFF),
-    ];
+fn signs_are_read(rt: HostRuntime) {
     let signed_grid = LatLon {
         radius_factor: Some(127),
         la1: -10_000_000,
@@ -73,7 +73,7 @@ fn changed_octets(rt: HostRuntime) {
         binary_scale: -32767,
         ..packing()
     };
-    let read = numbers(&changed(&signs));
+    let read = numbers(&changed(&SIGNS));
     assert!(rt;
         read == Some((
             ident(0),
@@ -82,13 +82,13 @@ fn changed_octets(rt: HostRuntime) {
             Ok(signed_packing)
         ))
     );
-    let others = [
-        (SECTION_3 + 13, 40),
-        (SECTION_4 + 7, 1),
-        (SECTION_5 + 10, 3),
-    ];
+}
+
+/// Each template is refused where its number is another.
+#[test]
+fn other_templates(rt: HostRuntime) {
     let other = |number| TemplateFault::Other(number);
-    let read = numbers(&changed(&others));
+    let read = numbers(&changed(&OTHERS));
     assert!(rt; read == Some((ident(0), Err(other(40)), Err(other(256)), Err(other(3)))));
 }
 

@@ -1,5 +1,5 @@
 //! Ensembles and intervals of time: sections, keys, lines and schemas.
-use crate::field::{FIELD, SECTION_4, SECTION_5};
+use super::field::{FIELD, SECTION_4, SECTION_5};
 use fd_io::MemSink;
 use fd_key::{Given, canonical, key_of};
 use fd_listing::describe;

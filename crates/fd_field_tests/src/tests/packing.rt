@@ -1,5 +1,5 @@
 //! The values of points, and numbers that are packed.
-use crate::field::{SECTION_3, SECTION_5, SECTION_6, SECTION_7, changed};
+use super::field::{Change, SECTION_3, SECTION_5, SECTION_6, SECTION_7, changed};
 use fd_packing::{Field, FieldFault, PackFault, pack};
 use fd_scaled::Scaled;
 use fd_sections::message;
@@ -35,46 +35,35 @@ fn fault_of(alloc: Global, octets: &[u8]) -> Option<FieldFault> {
 
 /// Changes to the message that make eight points of it, of which two have a value, in packed numbers of 12 bits, without
 /// scale factors.
-const MAPPED: [(usize, u8); 16] = [
-    (POINTS, 8),
-    (SECTION_3 + 37, 4),
-    (CODED, 2),
-    (BINARY_SCALE, 0),
-    (BINARY_SCALE + 1, 0),
-    (DECIMAL_SCALE + 1, 0),
-    (BITS, 12),
-    (SECTION_6 + 3, 7),
-    (SECTION_6 + 5, 0),
-    (SECTION_6 + 6, 0xA0),
-    (SECTION_7 + 3, 0),
-    (SECTION_7 + 4, 8),
-    (SECTION_7 + 5, 7),
-    (SECTION_7 + 6, 0),
-    (SECTION_7 + 7, 0x12),
-    (SECTION_7 + 8, 0x34),
+const MAPPED: [Change; 9] = [
+    (POINTS, &[8]),
+    (SECTION_3 + 37, &[4]),
+    (CODED, &[2]),
+    (BINARY_SCALE, &[0, 0]),
+    (DECIMAL_SCALE + 1, &[0]),
+    (BITS, &[12]),
+    (SECTION_6 + 3, &[7]),
+    (INDICATOR, &[0, 0xA0]),
+    (SECTION_7 + 3, &[0, 8, 7, 0, 0x12, 0x34]),
 ];
 
 /// A negative zero as reference value, and no decimal scale.
-const ZERO: [(usize, u8); 5] = [
-    (REFERENCE, 0x80),
-    (REFERENCE + 1, 0),
-    (REFERENCE + 2, 0),
-    (DECIMAL_SCALE + 1, 0),
-    (SECTION_7 + 5, 7),
+const ZERO: [Change; 3] = [
+    (REFERENCE, &[0x80, 0, 0]),
+    (DECIMAL_SCALE + 1, &[0]),
+    (SECTION_7 + 5, &[7]),
 ];
 
 /// A sum that is as wide as it may be.
-const WIDE: [(usize, u8); 6] = [
-    (REFERENCE, 0x3F),
-    (REFERENCE + 1, 0x80),
-    (BINARY_SCALE, 0x80),
-    (BINARY_SCALE + 1, 0x7E),
-    (DECIMAL_SCALE + 1, 0),
-    (SECTION_7 + 5, 7),
+const WIDE: [Change; 4] = [
+    (REFERENCE, &[0x3F, 0x80]),
+    (BINARY_SCALE, &[0x80, 0x7E]),
+    (DECIMAL_SCALE + 1, &[0]),
+    (SECTION_7 + 5, &[7]),
 ];
 
 /// Changed octets, a point, the number of points, and the factors and exponents of the value of that one, if it has one.
-const VALUES: [(&[(usize, u8)], u64, u64, Option<(i128, i32, i32)>); 9] = [
+const VALUES: [(&[Change], u64, u64, Option<(i128, i32, i32)>); 9] = [
     (&[], 0, 4, Some((1003, -1, -1))),
     (&[], 3, 4, Some((1042, -1, -1))),
     (&ZERO, 0, 4, Some((7, -1, 0))),
@@ -85,7 +74,7 @@ const VALUES: [(&[(usize, u8)], u64, u64, Option<(i128, i32, i32)>); 9] = [
     (&MAPPED, 7, 8, None),
     // packed numbers of no bits: all values are the reference value
     (
-        &[(BITS, 0), (DECIMAL_SCALE + 1, 0)],
+        &[(BITS, &[0]), (DECIMAL_SCALE + 1, &[0])],
         3,
         4,
         Some((125, 2, 0)),
@@ -102,26 +91,24 @@ fn values_of_fields(rt: HostRuntime) {
 }
 
 /// Changed octets, and the fault that comes of them.
-const FAULTS: [(&[(usize, u8)], FieldFault); 7] = [
-    (&[(BITS, 65)], FieldFault::Bits(65)),
-    (&[(INDICATOR, 1)], FieldFault::BitMap(1)),
+const FAULTS: [(&[Change], FieldFault); 7] = [
+    (&[(BITS, &[65])], FieldFault::Bits(65)),
+    (&[(INDICATOR, &[1])], FieldFault::BitMap(1)),
     (
-        &[(INDICATOR, 0)],
+        &[(INDICATOR, &[0])],
         FieldFault::MapShort { need: 7, found: 6 },
     ),
-    (&[(POINTS, 5)], FieldFault::Count { said: 4, found: 5 }),
-    (&[(BITS, 9)], FieldFault::PackedShort { need: 5, found: 4 }),
+    (&[(POINTS, &[5])], FieldFault::Count { said: 4, found: 5 }),
     (
-        &[(REFERENCE, 0x7F), (REFERENCE + 1, 0x80), (REFERENCE + 2, 0)],
+        &[(BITS, &[9])],
+        FieldFault::PackedShort { need: 5, found: 4 },
+    ),
+    (
+        &[(REFERENCE, &[0x7F, 0x80, 0])],
         FieldFault::ReferenceNotFinite(2_139_095_040),
     ),
     (
-        &[
-            (REFERENCE, 0x3F),
-            (REFERENCE + 1, 0x80),
-            (BINARY_SCALE, 0x80),
-            (BINARY_SCALE + 1, 0x7F),
-        ],
+        &[(REFERENCE, &[0x3F, 0x80]), (BINARY_SCALE, &[0x80, 0x7F])],
         FieldFault::TooWide { need: 128 },
     ),
 ];

@@ -31,9 +31,8 @@ pub const SECTION_6: usize = 164;
 /// Where section 7 begins.
 pub const SECTION_7: usize = 170;
 
-/// The message with other octets from a place on.
-pub fn with(place: usize, octets: &[u8]) -> [u8; 183] {
-    let mut field = FIELD;
+/// Has other octets from a place on.
+fn put(field: &mut [u8; 183], place: usize, octets: &[u8]) {
     let mut at = place;
     for octet in octets {
         if let Some(old) = field.get_mut(at) {
@@ -41,16 +40,31 @@ pub fn with(place: usize, octets: &[u8]) -> [u8; 183] {
         }
         at = at.saturating_add(1);
     }
+}
+
+/// The message with other octets from a place on.
+pub fn with(place: usize, octets: &[u8]) -> [u8; 183] {
+    let mut field = FIELD;
+    put(&mut field, place, octets);
     field
 }
 
-/// The message in which the octets at these places are others.
-pub fn changed(changes: &[(usize, u8)]) -> [u8; 183] {
+/// Other octets from a place on.
+pub type Change = (usize, &'static [u8]);
+
+/// Numbers of templates that aren't read, and the bit map of a field before.
+pub const OTHERS: [Change; 4] = [
+    (SECTION_3 + 13, &[40]),
+    (SECTION_4 + 7, &[1]),
+    (SECTION_5 + 10, &[3]),
+    (SECTION_6 + 5, &[254]),
+];
+
+/// The message with these other octets.
+pub fn changed(changes: &[Change]) -> [u8; 183] {
     let mut field = FIELD;
-    for (place, octet) in changes {
-        if let Some(old) = field.get_mut(*place) {
-            *old = *octet;
-        }
+    for (place, octets) in changes {
+        put(&mut field, *place, octets);
     }
     field
 }

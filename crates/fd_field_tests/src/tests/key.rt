@@ -1,7 +1,7 @@
 //! Keys of messages, and their texts.
 ghost use Rattle.std.specs.Prelude.{◌≡◌, []};
 
-use crate::field::{FIELD, SECTION_1, SECTION_4, changed};
+use super::field::{Change, FIELD, SECTION_1, SECTION_4, changed};
 use fd_key::*;
 use fd_sections::message;
 use std::alloc::Global;
@@ -54,31 +54,20 @@ fn has_own_key(alloc: Global, octets: &[u8], want: &str) -> bool {
 }
 
 /// Changed octets of a message, and what its key is then, behind the front.
-const KEYS: [(&[(usize, u8)], &str); 9] = [
+const KEYS: [(&[Change], &str); 9] = [
     (&[], "levelist=100000,step=0"),
-    (
-        &[(SECTION_4 + 26, 0x69), (SECTION_4 + 27, 0x54)],
-        "levelist=92500,step=0",
-    ),
-    (&[(SECTION_4 + 21, 6)], "levelist=100000,step=6"),
+    (&[(SECTION_4 + 26, &[0x69, 0x54])], "levelist=92500,step=0"),
+    (&[(SECTION_4 + 21, &[6])], "levelist=100000,step=6"),
     // the value 850 with the factor -2, and 85000 with the factor 0
     (
-        &[
-            (SECTION_4 + 23, 0x82),
-            (SECTION_4 + 25, 0),
-            (SECTION_4 + 26, 3),
-            (SECTION_4 + 27, 0x52),
-        ],
+        &[(SECTION_4 + 23, &[0x82]), (SECTION_4 + 25, &[0, 3, 0x52])],
         "levelist=85000,step=0",
     ),
-    (
-        &[(SECTION_4 + 26, 0x4C), (SECTION_4 + 27, 8)],
-        "levelist=85000,step=0",
-    ),
-    (&[(SECTION_4 + 23, 255)], "step=0"),
-    (&[(SECTION_4 + 8, 2)], "Product(2)"),
-    (&[(SECTION_1 + 14, 2), (SECTION_1 + 15, 30)], "BadDate"),
-    (&[(SECTION_1 + 16, 24)], "BadDate"),
+    (&[(SECTION_4 + 26, &[0x4C, 8])], "levelist=85000,step=0"),
+    (&[(SECTION_4 + 23, &[255])], "step=0"),
+    (&[(SECTION_4 + 8, &[2])], "Product(2)"),
+    (&[(SECTION_1 + 14, &[2, 30])], "BadDate"),
+    (&[(SECTION_1 + 16, &[24])], "BadDate"),
 ];
 
 #[test]

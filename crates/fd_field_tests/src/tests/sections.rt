@@ -1,7 +1,7 @@
 //! Messages, and streams of messages in pieces.
 ghost use Rattle.std.specs.Prelude.{◌<◌};
 
-use crate::field::{FIELD, with};
+use super::field::{FIELD, with};
 use fd_bytes::NoMemory;
 use fd_sections::*;
 use std::alloc::{AllocError, Global};
