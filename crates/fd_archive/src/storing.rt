@@ -7,10 +7,11 @@ ghost use Rattle.fd_outcome.specs.Noticing.{SparesDamaged};
 ghost use Rattle.fd_bulk.specs.Archived.{IsRead, OnDisk, OnInput};
 ghost use Rattle.fd_archive.specs.Kept.{InputKept};
 
-use fd_bulk::{Bulk, BulkFault, Opener, Terms};
+use fd_bulk::{Bulk, BulkFault, Terms};
 use fd_disk::Store;
 use fd_io::{Gate, Source};
 use fd_key::Given;
+use fd_library::Library;
 use fd_schema::Schema;
 use std::alloc::Global;
 use std::sync::Wait;
@@ -54,7 +55,7 @@ where
     ensures told { is_some (S.has store.new) ≡ is_some (S.has store.old) }
     ensures later { S.faults store.old ≤ S.faults store.new }
 {
-    let Ok(mut opener) = Opener::new(alloc) else {
+    let Ok(mut library) = Library::new(alloc) else {
         return Err(BulkFault::NoMemory);
     };
     let terms = Terms {
@@ -64,7 +65,7 @@ where
         schema,
         gate,
     };
-    let found = terms.archive_all(input, workers, &mut opener, store);
-    opener.end(store);
+    let found = terms.archive_all(input, workers, &mut library, store);
+    library.give_back(store);
     found
 }
