@@ -6,10 +6,11 @@ ghost use Rattle.fd_outcome.specs.Noticing.{SparesDamaged};
 ghost use Rattle.fd_bulk.specs.Archived.{HasReasons};
 ghost use Rattle.fd_archive.specs.Kept.{InputKept};
 
-use fd_bulk::{Bulk, BulkFault, Opener, Terms};
+use fd_bulk::{Bulk, BulkFault, Terms};
 use fd_disk::Store;
 use fd_io::{Gate, Source};
 use fd_key::Given;
+use fd_library::Library;
 use fd_schema::Schema;
 use std::alloc::Global;
 use std::sync::Wait;
@@ -50,7 +51,7 @@ where
     ensures causes { HasReasons (I.faults input.old) (I.faults input.new) (S.faults store.old) (S.faults store.new) result }
     ensures told { is_some (S.has store.new) ≡ is_some (S.has store.old) }
 {
-    let Ok(mut opener) = Opener::new(alloc) else {
+    let Ok(mut library) = Library::new(alloc) else {
         return Err(BulkFault::NoMemory);
     };
     let terms = Terms {
@@ -60,7 +61,7 @@ where
         schema,
         gate,
     };
-    let found = terms.archive_all(input, workers, &mut opener, store);
-    opener.end(store);
+    let found = terms.archive_all(input, workers, &mut library, store);
+    library.give_back(store);
     found
 }

@@ -10,13 +10,12 @@ use Rattle.fd_turn.specs.Passes.{BoardId, IsSame, view}
 use Rattle.fd_turn.specs.Views.{View, donor, recipient}
 use Rattle.fd_archiver.specs.Writing.{Writing}
 use Rattle.fd_library.specs.Calls.{AsksWriter, Changes, IsNewWriter}
-use Rattle.fd_library.specs.Open.{OpenDataset, OpenDatasets, names_of}
+use Rattle.fd_library.specs.Open.{AreOpen, OpenDataset, OpenDatasets, names_of}
 use Rattle.fd_outcome.specs.Archiving.{Stored}
 use Rattle.fd_shares.specs.declared.round.Desk.{Desk}
 use Rattle.fd_shares.specs.declared.round.Job.{Job}
 use Rattle.fd_shares.specs.declared.round.Parcel.{Parcel}
 use Rattle.fd_bulk.specs.Crewing.{AllBegun, AreMet, AreUntouched, Closes, Deals, HasBegun, HasDesk, HoldsRest, Running, Waits, desks_at}
-use Rattle.fd_opener.specs.Opening.{AreOpen}
 use Rattle.fd_shares.specs.Sharing.{AllWork, AreParcels, DeskWorks, its_pairs}
 use Rattle.fd_shares.specs.Working.{Filling, Stage, Works}
 use Rattle.fd_shares.proofs.Dealing.{equal_is, equal_to}

@@ -13,7 +13,7 @@ use Rattle.fd_archiver.specs.Writing.{Writing}
 use Rattle.fd_recovery.specs.Recovered.{IsUndamaged, held}
 use Rattle.fd_library.specs.Answers.{HoldsAs}
 use Rattle.fd_library.specs.Calls.{Changes, Opens}
-use Rattle.fd_library.specs.Open.{IsWhole, OpenDataset, OpenDatasets, among, names_of, seat_of}
+use Rattle.fd_library.specs.Open.{AreOpen, IsWhole, OpenDataset, OpenDatasets, among, names_of, seat_of}
 use Rattle.fd_library.specs.Stores.{held_in, held_of}
 use Rattle.fd_outcome.specs.Archiving.{Stored, datasets_in, pairs_for}
 use Rattle.fd_outcome.specs.Asking.{is_among}
@@ -21,7 +21,6 @@ use Rattle.fd_shares.specs.declared.round.Job.{Job}
 use Rattle.fd_shares.specs.declared.round.Parcel.{Parcel}
 use Rattle.fd_bulk.specs.Crewing.{AllBegun, AreUntouched, Closes, Crewed, Deals, HasBegun, HoldsRest, OpenedAs, Running, Waits, desks_at}
 use Rattle.fd_bulk.specs.Halting.{Each, HasOneMore, IsSameJob}
-use Rattle.fd_opener.specs.Opening.{AreOpen}
 use Rattle.fd_shares.specs.Working.{Filling}
 use Rattle.fd_bulk.proofs.Desks.{all_begun_on}
 use Rattle.fd_bulk.proofs.Joined.{at_end, begun_lost, begun_new, desks_more, desks_none, each_back, each_same_on, running_more, running_same, set_end, waits_more, waits_on, work_long}

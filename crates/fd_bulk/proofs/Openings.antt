@@ -4,13 +4,12 @@ use Rattle.fd_disk.specs.Folders.{Contents, Holdings}
 use Rattle.fd_turn.specs.declared.board.Pass.{Pass}
 use Rattle.fd_archiver.specs.Writing.{Writing}
 use Rattle.fd_library.specs.Calls.{Changes, Opens}
-use Rattle.fd_library.specs.Open.{OpenDataset, OpenDatasets, among, names_of}
+use Rattle.fd_library.specs.Open.{AreOpen, OpenDataset, OpenDatasets, among, names_of}
 use Rattle.fd_outcome.specs.Archiving.{is_too_many}
 use Rattle.fd_shares.specs.declared.round.Desk.{Desk}
 use Rattle.fd_shares.specs.declared.round.Job.{Job}
 use Rattle.fd_bulk.specs.Crewing.{AreMet}
 use Rattle.fd_bulk.specs.Halting.{Each, HasOneMore, IsSameJob}
-use Rattle.fd_opener.specs.Opening.{AreOpen}
 use Rattle.fd_bulk.proofs.Joined.{at_end, each_back}
 use Rattle.fd_bulk.proofs.Meeting.{names_set}
 use Rattle.fd_shares.proofs.Shares.{inside}

@@ -10,13 +10,12 @@ use Rattle.fd_turn.specs.Passes.{BoardId, IsOf, IsSame, view}
 use Rattle.fd_turn.specs.Views.{donor, recipient}
 use Rattle.fd_archiver.specs.Writing.{Writing}
 use Rattle.fd_library.specs.Calls.{AsksWriter, Changes, IsNewWriter}
-use Rattle.fd_library.specs.Open.{OpenDataset, OpenDatasets, names_of}
+use Rattle.fd_library.specs.Open.{AreOpen, OpenDataset, OpenDatasets, names_of}
 use Rattle.fd_outcome.specs.Archiving.{Stored}
 use Rattle.fd_shares.specs.declared.round.Desk.{Desk}
 use Rattle.fd_shares.specs.declared.round.Job.{Job}
 use Rattle.fd_shares.specs.declared.round.Parcel.{Parcel}
 use Rattle.fd_bulk.specs.Crewing.{CanSeat, Deals, HasBegun, HasDesk, desks_at, with_desk}
-use Rattle.fd_opener.specs.Opening.{AreOpen}
 use Rattle.fd_shares.specs.Sharing.{its_pairs}
 use Rattle.fd_shares.specs.Working.{Filling}
 use Rattle.fd_bulk.proofs.Joined.{work_long}

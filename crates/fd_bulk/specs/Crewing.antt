@@ -17,7 +17,7 @@ use Rattle.fd_archiver.specs.declared.fault.FlushFault.{FlushFault}
 use Rattle.fd_recovery.specs.declared.fault.OpenFault.{OpenFault}
 use Rattle.fd_recovery.specs.declared.fault.OpenFault.TheVariants as opens
 use Rattle.fd_recovery.specs.Recovered.{IsUndamaged}
-use Rattle.fd_library.specs.Open.{OpenDataset, OpenDatasets, among, names_of, seat_of}
+use Rattle.fd_library.specs.Open.{AreOpen, OpenDataset, OpenDatasets, among, names_of, seat_of}
 use Rattle.fd_library.specs.Stores.{KeepsFolder, held_by_pass, held_of}
 use Rattle.fd_outcome.specs.Archiving.{Stored, datasets_in, pairs_for}
 use Rattle.fd_outcome.specs.Asking.{count_distinct, is_among}
@@ -28,7 +28,6 @@ use Rattle.fd_bulk.specs.declared.bulk.BulkFault.TheVariants as faults
 use Rattle.fd_shares.specs.declared.round.Desk.{Desk}
 use Rattle.fd_shares.specs.declared.round.Job.{Job}
 use Rattle.fd_shares.specs.declared.round.Parcel.{Parcel}
-use Rattle.fd_opener.specs.Opening.{AreOpen}
 use Rattle.fd_shares.specs.Sharing.{AllFit, AllWork, AreParcels, SeesFull, its_pairs}
 use Rattle.fd_shares.specs.Working.{Filling, Flushed, Stage}
 

@@ -13,7 +13,7 @@ use fd_bytes::NoMemory;
 use fd_disk::{Folder, Store};
 use fd_io::{Gate, Source};
 use fd_key::{Given, KeyFault};
-use fd_opener::Opener;
+use fd_library::Library;
 use fd_schema::Schema;
 use fd_sections::{BadAt, Truncated};
 use fd_segment::Damage;
@@ -126,7 +126,7 @@ impl<G, R> Drop for Terms<'_, G, R> {
 
 impl<G: Gate, R: Threads + Wait + Sync> Terms<'_, G, R> {
     /// Archives the fields of an input, each as a message of its own, under their keys and the given pairs, in the datasets that the schema
-    /// says, by so many workers, at most 8. The opener has no dataset open yet; afterwards each pass and archiver is back with it. Of a
+    /// says, by so many workers, at most 8. The library has no dataset open yet; afterwards each pass and archiver is back with it. Of a
     /// message that is refused as a whole nothing is stored; of one of whose fields one can't be stored the fields before it are.
     ///
     /// Messages are dealt to the workers by their places, so that those of one key stay in their order. They come in rounds: a
@@ -139,17 +139,17 @@ impl<G: Gate, R: Threads + Wait + Sync> Terms<'_, G, R> {
         &self,
         input: &mut I,
         workers: u32,
-        opener: &mut Opener<F, S>,
+        library: &mut Library<F, S>,
         store: &mut S,
     ) -> Result<Bulk, BulkFault<X>>
     where
         requires schema { IsSchema self.now.schema.now }
         requires workers { (1 ≤ workers) × (workers ≤ 8) }
-        requires none { (opener.old.library.each ≡ []) × (opener.old.library.boards ≡ []) }
+        requires none { (library.old.each ≡ []) × (library.old.boards ≡ []) }
         requires home { (name : List ℕ) → S.out store.old name ≡ false }
-        ensures archived { Archived S.Folder.has workers self.now.schema.now self.now.given.now (I.left input.old) (I.left input.new) (S.has store.old) (S.has store.new) opener.new.library.each result }
+        ensures archived { Archived S.Folder.has workers self.now.schema.now self.now.given.now (I.left input.old) (I.left input.new) (S.has store.old) (S.has store.new) library.new.each result }
         ensures spares { WhereTold (S.has store.old) (S.has store.new) SparesDamaged }
-        ensures out { OutAre opener.new.library.each (S.out store.new) }
+        ensures out { OutAre library.new.each (S.out store.new) }
         ensures to_end { IfSome (I.left input.old) (λ octets. OnOk result (I.left input.new ≡ Some [])) }
         ensures causes { HasReasons (I.faults input.old) (I.faults input.new) (S.faults store.old) (S.faults store.new) result }
         ensures told { is_some (S.has store.new) ≡ is_some (S.has store.old) }
@@ -157,11 +157,11 @@ impl<G: Gate, R: Threads + Wait + Sync> Terms<'_, G, R> {
         let Ok(mut crew) = Crew::new(self.alloc, workers) else {
             return Err(BulkFault::NoMemory);
         };
-        let dealt = self.deal_input(input, &mut crew, opener, store);
-        let stored = self.store_dealt(dealt, &mut crew, opener, store);
-        let found = self.list_stored(stored, &mut crew, opener, store);
-        let datasets = opener.datasets().len() as u32;
-        crew.end(self.rt, opener);
+        let dealt = self.deal_input(input, &mut crew, library, store);
+        let stored = self.store_dealt(dealt, &mut crew, library, store);
+        let found = self.list_stored(stored, &mut crew, library, store);
+        let datasets = library.datasets().len() as u32;
+        crew.end(self.rt, library);
         match found {
             Ok(Counts { fields, junk }) => Ok(Bulk {
                 fields,

@@ -4,10 +4,9 @@ ghost use Rattle.fd_bytes.specs.Causes.{Rose};
 ghost use Rattle.fd_disk.specs.Folders.{Holdings, WhereTold};
 ghost use Rattle.fd_bulk.specs.{Archived.{Grows, GrowsAll, IsBack, IsSure}, Ending.{CanEndOne, EndedAs, IsShorter, column}, Halting.{Each, Halted, HasOneMore, HaveMetNone, HaveRoom, IsLower, IsQuiet, IsSameJob, IsTold, OnStore}, Inputs.{is_calm}, Meets.{Meets}, Naming.{IsOpened}, Crewing.{CanEnd, CanFinish, CanRun, CanSeat, Closes, Crewed, Deals, DealtAs, Finished, FinishedAs, HasFull, IsUnopened, OpenedAs, RanAs, RanBeside, Running, SeatedAs, SeeFull, Stopping, TooManyAt, Waits, message_at, octets_of}};
 ghost use Rattle.fd_schema.specs.{Grammar.{IsSchema}, Rules.{file_key}, Reading.{seen_place}};
-ghost use Rattle.fd_library.specs.{Open.{OpenDataset, OutAre, among, names_of}, Calls.{Changes}};
+ghost use Rattle.fd_library.specs.{Open.{AreOpen, OpenDataset, OutAre, among, names_of}, Calls.{Changes}};
 ghost use Rattle.fd_sheets.specs.Reading.{ReadOn};
 ghost use Rattle.fd_outcome.specs.Archiving.{Stored, datasets_in, is_too_many};
-ghost use Rattle.fd_opener.specs.Opening.{AreOpen};
 ghost use Rattle.fd_turn.specs.Passes.{view};
 
 use crate::bulk::BulkFault;
@@ -17,8 +16,7 @@ use fd_bytes::NoMemory;
 use fd_disk::{Disk, Down, Folder, Shelf, Store};
 use fd_io::{Gate, Source};
 use fd_key::Given;
-use fd_library::FolderPass;
-use fd_opener::Opener;
+use fd_library::{FolderPass, Library};
 use fd_recovery::OpenFault;
 use fd_schema::{Place, Schema};
 use fd_segment::{Field, Room};
@@ -86,16 +84,15 @@ impl<F: Send + Drop, S: Store<F>> Crew<F, S> {
     }
 
     // A dataset that was opened just now is met by all workers.
-    fn meet(&mut self, opener: &mut Opener<F, S>, number: u32)
-        requires seated { (h : OpenDataset S.Folder) × (slice_get opener.old.library.each number ≡ Some h) × IsSome h.pass }
-        requires sound { AreOpen opener.old.library }
+    fn meet(&mut self, library: &mut Library<F, S>, number: u32)
+        requires seated { (h : OpenDataset S.Folder) × (slice_get library.old.each number ≡ Some h) × IsSome h.pass }
         requires room { vec_len self.old.passes < vec_capacity self.old.passes }
         requires jobs_room { HaveRoom self.old.jobs.items }
-        ensures sound { AreOpen opener.new.library }
-        ensures meets { Meets number opener.old.library opener.new.library self.old.passes.items self.new.passes.items self.old.jobs.items self.new.jobs.items }
+        ensures sound { AreOpen library.new }
+        ensures meets { Meets number library.old library.new self.old.passes.items self.new.passes.items self.old.jobs.items self.new.jobs.items }
         ensures parcels { self.new.parcels ≡ self.old.parcels }
     {
-        let pass = opener.seat(number);
+        let pass = library.seat(number);
         self.passes.push_reserved(pass);
         add_dataset(self.jobs.as_mut_slice());
     }
@@ -104,21 +101,21 @@ impl<F: Send + Drop, S: Store<F>> Crew<F, S> {
     fn opened<X: Drop>(
         &mut self,
         alloc: Global,
-        opener: &mut Opener<F, S>,
+        library: &mut Library<F, S>,
         store: &mut S,
         name: &str,
     ) -> Result<u32, BulkFault<X>>
         requires short { length name.now ≤ 255 }
-        requires sound { AreOpen opener.old.library }
-        requires out { OutAre opener.old.library.each (S.out store.old) }
-        requires long { length self.old.passes.items ≡ length opener.old.library.each }
-        ensures sound { AreOpen opener.new.library }
-        ensures out { OutAre opener.new.library.each (S.out store.new) }
-        ensures opens { (start : Option Holdings) (all waiting : List Stored) → Deals S.Folder.has S.Folder.Shelf.kept start (S.has store.old) all waiting (datasets_in (all ++ waiting)) opener.old.library self.old.passes.items self.old.jobs.items self.old.parcels.items
-            → OpenedAs S.Folder.has S.Folder.Shelf.kept start (S.has store.new) all waiting name.now (datasets_in (all ++ waiting)) result opener.new.library self.new.passes.items self.new.jobs.items self.new.parcels.items }
-        ensures too_many { (start : Option Holdings) (all waiting : List Stored) → Deals S.Folder.has S.Folder.Shelf.kept start (S.has store.old) all waiting (datasets_in (all ++ waiting)) opener.old.library self.old.passes.items self.old.jobs.items self.old.parcels.items
+        requires sound { AreOpen library.old }
+        requires out { OutAre library.old.each (S.out store.old) }
+        requires long { length self.old.passes.items ≡ length library.old.each }
+        ensures sound { AreOpen library.new }
+        ensures out { OutAre library.new.each (S.out store.new) }
+        ensures opens { (start : Option Holdings) (all waiting : List Stored) → Deals S.Folder.has S.Folder.Shelf.kept start (S.has store.old) all waiting (datasets_in (all ++ waiting)) library.old self.old.passes.items self.old.jobs.items self.old.parcels.items
+            → OpenedAs S.Folder.has S.Folder.Shelf.kept start (S.has store.new) all waiting name.now (datasets_in (all ++ waiting)) result library.new self.new.passes.items self.new.jobs.items self.new.parcels.items }
+        ensures too_many { (start : Option Holdings) (all waiting : List Stored) → Deals S.Folder.has S.Folder.Shelf.kept start (S.has store.old) all waiting (datasets_in (all ++ waiting)) library.old self.old.passes.items self.old.jobs.items self.old.parcels.items
             → TooManyAt (is_too_many (datasets_in (all ++ waiting)) name.now) result }
-        ensures again { among name.now (names_of opener.old.library.each) ≡ true → IfErr result (λ e. is_calm e ≡ false) }
+        ensures again { among name.now (names_of library.old.each) ≡ true → IfErr result (λ e. is_calm e ≡ false) }
         ensures jobs { length self.new.jobs.items ≡ length self.old.jobs.items }
         ensures parcels { self.new.parcels ≡ self.old.parcels }
         ensures cause { IfErr result (λ e. OnStore e (Rose (S.faults store.old) (S.faults store.new))) }
@@ -128,7 +125,7 @@ impl<F: Send + Drop, S: Store<F>> Crew<F, S> {
         let Ok(()) = self.reserve() else {
             return Err(BulkFault::NoMemory);
         };
-        let found = match opener.dataset(alloc, store, name, true) {
+        let found = match library.dataset(alloc, store, name, true) {
             Ok(found) => found,
             Err(fault) => return Err(unopened(alloc, store, name, fault)),
         };
@@ -136,7 +133,7 @@ impl<F: Send + Drop, S: Store<F>> Crew<F, S> {
         if (number as usize) < self.passes.len() {
             return Ok(number);
         }
-        self.meet(opener, number);
+        self.meet(library, number);
         Ok(number)
     }
 
@@ -144,16 +141,16 @@ impl<F: Send + Drop, S: Store<F>> Crew<F, S> {
     fn seated<X: Drop>(
         &mut self,
         alloc: Global,
-        opener: &mut Opener<F, S>,
+        library: &mut Library<F, S>,
         store: &mut S,
         worker: u32,
         number: u32,
     ) -> Result<(), BulkFault<X>>
-        requires can { CanSeat S.Folder.has S.Folder.Shelf.kept worker number opener.old.library self.old.passes.items self.old.jobs.items }
-        ensures sound { AreOpen opener.new.library }
-        ensures names { names_of opener.new.library.each ≡ names_of opener.old.library.each }
-        ensures seats { (start : Option Holdings) (all waiting : List Stored) (datasets : List (List ℕ)) → Deals S.Folder.has S.Folder.Shelf.kept start (S.has store.old) all waiting datasets opener.old.library self.old.passes.items self.old.jobs.items self.old.parcels.items
-            → SeatedAs S.Folder.has S.Folder.Shelf.kept start (S.has store.old) all waiting worker number datasets result opener.new.library self.new.passes.items self.new.jobs.items self.new.parcels.items }
+        requires can { CanSeat S.Folder.has S.Folder.Shelf.kept worker number library.old self.old.passes.items self.old.jobs.items }
+        ensures sound { AreOpen library.new }
+        ensures names { names_of library.new.each ≡ names_of library.old.each }
+        ensures seats { (start : Option Holdings) (all waiting : List Stored) (datasets : List (List ℕ)) → Deals S.Folder.has S.Folder.Shelf.kept start (S.has store.old) all waiting datasets library.old self.old.passes.items self.old.jobs.items self.old.parcels.items
+            → SeatedAs S.Folder.has S.Folder.Shelf.kept start (S.has store.old) all waiting worker number datasets result library.new self.new.passes.items self.new.jobs.items self.new.parcels.items }
         ensures jobs { length self.new.jobs.items ≡ length self.old.jobs.items }
         ensures parcels { self.new.parcels ≡ self.old.parcels }
         ensures has { S.has store.new ≡ S.has store.old }
@@ -165,7 +162,7 @@ impl<F: Send + Drop, S: Store<F>> Crew<F, S> {
         if self.jobs[worker as usize].desks[n].is_some() {
             return Ok(());
         }
-        let archiver = match opener.archiver(alloc, number, ROOM) {
+        let archiver = match library.archiver(alloc, number, ROOM) {
             Ok(archiver) => archiver,
             Err(Down::Fault(fault)) => {
                 store.note(fault);
@@ -173,7 +170,7 @@ impl<F: Send + Drop, S: Store<F>> Crew<F, S> {
             }
             Err(Down::NoMemory) => return Err(BulkFault::NoMemory),
         };
-        let pass = opener.datasets()[n].split(&mut self.passes[n]);
+        let pass = library.datasets()[n].split(&mut self.passes[n]);
         self.jobs[worker as usize].desks[n] = Some(Desk { archiver, pass });
         Ok(())
     }
@@ -182,7 +179,7 @@ impl<F: Send + Drop, S: Store<F>> Crew<F, S> {
     pub(crate) fn deal<X: Drop>(
         &mut self,
         alloc: Global,
-        opener: &mut Opener<F, S>,
+        library: &mut Library<F, S>,
         store: &mut S,
         round: u32,
         place: Place,
@@ -191,15 +188,15 @@ impl<F: Send + Drop, S: Store<F>> Crew<F, S> {
         requires short { length (seen_place place).dataset ≤ 255 }
         requires key { length (file_key (seen_place place)) ≤ 256 }
         requires bytes { length bytes ≤ 134217728 }
-        requires out { OutAre opener.old.library.each (S.out store.old) }
-        requires deals { (start : Option Holdings) × ((all : List Stored) × ((waiting : List Stored) × Deals S.Folder.has S.Folder.Shelf.kept start (S.has store.old) all waiting (datasets_in (all ++ waiting)) opener.old.library self.old.passes.items self.old.jobs.items self.old.parcels.items)) }
-        ensures out { OutAre opener.new.library.each (S.out store.new) }
-        ensures deals { (start : Option Holdings) (all waiting : List Stored) → Deals S.Folder.has S.Folder.Shelf.kept start (S.has store.old) all waiting (datasets_in (all ++ waiting)) opener.old.library self.old.passes.items self.old.jobs.items self.old.parcels.items
-            → DealtAs S.Folder.has S.Folder.Shelf.kept start (S.has store.new) all waiting (message_at (seen_place place) bytes) result opener.new.library self.new.passes.items self.new.jobs.items self.new.parcels.items }
-        ensures too_many { (start : Option Holdings) (all waiting : List Stored) → Deals S.Folder.has S.Folder.Shelf.kept start (S.has store.old) all waiting (datasets_in (all ++ waiting)) opener.old.library self.old.passes.items self.old.jobs.items self.old.parcels.items
+        requires out { OutAre library.old.each (S.out store.old) }
+        requires deals { (start : Option Holdings) × ((all : List Stored) × ((waiting : List Stored) × Deals S.Folder.has S.Folder.Shelf.kept start (S.has store.old) all waiting (datasets_in (all ++ waiting)) library.old self.old.passes.items self.old.jobs.items self.old.parcels.items)) }
+        ensures out { OutAre library.new.each (S.out store.new) }
+        ensures deals { (start : Option Holdings) (all waiting : List Stored) → Deals S.Folder.has S.Folder.Shelf.kept start (S.has store.old) all waiting (datasets_in (all ++ waiting)) library.old self.old.passes.items self.old.jobs.items self.old.parcels.items
+            → DealtAs S.Folder.has S.Folder.Shelf.kept start (S.has store.new) all waiting (message_at (seen_place place) bytes) result library.new self.new.passes.items self.new.jobs.items self.new.parcels.items }
+        ensures too_many { (start : Option Holdings) (all waiting : List Stored) → Deals S.Folder.has S.Folder.Shelf.kept start (S.has store.old) all waiting (datasets_in (all ++ waiting)) library.old self.old.passes.items self.old.jobs.items self.old.parcels.items
             → TooManyAt (is_too_many (datasets_in (all ++ waiting)) (seen_place place).dataset) result }
-        ensures again { among (seen_place place).dataset (names_of opener.old.library.each) ≡ true → IfErr result (λ e. is_calm e ≡ false) }
-        ensures opens { OnOk result (IsOpened (seen_place place).dataset (names_of opener.old.library.each) (names_of opener.new.library.each)) }
+        ensures again { among (seen_place place).dataset (names_of library.old.each) ≡ true → IfErr result (λ e. is_calm e ≡ false) }
+        ensures opens { OnOk result (IsOpened (seen_place place).dataset (names_of library.old.each) (names_of library.new.each)) }
         ensures jobs { length self.new.jobs.items ≡ length self.old.jobs.items }
         ensures cause { IfErr result (λ e. OnStore e (Rose (S.faults store.old) (S.faults store.new))) }
         ensures told { is_some (S.has store.new) ≡ is_some (S.has store.old) }
@@ -209,8 +206,8 @@ impl<F: Send + Drop, S: Store<F>> Crew<F, S> {
             return Err(BulkFault::NoMemory);
         };
         let worker = dealt(self.jobs.len() as u32, &place);
-        let dataset = self.opened(alloc, opener, store, place.dataset.as_str())?;
-        match self.seated(alloc, opener, store, worker, dataset) {
+        let dataset = self.opened(alloc, library, store, place.dataset.as_str())?;
+        match self.seated(alloc, library, store, worker, dataset) {
             Ok(()) => {}
             Err(fault) => return Err(fault),
         }
@@ -229,14 +226,14 @@ impl<F: Send + Drop, S: Store<F>> Crew<F, S> {
         &mut self,
         rt: &R,
         alloc: Global,
-        opener: &Opener<F, S>,
+        library: &Library<F, S>,
         store: &mut S,
         gate: &G,
     ) -> Result<(), BulkFault<X>>
-        requires can { CanRun S.Folder.has S.Folder.Shelf.kept opener.now.library self.old.passes.items self.old.jobs.items self.old.parcels.items }
-        ensures ran { (start now : Option Holdings) (lost : ℕ) (all waiting : List Stored) → Crewed S.Folder.has (Running S.Folder.Shelf.kept (length self.old.jobs.items) all) start now lost opener.now.library self.old.passes.items self.old.jobs.items
-            → Waits (names_of opener.now.library.each) waiting self.old.jobs.items self.old.parcels.items
-            → RanAs S.Folder.has S.Folder.Shelf.kept start now lost (all ++ waiting) result opener.now.library self.new.passes.items self.new.jobs.items }
+        requires can { CanRun S.Folder.has S.Folder.Shelf.kept library.now self.old.passes.items self.old.jobs.items self.old.parcels.items }
+        ensures ran { (start now : Option Holdings) (lost : ℕ) (all waiting : List Stored) → Crewed S.Folder.has (Running S.Folder.Shelf.kept (length self.old.jobs.items) all) start now lost library.now self.old.passes.items self.old.jobs.items
+            → Waits (names_of library.now.each) waiting self.old.jobs.items self.old.parcels.items
+            → RanAs S.Folder.has S.Folder.Shelf.kept start now lost (all ++ waiting) result library.now self.new.passes.items self.new.jobs.items }
         ensures none { self.new.parcels.items ≡ [] }
         ensures has { S.has store.new ≡ S.has store.old }
         ensures out { S.out store.new ≡ S.out store.old }
@@ -248,7 +245,7 @@ impl<F: Send + Drop, S: Store<F>> Crew<F, S> {
             rt,
             alloc,
             gate,
-            opener.datasets(),
+            library.datasets(),
             self.parcels.as_mut_slice(),
             self.jobs.as_mut_slice(),
         );
@@ -266,15 +263,15 @@ impl<F: Send + Drop, S: Store<F>> Crew<F, S> {
         schema: &Schema,
         names: &Names,
         reader: &mut Reader,
-        opener: &Opener<F, S>,
+        library: &Library<F, S>,
         store: &mut S,
         gate: &G,
     ) -> Result<Batch<X>, BulkFault<X>>
         requires schema { IsSchema schema.now }
-        requires can { CanRun S.Folder.has S.Folder.Shelf.kept opener.now.library self.old.passes.items self.old.jobs.items self.old.parcels.items }
-        ensures ran { (start now : Option Holdings) (lost : ℕ) (all waiting : List Stored) → Crewed S.Folder.has (Running S.Folder.Shelf.kept (length self.old.jobs.items) all) start now lost opener.now.library self.old.passes.items self.old.jobs.items
-            → Waits (names_of opener.now.library.each) waiting self.old.jobs.items self.old.parcels.items
-            → RanBeside S.Folder.has S.Folder.Shelf.kept start now lost (all ++ waiting) result opener.now.library self.new.passes.items self.new.jobs.items }
+        requires can { CanRun S.Folder.has S.Folder.Shelf.kept library.now self.old.passes.items self.old.jobs.items self.old.parcels.items }
+        ensures ran { (start now : Option Holdings) (lost : ℕ) (all waiting : List Stored) → Crewed S.Folder.has (Running S.Folder.Shelf.kept (length self.old.jobs.items) all) start now lost library.now self.old.passes.items self.old.jobs.items
+            → Waits (names_of library.now.each) waiting self.old.jobs.items self.old.parcels.items
+            → RanBeside S.Folder.has S.Folder.Shelf.kept start now lost (all ++ waiting) result library.now self.new.passes.items self.new.jobs.items }
         ensures reads { IfOk result (ReadOn schema.now given.now names.now.texts.items reader.old reader.new (I.left input.old) (I.left input.new) (I.faults input.old) (I.faults input.new)) }
         ensures none { self.new.parcels.items ≡ [] }
         ensures has { S.has store.new ≡ S.has store.old }
@@ -287,7 +284,7 @@ impl<F: Send + Drop, S: Store<F>> Crew<F, S> {
             rt,
             alloc,
             gate,
-            opener.datasets(),
+            library.datasets(),
             schema,
             given,
             names,
@@ -308,19 +305,19 @@ impl<F: Send + Drop, S: Store<F>> Crew<F, S> {
         &mut self,
         rt: &R,
         alloc: Global,
-        opener: &Opener<F, S>,
+        library: &Library<F, S>,
         store: &mut S,
     ) -> Result<(), BulkFault<X>>
-        requires can { CanFinish S.Folder.has S.Folder.Shelf.kept opener.now.library self.old.passes.items self.old.jobs.items }
-        ensures lists { (start now : Option Holdings) (lost : ℕ) (all : List Stored) → Crewed S.Folder.has (Running S.Folder.Shelf.kept (length self.old.jobs.items) all) start now lost opener.now.library self.old.passes.items self.old.jobs.items
-            → FinishedAs S.Folder.has S.Folder.Shelf.kept start now lost all result opener.now.library self.new.passes.items self.new.jobs.items }
+        requires can { CanFinish S.Folder.has S.Folder.Shelf.kept library.now self.old.passes.items self.old.jobs.items }
+        ensures lists { (start now : Option Holdings) (lost : ℕ) (all : List Stored) → Crewed S.Folder.has (Running S.Folder.Shelf.kept (length self.old.jobs.items) all) start now lost library.now self.old.passes.items self.old.jobs.items
+            → FinishedAs S.Folder.has S.Folder.Shelf.kept start now lost all result library.now self.new.passes.items self.new.jobs.items }
         ensures has { S.has store.new ≡ S.has store.old }
         ensures out { S.out store.new ≡ S.out store.old }
         ensures jobs { length self.new.jobs.items ≡ length self.old.jobs.items }
         ensures cause { IfErr result (λ e. OnStore e (Rose (S.faults store.old) (S.faults store.new))) }
         ensures later { S.faults store.old ≤ S.faults store.new }
     {
-        list_round(rt, alloc, opener.datasets(), self.jobs.as_mut_slice());
+        list_round(rt, alloc, library.datasets(), self.jobs.as_mut_slice());
         halted(self.jobs.as_mut_slice(), store)
     }
 
@@ -328,37 +325,37 @@ impl<F: Send + Drop, S: Store<F>> Crew<F, S> {
     fn end_one<R: Wait>(
         &mut self,
         rt: &R,
-        opener: &mut Opener<F, S>,
+        library: &mut Library<F, S>,
         number: u32,
         pass: FolderPass<F, S::Folder>,
     )
-        requires sound { AreOpen opener.old.library }
-        requires can { CanEndOne number opener.old.library pass self.old.jobs.items }
-        ensures sound { AreOpen opener.new.library }
+        requires sound { AreOpen library.old }
+        requires can { CanEndOne number library.old pass self.old.jobs.items }
+        ensures sound { AreOpen library.new }
         ensures passes { self.new.passes.items ≡ self.old.passes.items }
         ensures shorter { Each (λ i. IsShorter number) self.old.jobs.items self.new.jobs.items }
-        ensures ended { Changes number opener.old.library opener.new.library (EndedAs S.Folder.has S.Folder.faults S.Folder.Shelf.kept (view pass) (column number self.old.jobs.items)) }
+        ensures ended { Changes number library.old library.new (EndedAs S.Folder.has S.Folder.faults S.Folder.Shelf.kept (view pass) (column number self.old.jobs.items)) }
     {
         let mut pass = pass;
-        hand_back_all(opener, number, &mut pass, self.jobs.as_mut_slice());
-        opener.datasets()[number as usize].catch_up(rt, &mut pass);
-        opener.unseat(number, pass);
+        hand_back_all(library, number, &mut pass, self.jobs.as_mut_slice());
+        library.datasets()[number as usize].catch_up(rt, &mut pass);
+        library.unseat(number, pass);
     }
 
     /// Gives all passes and archivers back. What is pending is lost.
-    pub(crate) fn end<R: Wait>(&mut self, rt: &R, opener: &mut Opener<F, S>)
-        requires can { CanEnd S.Folder.has S.Folder.Shelf.kept opener.old.library self.old.passes.items self.old.jobs.items }
-        ensures names { names_of opener.new.library.each ≡ names_of opener.old.library.each }
-        ensures grows { (start now : Option Holdings) (lost : ℕ) (all : List Stored) → Crewed S.Folder.has (Stopping S.Folder.Shelf.kept (length self.old.jobs.items) all) start now lost opener.old.library self.old.passes.items self.old.jobs.items
-            → WhereTold start now (Grows S.Folder.has (length self.old.jobs.items) all opener.new.library.each) × All (IsBack S.Folder.has (length self.old.jobs.items) all) opener.new.library.each }
-        ensures all { (start now : Option Holdings) (lost : ℕ) (all : List Stored) → Crewed S.Folder.has (Finished S.Folder.Shelf.kept (length self.old.jobs.items) all) start now lost opener.old.library self.old.passes.items self.old.jobs.items
-            → WhereTold start now (GrowsAll S.Folder.has (length self.old.jobs.items) all opener.new.library.each) × All (λ h. IsBack S.Folder.has (length self.old.jobs.items) all h × IsSure S.Folder.has h) opener.new.library.each }
-        ensures full { (start now : Option Holdings) (lost : ℕ) (all : List Stored) → Crewed S.Folder.has (Stopping S.Folder.Shelf.kept (length self.old.jobs.items) all) start now lost opener.old.library self.old.passes.items self.old.jobs.items
-            → SeeFull self.old.jobs.items → HasFull all opener.new.library.each }
+    pub(crate) fn end<R: Wait>(&mut self, rt: &R, library: &mut Library<F, S>)
+        requires can { CanEnd S.Folder.has S.Folder.Shelf.kept library.old self.old.passes.items self.old.jobs.items }
+        ensures names { names_of library.new.each ≡ names_of library.old.each }
+        ensures grows { (start now : Option Holdings) (lost : ℕ) (all : List Stored) → Crewed S.Folder.has (Stopping S.Folder.Shelf.kept (length self.old.jobs.items) all) start now lost library.old self.old.passes.items self.old.jobs.items
+            → WhereTold start now (Grows S.Folder.has (length self.old.jobs.items) all library.new.each) × All (IsBack S.Folder.has (length self.old.jobs.items) all) library.new.each }
+        ensures all { (start now : Option Holdings) (lost : ℕ) (all : List Stored) → Crewed S.Folder.has (Finished S.Folder.Shelf.kept (length self.old.jobs.items) all) start now lost library.old self.old.passes.items self.old.jobs.items
+            → WhereTold start now (GrowsAll S.Folder.has (length self.old.jobs.items) all library.new.each) × All (λ h. IsBack S.Folder.has (length self.old.jobs.items) all h × IsSure S.Folder.has h) library.new.each }
+        ensures full { (start now : Option Holdings) (lost : ℕ) (all : List Stored) → Crewed S.Folder.has (Stopping S.Folder.Shelf.kept (length self.old.jobs.items) all) start now lost library.old self.old.passes.items self.old.jobs.items
+            → SeeFull self.old.jobs.items → HasFull all library.new.each }
     {
         while let Some(pass) = self.passes.pop() {
             let number = self.passes.len() as u32;
-            self.end_one(rt, opener, number, pass);
+            self.end_one(rt, library, number, pass);
         }
     }
 }

@@ -10,5 +10,4 @@ mod laws;
 mod reading;
 
 pub use bulk::{Bulk, BulkFault, Terms};
-pub use fd_opener::Opener;
 pub use laws::{every_dealing, every_table, few_batches};

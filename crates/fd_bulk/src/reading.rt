@@ -15,7 +15,7 @@ use crate::crew::Crew;
 use fd_disk::{Folder, Store};
 use fd_io::{Gate, Source};
 use fd_key::Given;
-use fd_opener::Opener;
+use fd_library::Library;
 use fd_schema::Schema;
 use fd_sheets::{Batch, Names, Reach, Reader, Sheet, Stop, Unplaced, read_on};
 use std::alloc::Global;
@@ -85,18 +85,18 @@ fn deal_sheet<F: Send + Drop, X: Drop, S: Store<F>>(
     sheet: Sheet,
     names: &mut Names,
     crew: &mut Crew<F, S>,
-    opener: &mut Opener<F, S>,
+    library: &mut Library<F, S>,
     store: &mut S,
 ) -> Result<(), BulkFault<X>>
 where
-    requires out { OutAre opener.old.library.each (S.out store.old) }
-    requires can { CanDeal S.Folder.has S.Folder.Shelf.kept (S.has store.old) (sheet ∷ []) opener.old.library crew.old.passes.items crew.old.jobs.items crew.old.parcels.items }
-    ensures out { OutAre opener.new.library.each (S.out store.new) }
+    requires out { OutAre library.old.each (S.out store.old) }
+    requires can { CanDeal S.Folder.has S.Folder.Shelf.kept (S.has store.old) (sheet ∷ []) library.old crew.old.passes.items crew.old.jobs.items crew.old.parcels.items }
+    ensures out { OutAre library.new.each (S.out store.new) }
     ensures goes { (rules : List Rule) (given : List Pair) (p q : Position) (start : Option Holdings) (all waiting : List Stored) → p.split.fed ≤ 68719476736 → Placed rules given p (sheet ∷ []) q
-        → Going S.Folder.has S.Folder.Shelf.kept start (S.has store.old) all waiting opener.old.library crew.old.passes.items crew.old.jobs.items crew.old.parcels.items p
-        → GoesOn S.Folder.has S.Folder.Shelf.kept rules given p q start (S.has store.new) (all ++ waiting) opener.new.library crew.new.passes.items crew.new.jobs.items crew.new.parcels.items result }
-    ensures known { IsKnown names.old.texts.items sheet → AreOpened names.old.texts.items (names_of opener.old.library.each) → IfErr result (λ e. is_calm e ≡ false) }
-    ensures notes { OnOk result (Notes names.old.texts.items names.new.texts.items (names_of opener.old.library.each) (names_of opener.new.library.each)) }
+        → Going S.Folder.has S.Folder.Shelf.kept start (S.has store.old) all waiting library.old crew.old.passes.items crew.old.jobs.items crew.old.parcels.items p
+        → GoesOn S.Folder.has S.Folder.Shelf.kept rules given p q start (S.has store.new) (all ++ waiting) library.new crew.new.passes.items crew.new.jobs.items crew.new.parcels.items result }
+    ensures known { IsKnown names.old.texts.items sheet → AreOpened names.old.texts.items (names_of library.old.each) → IfErr result (λ e. is_calm e ≡ false) }
+    ensures notes { OnOk result (Notes names.old.texts.items names.new.texts.items (names_of library.old.each) (names_of library.new.each)) }
     ensures jobs { length crew.new.jobs.items ≡ length crew.old.jobs.items }
     ensures cause { IfErr result (λ e. OnStore e (Rose (S.faults store.old) (S.faults store.new))) }
     ensures told { is_some (S.has store.new) ≡ is_some (S.has store.old) }
@@ -113,7 +113,7 @@ where
             let Ok(()) = names.note(alloc, place.dataset.as_str()) else {
                 return Err(BulkFault::NoMemory);
             };
-            crew.deal(alloc, opener, store, round, place, bytes)
+            crew.deal(alloc, library, store, round, place, bytes)
         }
         Some(Err(reason)) => Err(unplaced(reason, number)),
         None => unreachable!(),
@@ -126,25 +126,25 @@ fn deal_sheets<F: Send + Drop, X: Drop, S: Store<F>>(
     sheets: Vec<Sheet>,
     names: &mut Names,
     crew: &mut Crew<F, S>,
-    opener: &mut Opener<F, S>,
+    library: &mut Library<F, S>,
     store: &mut S,
 ) -> Result<(), BulkFault<X>>
 where
-    requires out { OutAre opener.old.library.each (S.out store.old) }
-    requires can { CanDeal S.Folder.has S.Folder.Shelf.kept (S.has store.old) sheets.items opener.old.library crew.old.passes.items crew.old.jobs.items crew.old.parcels.items }
-    ensures out { OutAre opener.new.library.each (S.out store.new) }
+    requires out { OutAre library.old.each (S.out store.old) }
+    requires can { CanDeal S.Folder.has S.Folder.Shelf.kept (S.has store.old) sheets.items library.old crew.old.passes.items crew.old.jobs.items crew.old.parcels.items }
+    ensures out { OutAre library.new.each (S.out store.new) }
     ensures goes { (rules : List Rule) (given : List Pair) (p q : Position) (start : Option Holdings) (all waiting : List Stored) → p.split.fed ≤ 68719476736 → Placed rules given p sheets.items q
-        → Going S.Folder.has S.Folder.Shelf.kept start (S.has store.old) all waiting opener.old.library crew.old.passes.items crew.old.jobs.items crew.old.parcels.items p
-        → GoesOn S.Folder.has S.Folder.Shelf.kept rules given p q start (S.has store.new) (all ++ waiting) opener.new.library crew.new.passes.items crew.new.jobs.items crew.new.parcels.items result }
-    ensures known { All (IsKnown names.old.texts.items) sheets.items → AreOpened names.old.texts.items (names_of opener.old.library.each) → IfErr result (λ e. is_calm e ≡ false) }
-    ensures notes { OnOk result (Notes names.old.texts.items names.new.texts.items (names_of opener.old.library.each) (names_of opener.new.library.each)) }
+        → Going S.Folder.has S.Folder.Shelf.kept start (S.has store.old) all waiting library.old crew.old.passes.items crew.old.jobs.items crew.old.parcels.items p
+        → GoesOn S.Folder.has S.Folder.Shelf.kept rules given p q start (S.has store.new) (all ++ waiting) library.new crew.new.passes.items crew.new.jobs.items crew.new.parcels.items result }
+    ensures known { All (IsKnown names.old.texts.items) sheets.items → AreOpened names.old.texts.items (names_of library.old.each) → IfErr result (λ e. is_calm e ≡ false) }
+    ensures notes { OnOk result (Notes names.old.texts.items names.new.texts.items (names_of library.old.each) (names_of library.new.each)) }
     ensures jobs { length crew.new.jobs.items ≡ length crew.old.jobs.items }
     ensures cause { IfErr result (λ e. OnStore e (Rose (S.faults store.old) (S.faults store.new))) }
     ensures told { is_some (S.has store.new) ≡ is_some (S.has store.old) }
     ensures later { S.faults store.old ≤ S.faults store.new }
 {
     for sheet in sheets {
-        deal_sheet(alloc, sheet, names, crew, opener, store)?;
+        deal_sheet(alloc, sheet, names, crew, library, store)?;
     }
     Ok(())
 }
@@ -169,16 +169,16 @@ impl<G: Gate, R: Threads + Wait + Sync> Terms<'_, G, R> {
         reader: &mut Reader,
         are_enough: bool,
         crew: &mut Crew<F, S>,
-        opener: &Opener<F, S>,
+        library: &Library<F, S>,
         store: &mut S,
     ) -> Result<Batch<X>, BulkFault<X>>
     where
         requires schema { IsSchema self.now.schema.now }
-        requires can { CanGo S.Folder.has S.Folder.Shelf.kept (S.has store.old) opener.now.library crew.old.passes.items crew.old.jobs.items crew.old.parcels.items reader.old }
+        requires can { CanGo S.Folder.has S.Folder.Shelf.kept (S.has store.old) library.now crew.old.passes.items crew.old.jobs.items crew.old.parcels.items reader.old }
         requires few { reader.old.split.fed ≤ 68719476736 }
         ensures goes { (rules : List Rule) (given : List Pair) (p : Position) (start : Option Holdings) (all waiting : List Stored) → p.split.fed ≤ 68719476736
-            → Going S.Folder.has S.Folder.Shelf.kept start (S.has store.old) all waiting opener.now.library crew.old.passes.items crew.old.jobs.items crew.old.parcels.items p
-            → GoesOn S.Folder.has S.Folder.Shelf.kept rules given p p start (S.has store.new) (all ++ waiting) opener.now.library crew.new.passes.items crew.new.jobs.items crew.new.parcels.items result }
+            → Going S.Folder.has S.Folder.Shelf.kept start (S.has store.old) all waiting library.now crew.old.passes.items crew.old.jobs.items crew.old.parcels.items p
+            → GoesOn S.Folder.has S.Folder.Shelf.kept rules given p p start (S.has store.new) (all ++ waiting) library.now crew.new.passes.items crew.new.jobs.items crew.new.parcels.items result }
         ensures reads { IfOk result (ReadOn self.now.schema.now self.now.given.now names.now.texts.items reader.old reader.new (I.left input.old) (I.left input.new) (I.faults input.old) (I.faults input.new)) }
         ensures stopped { IfErr result (λ e. is_calm e ≡ false) }
         ensures jobs { length crew.new.jobs.items ≡ length crew.old.jobs.items }
@@ -196,7 +196,7 @@ impl<G: Gate, R: Threads + Wait + Sync> Terms<'_, G, R> {
                 self.schema,
                 names,
                 reader,
-                opener,
+                library,
                 store,
                 self.gate,
             )
@@ -223,29 +223,29 @@ impl<G: Gate, R: Threads + Wait + Sync> Terms<'_, G, R> {
         reader: &mut Reader,
         are_enough: bool,
         crew: &mut Crew<F, S>,
-        opener: &mut Opener<F, S>,
+        library: &mut Library<F, S>,
         store: &mut S,
     ) -> Result<Reach, BulkFault<X>>
     where
         requires schema { IsSchema self.now.schema.now }
-        requires out { OutAre opener.old.library.each (S.out store.old) }
-        requires can { CanGo S.Folder.has S.Folder.Shelf.kept (S.has store.old) opener.old.library crew.old.passes.items crew.old.jobs.items crew.old.parcels.items reader.old }
+        requires out { OutAre library.old.each (S.out store.old) }
+        requires can { CanGo S.Folder.has S.Folder.Shelf.kept (S.has store.old) library.old crew.old.passes.items crew.old.jobs.items crew.old.parcels.items reader.old }
         requires few { reader.old.split.fed ≤ 68719476736 }
-        requires opened { AreOpened names.old.texts.items (names_of opener.old.library.each) }
-        ensures out { OutAre opener.new.library.each (S.out store.new) }
-        ensures deals { (left : Option (List ℕ)) (start : Option Holdings) → Midway S.Folder.has S.Folder.Shelf.kept self.now.schema.now self.now.given.now left (I.left input.old) start (S.has store.old) opener.old.library crew.old.passes.items crew.old.jobs.items crew.old.parcels.items reader.old
-            → BatchEnds S.Folder.has S.Folder.Shelf.kept self.now.schema.now self.now.given.now left (I.left input.new) start (S.has store.new) opener.new.library crew.new.passes.items crew.new.jobs.items crew.new.parcels.items reader.old reader.new result }
-        ensures opened { OnOk result (AreOpened names.new.texts.items (names_of opener.new.library.each)) }
+        requires opened { AreOpened names.old.texts.items (names_of library.old.each) }
+        ensures out { OutAre library.new.each (S.out store.new) }
+        ensures deals { (left : Option (List ℕ)) (start : Option Holdings) → Midway S.Folder.has S.Folder.Shelf.kept self.now.schema.now self.now.given.now left (I.left input.old) start (S.has store.old) library.old crew.old.passes.items crew.old.jobs.items crew.old.parcels.items reader.old
+            → BatchEnds S.Folder.has S.Folder.Shelf.kept self.now.schema.now self.now.given.now left (I.left input.new) start (S.has store.new) library.new crew.new.passes.items crew.new.jobs.items crew.new.parcels.items reader.old reader.new result }
+        ensures opened { OnOk result (AreOpened names.new.texts.items (names_of library.new.each)) }
         ensures causes { HasCauses (I.faults input.old) (I.faults input.new) (S.faults store.old) (S.faults store.new) result }
         ensures jobs { length crew.new.jobs.items ≡ length crew.old.jobs.items }
         ensures told { is_some (S.has store.new) ≡ is_some (S.has store.old) }
     {
-        let batch = match self.read_batch(input, names, reader, are_enough, crew, opener, store) {
+        let batch = match self.read_batch(input, names, reader, are_enough, crew, library, store) {
             Ok(batch) => batch,
             Err(fault) => return Err(fault),
         };
         let Batch { sheets, end } = batch;
-        match deal_sheets(self.alloc, sheets, names, crew, opener, store) {
+        match deal_sheets(self.alloc, sheets, names, crew, library, store) {
             Ok(()) => {}
             Err(fault) => return Err(fault),
         }
@@ -263,17 +263,17 @@ impl<G: Gate, R: Threads + Wait + Sync> Terms<'_, G, R> {
         names: &mut Names,
         reader: &mut Reader,
         crew: &mut Crew<F, S>,
-        opener: &mut Opener<F, S>,
+        library: &mut Library<F, S>,
         store: &mut S,
     ) -> Result<(), BulkFault<X>>
     where
         requires schema { IsSchema self.now.schema.now }
         requires unread { reader.old ≡ at_message nothing_read 0 }
         requires unopened { names.old.texts.items ≡ [] }
-        requires out { OutAre opener.old.library.each (S.out store.old) }
-        requires begun { Deals S.Folder.has S.Folder.Shelf.kept (S.has store.old) (S.has store.old) [] [] [] opener.old.library crew.old.passes.items crew.old.jobs.items crew.old.parcels.items }
-        ensures out { OutAre opener.new.library.each (S.out store.new) }
-        ensures deals { AllDealt S.Folder.has S.Folder.Shelf.kept self.now.schema.now self.now.given.now (I.left input.old) (I.left input.new) (S.has store.old) (S.has store.new) opener.new.library crew.new.passes.items crew.new.jobs.items crew.new.parcels.items reader.new result }
+        requires out { OutAre library.old.each (S.out store.old) }
+        requires begun { Deals S.Folder.has S.Folder.Shelf.kept (S.has store.old) (S.has store.old) [] [] [] library.old crew.old.passes.items crew.old.jobs.items crew.old.parcels.items }
+        ensures out { OutAre library.new.each (S.out store.new) }
+        ensures deals { AllDealt S.Folder.has S.Folder.Shelf.kept self.now.schema.now self.now.given.now (I.left input.old) (I.left input.new) (S.has store.old) (S.has store.new) library.new crew.new.passes.items crew.new.jobs.items crew.new.parcels.items reader.new result }
         ensures causes { HasCauses (I.faults input.old) (I.faults input.new) (S.faults store.old) (S.faults store.new) result }
         ensures jobs { length crew.new.jobs.items ≡ length crew.old.jobs.items }
         ensures told { is_some (S.has store.new) ≡ is_some (S.has store.old) }
@@ -281,7 +281,7 @@ impl<G: Gate, R: Threads + Wait + Sync> Terms<'_, G, R> {
         let mut are_enough = false;
         for _ in 0..u64::MAX {
             let reach = match self.deal_batch(
-                input, names, reader, are_enough, crew, opener, store,
+                input, names, reader, are_enough, crew, library, store,
             ) {
                 Ok(reach) => reach,
                 Err(fault) => return Err(fault),
@@ -299,15 +299,15 @@ impl<G: Gate, R: Threads + Wait + Sync> Terms<'_, G, R> {
         &self,
         input: &mut I,
         crew: &mut Crew<F, S>,
-        opener: &mut Opener<F, S>,
+        library: &mut Library<F, S>,
         store: &mut S,
     ) -> Result<Counts, BulkFault<X>>
     where
         requires schema { IsSchema self.now.schema.now }
-        requires out { OutAre opener.old.library.each (S.out store.old) }
-        requires begun { Deals S.Folder.has S.Folder.Shelf.kept (S.has store.old) (S.has store.old) [] [] [] opener.old.library crew.old.passes.items crew.old.jobs.items crew.old.parcels.items }
-        ensures out { OutAre opener.new.library.each (S.out store.new) }
-        ensures deals { InputDealt S.Folder.has S.Folder.Shelf.kept self.now.schema.now self.now.given.now (I.left input.old) (I.left input.new) (S.has store.old) (S.has store.new) opener.new.library crew.new.passes.items crew.new.jobs.items crew.new.parcels.items result }
+        requires out { OutAre library.old.each (S.out store.old) }
+        requires begun { Deals S.Folder.has S.Folder.Shelf.kept (S.has store.old) (S.has store.old) [] [] [] library.old crew.old.passes.items crew.old.jobs.items crew.old.parcels.items }
+        ensures out { OutAre library.new.each (S.out store.new) }
+        ensures deals { InputDealt S.Folder.has S.Folder.Shelf.kept self.now.schema.now self.now.given.now (I.left input.old) (I.left input.new) (S.has store.old) (S.has store.new) library.new crew.new.passes.items crew.new.jobs.items crew.new.parcels.items result }
         ensures to_end { IfSome (I.left input.old) (λ octets. OnOk result (I.left input.new ≡ Some [])) }
         ensures causes { HasCauses (I.faults input.old) (I.faults input.new) (S.faults store.old) (S.faults store.new) result }
         ensures jobs { length crew.new.jobs.items ≡ length crew.old.jobs.items }
@@ -317,7 +317,7 @@ impl<G: Gate, R: Threads + Wait + Sync> Terms<'_, G, R> {
             return Err(BulkFault::NoMemory);
         };
         let mut names = Names::new(self.alloc);
-        match self.deal_all(input, &mut names, &mut reader, crew, opener, store) {
+        match self.deal_all(input, &mut names, &mut reader, crew, library, store) {
             Ok(()) => end_of(reader),
             Err(fault) => Err(fault),
         }
@@ -328,13 +328,13 @@ impl<G: Gate, R: Threads + Wait + Sync> Terms<'_, G, R> {
         &self,
         found: Result<Counts, BulkFault<X>>,
         crew: &mut Crew<F, S>,
-        opener: &Opener<F, S>,
+        library: &Library<F, S>,
         store: &mut S,
     ) -> Result<Counts, BulkFault<X>>
     where
-        requires dealt { WasDealt S.Folder.has S.Folder.Shelf.kept (S.has store.old) opener.now.library crew.old.passes.items crew.old.jobs.items crew.old.parcels.items found }
-        ensures stores { (rules : List Rule) (given : List Pair) (left after : Option (List ℕ)) (start : Option Holdings) → InputDealt S.Folder.has S.Folder.Shelf.kept rules given left after start (S.has store.old) opener.now.library crew.old.passes.items crew.old.jobs.items crew.old.parcels.items found
-            → InputEnds S.Folder.has S.Folder.Shelf.kept rules given left after start (S.has store.new) opener.now.library crew.new.passes.items crew.new.jobs.items (Running S.Folder.Shelf.kept) result }
+        requires dealt { WasDealt S.Folder.has S.Folder.Shelf.kept (S.has store.old) library.now crew.old.passes.items crew.old.jobs.items crew.old.parcels.items found }
+        ensures stores { (rules : List Rule) (given : List Pair) (left after : Option (List ℕ)) (start : Option Holdings) → InputDealt S.Folder.has S.Folder.Shelf.kept rules given left after start (S.has store.old) library.now crew.old.passes.items crew.old.jobs.items crew.old.parcels.items found
+            → InputEnds S.Folder.has S.Folder.Shelf.kept rules given left after start (S.has store.new) library.now crew.new.passes.items crew.new.jobs.items (Running S.Folder.Shelf.kept) result }
         ensures stands { StandsOr (S.faults store.old) (S.faults store.new) found result }
         ensures jobs { length crew.new.jobs.items ≡ length crew.old.jobs.items }
         ensures has { S.has store.new ≡ S.has store.old }
@@ -343,7 +343,7 @@ impl<G: Gate, R: Threads + Wait + Sync> Terms<'_, G, R> {
         if crew.is_empty() {
             return found;
         }
-        match crew.run(self.rt, self.alloc, opener, store, self.gate) {
+        match crew.run(self.rt, self.alloc, library, store, self.gate) {
             Ok(()) => found,
             Err(fault) => Err(fault),
         }
@@ -354,13 +354,13 @@ impl<G: Gate, R: Threads + Wait + Sync> Terms<'_, G, R> {
         &self,
         found: Result<Counts, BulkFault<X>>,
         crew: &mut Crew<F, S>,
-        opener: &Opener<F, S>,
+        library: &Library<F, S>,
         store: &mut S,
     ) -> Result<Counts, BulkFault<X>>
     where
-        requires stored { WasStored S.Folder.has S.Folder.Shelf.kept (S.has store.old) opener.now.library crew.old.passes.items crew.old.jobs.items found }
-        ensures lists { (rules : List Rule) (given : List Pair) (left after : Option (List ℕ)) (start : Option Holdings) → InputEnds S.Folder.has S.Folder.Shelf.kept rules given left after start (S.has store.old) opener.now.library crew.old.passes.items crew.old.jobs.items (Running S.Folder.Shelf.kept) found
-            → InputEnds S.Folder.has S.Folder.Shelf.kept rules given left after start (S.has store.new) opener.now.library crew.new.passes.items crew.new.jobs.items (Finished S.Folder.Shelf.kept) result }
+        requires stored { WasStored S.Folder.has S.Folder.Shelf.kept (S.has store.old) library.now crew.old.passes.items crew.old.jobs.items found }
+        ensures lists { (rules : List Rule) (given : List Pair) (left after : Option (List ℕ)) (start : Option Holdings) → InputEnds S.Folder.has S.Folder.Shelf.kept rules given left after start (S.has store.old) library.now crew.old.passes.items crew.old.jobs.items (Running S.Folder.Shelf.kept) found
+            → InputEnds S.Folder.has S.Folder.Shelf.kept rules given left after start (S.has store.new) library.now crew.new.passes.items crew.new.jobs.items (Finished S.Folder.Shelf.kept) result }
         ensures stands { StandsOr (S.faults store.old) (S.faults store.new) found result }
         ensures jobs { length crew.new.jobs.items ≡ length crew.old.jobs.items }
         ensures has { S.has store.new ≡ S.has store.old }
@@ -369,7 +369,7 @@ impl<G: Gate, R: Threads + Wait + Sync> Terms<'_, G, R> {
         if !is_listed(&found) {
             return found;
         }
-        match crew.list_all(self.rt, self.alloc, opener, store) {
+        match crew.list_all(self.rt, self.alloc, library, store) {
             Ok(()) => found,
             Err(fault) => Err(fault),
         }

@@ -1,35 +1,22 @@
 -- What is open after an opening, whatever the answer.
-use Rattle.std.proofs.Common.{◌≡◌, ◌⊎◌, ◌≤◌, ◌<◌, ℕ, Bool, true, false, List, [], ◌∷◌, ◌++◌, length, sym, refl, ap, ◌∙◌, subst, Option, Some, None, IfSome, Result, Ok, Err, IfOk, OnErr, MatchOption, arith}
+use Rattle.std.proofs.Common.{◌≡◌, ◌⊎◌, ◌<◌, ℕ, Bool, true, false, List, length, sym, refl, ap, ◌∙◌, subst, Option, Some, None, IfSome, Result, Ok, Err, IfOk, OnErr, MatchOption}
 use Rattle.fd_disk.specs.Folders.{Contents, Holdings}
-use Rattle.fd_turn.specs.Passes.{BoardId}
 use Rattle.fd_library.specs.Calls.{Leaves, Opens}
-use Rattle.fd_library.specs.Open.{AreDistinct, AreSeated, OpenDataset, OpenDatasets, OutAre, Seated, among, names_of}
+use Rattle.fd_library.specs.Open.{AreOpen, OpenDataset, OpenDatasets, OutAre, Seated, among, names_of}
 use Rattle.fd_library.proofs.Named.{added, outside_more}
 
-module _ {D : Type 0} where
-  abbrev IsSound : OpenDatasets D → Type 0
-  IsSound v = length v.each ≤ 2048 × AreDistinct (names_of v.each) × AreSeated v.boards v.each
-
-  sound_same : (old new : OpenDatasets D) → new ≡ old → length old.each < 2048 → AreDistinct (names_of old.each) → AreSeated old.boards old.each → IsSound new
-  sound_same old new is few distinct seated = subst IsSound (sym is) (omega (arith, few), distinct, seated)
-
-  sound_more : (old new : OpenDatasets D) (b : BoardId) (h : OpenDataset D) → new.boards ≡ old.boards ++ b ∷ [] → new.each ≡ old.each ++ h ∷ [] → IsSound (record { boards = old.boards ++ b ∷ []; each = old.each ++ h ∷ [] }) → IsSound new
-  sound_more old new b h boards each all =
-      subst (λ (hs : List (OpenDataset D)). length hs ≤ 2048 × AreDistinct (names_of hs) × AreSeated new.boards hs) (sym each)
-      (subst (λ (bs : List BoardId). length (old.each ++ h ∷ []) ≤ 2048 × AreDistinct (names_of (old.each ++ h ∷ [])) × AreSeated bs (old.each ++ h ∷ [])) (sym boards) all)
-
 module _ {D E : Type 0} (has : D → Option Contents) (name : List ℕ) (old new : OpenDatasets D) (before after : Option Holdings) where
-  -- the library's invariant holds
+  -- the datasets are open as before
   pub sound_either : (r : Result (Option ℕ) E) → IfOk r (λ o. IfSome o (λ n. Opens has n name old new before after)) → IfOk r (λ o. o ≡ None → Leaves name old new before after) → OnErr r (Leaves name old new before after)
-      → length old.each < 2048 → AreDistinct (names_of old.each) → AreSeated old.boards old.each → among name (names_of old.each) ≡ false → length new.each ≤ 2048 × AreDistinct (names_of new.each) × AreSeated new.boards new.each
-  sound_either (Ok None) opens leaves refused few distinct seated beside = sound_same old new (leaves refl).library few distinct seated
-  sound_either (Ok (Some n)) opens leaves refused few distinct seated beside =
+      → AreOpen old → length old.each < 2048 → among name (names_of old.each) ≡ false → AreOpen new
+  sound_either (Ok None) opens leaves refused all few beside = subst AreOpen (sym (leaves refl).library) all
+  sound_either (Ok (Some n)) opens leaves refused all few beside =
       let b = opens.board in
       let h = opens.held in
       let other : among h.name (names_of old.each) ≡ false = ap (λ (m : List ℕ). among m (names_of old.each)) opens.opened.name_is ∙ beside in
       let own : IfSome h.pass (λ p. p.board ≡ b) = subst (λ (q : Option Seated). IfSome q (λ p. p.board ≡ b)) (sym opens.opened.pass) refl in
-      sound_more old new b h opens.adds.boards opens.adds.each (added old.boards old.each b h few distinct seated other own)
-  sound_either (Err e) opens leaves refused few distinct seated beside = sound_same old new refused.library few distinct seated
+      added old new b h all opens.adds few other own
+  sound_either (Err e) opens leaves refused all few beside = subst AreOpen (sym refused.library) all
 
   -- the folders that are out are those of open datasets
   pub out_either : (r : Result (Option ℕ) E) (was is : List ℕ → Bool) → IfOk r (λ o. IfSome o (λ n. Opens has n name old new before after)) → IfOk r (λ o. o ≡ None → Leaves name old new before after) → OnErr r (Leaves name old new before after)

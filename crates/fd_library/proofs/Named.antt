@@ -12,7 +12,9 @@ use Rattle.std.proofs.lemmas.List.Elements.{All-more, All-weaker}
 use Rattle.fd_entries.specs.declared.table.Entry.{Entry}
 use Rattle.fd_entries.specs.Table.{AllFit, greatest_writer}
 use Rattle.fd_library.specs.Answers.{greatest_listed}
-use Rattle.fd_library.specs.Open.{OpenDataset, OutAre, Seated, among, names_of, AreDistinct, AreSeated}
+use Rattle.fd_library.specs.Calls.{Adds}
+use Rattle.fd_library.specs.Open.{AreOpen, OpenDataset, OpenDatasets, OutAre, Seated, among, names_of, AreDistinct, AreSeated}
+use Rattle.fd_library.specs.Parts.{both}
 
 pub among_push : (n : List ℕ) (ms : List (List ℕ)) (m : List ℕ) → among n ms ≡ false → bytes_eq n m ≡ false → among n (ms ++ m ∷ []) ≡ false
 among_push n [] m out other = ap (λ (b : Bool). b || false) other
@@ -180,14 +182,16 @@ module _ {D : Type 0} where
   is_at (x ∷ hs) zero d within = refl
   is_at (x ∷ hs) (suc i) d within = is_at hs i d (omega (arith, within))
 
-  -- the library's invariant, where one dataset changes
-  pub changed : (bs : List BoardId) (hs : List (OpenDataset D)) (i : ℕ) (h g : OpenDataset D) → length hs ≤ 2048 × AreDistinct (names_of hs) × AreSeated bs hs → slice_get hs i ≡ Some h → g.name ≡ h.name → IfSome (slice_get bs i) (λ b. IfSome g.pass (λ p. p.board ≡ b))
-      → length (slice_set hs i g) ≤ 2048 × AreDistinct (names_of (slice_set hs i g)) × AreSeated bs (slice_set hs i g)
-  changed bs hs i h g all at same seated = (
-    omega (arith, all.0, length-set hs i g),
-    subst AreDistinct (sym (names_set hs i h g at same)) all.1,
-    seated_set bs hs i g all.2 seated,
-  )
+  -- the datasets are open as before, where one of them changes
+  pub changed : (bs : List BoardId) (hs : List (OpenDataset D)) (i : ℕ) (h g : OpenDataset D) → AreOpen (both bs hs) → slice_get hs i ≡ Some h → g.name ≡ h.name → IfSome (slice_get bs i) (λ b. IfSome g.pass (λ p. p.board ≡ b)) → AreOpen (both bs (slice_set hs i g))
+  changed bs hs i h g all at same seated =
+      let few : length hs ≤ 2048 = all.few in
+      let few_now : length (slice_set hs i g) ≤ 2048 = omega (arith, few, length-set hs i g) in
+      record {
+        few = few_now;
+        distinct = subst AreDistinct (sym (names_set hs i h g at same)) all.distinct;
+        seated = seated_set bs hs i g all.seated seated;
+      }
 
   pub none_seated : (o : Option BoardId) (g : OpenDataset D) → g.pass ≡ None → IfSome o (λ b. IfSome g.pass (λ p. p.board ≡ b))
   none_seated None g is = tt
@@ -211,13 +215,12 @@ module _ {D : Type 0} where
   new_seated (Some b) g p is all = subst (λ (q : Option Seated). IfSome q (λ p. p.board ≡ b)) (sym is) all
 
   -- one dataset more
-  pub added : (bs : List BoardId) (hs : List (OpenDataset D)) (b : BoardId) (h : OpenDataset D) → length hs < 2048 → AreDistinct (names_of hs) → AreSeated bs hs → among h.name (names_of hs) ≡ false → IfSome h.pass (λ p. p.board ≡ b)
-      → length (hs ++ h ∷ []) ≤ 2048 × AreDistinct (names_of (hs ++ h ∷ [])) × AreSeated (bs ++ b ∷ []) (hs ++ h ∷ [])
-  added bs hs b h few distinct seated new own = (
-    omega (arith, few, length_push hs h),
-    subst AreDistinct (sym (names_push hs h)) (distinct_push (names_of hs) h.name distinct new),
-    seated_push bs hs b h seated own,
-  )
+  pub added : (old new : OpenDatasets D) (b : BoardId) (h : OpenDataset D) → AreOpen old → Adds old new b h → length old.each < 2048 → among h.name (names_of old.each) ≡ false → IfSome h.pass (λ p. p.board ≡ b) → AreOpen new
+  added old new b h all adds few out own = record {
+    few = let long = ap length adds.each ∙ length_push old.each h in omega (arith, few, long);
+    distinct = subst AreDistinct (sym (ap names_of adds.each ∙ names_push old.each h)) (distinct_push (names_of old.each) h.name all.distinct out);
+    seated = subst (λ (bs : List BoardId). AreSeated bs new.each) (sym adds.boards) (subst (AreSeated (old.boards ++ b ∷ [])) (sym adds.each) (seated_push old.boards old.each b h all.seated own));
+  }
 
 pub same_text : (n m : List ℕ) → true ≡ bytes_eq n m → m ≡ n
 same_text n m is = sym ((bytes_eq-Decides n m).0 (sym is))

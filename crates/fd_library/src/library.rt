@@ -4,7 +4,7 @@ ghost use Rattle.fd_disk.specs.{Causes.{OnFault}, Folders.{SameBut, WhereTold, f
 ghost use Rattle.fd_entries.specs.{declared.table.Entry.{Entry}, Table.{listed}};
 ghost use Rattle.fd_turn.specs.Passes.{IsOf};
 ghost use Rattle.fd_recovery.specs.{Causes.{OnDamaged, OnDisk, OnNotATable}, Damages.{IsFirst, damages}, Recovered.{IsUndamaged, WithTable}};
-ghost use Rattle.fd_library.specs.{Answers.{FolderFailed, IsWanted, TableBrokeIn, TooManyAt}, Calls.{AsksWriter, Changes, IsNewWriter, Leaves, Opens, ShelfFailed, TakesWriter}, Open.{IsWhole, OpenDataset, OutAre, among, names_of, seat_of}, Parts.{both}, Stores.{GivesBack, IsGivenBack, IsSettled, LooksInto, held_of, held_with}};
+ghost use Rattle.fd_library.specs.{Answers.{FolderFailed, IsWanted, TableBrokeIn, TooManyAt}, Calls.{AsksWriter, Changes, IsNewWriter, Leaves, Opens, ShelfFailed, TakesWriter}, Open.{AreOpen, IsWhole, OpenDataset, OutAre, among, names_of, seat_of}, Parts.{both}, Stores.{GivesBack, IsGivenBack, IsSettled, LooksInto, held_of, held_with}};
 
 use crate::held::{FolderDataset, FolderPass, Held};
 use crate::opening::{has_table, opened};
@@ -30,14 +30,14 @@ pub struct Library<F: Send, S: Store<F>> {
 }
 
 impl<F: Send, S: Store<F>> Model for Library<F, S> {
-    ghost use Rattle.std.specs.Prelude.{◌≤◌, length};
-    ghost use Rattle.fd_library.specs.Open.{AreDistinct, AreSeated, OpenDatasets, names_of};
+    ghost use Rattle.fd_library.specs.Open.{AreOpen, OpenDatasets};
+    ghost use Rattle.fd_library.specs.Parts.{both};
 
     ghost Value = { OpenDatasets S.Folder };
 
-    ghost view = { λ l. record { boards = l.datasets.items; each = l.held.items } };
+    ghost view = { λ l. both l.datasets.items l.held.items };
 
-    ghost invariant = { λ l. (length l.held.items ≤ 2048) × AreDistinct (names_of l.held.items) × AreSeated l.datasets.items l.held.items };
+    ghost invariant = { λ l. AreOpen (both l.datasets.items l.held.items) };
 }
 
 impl<F: Send, S: Store<F>> Library<F, S> {
@@ -70,6 +70,7 @@ impl<F: Send, S: Store<F>> Library<F, S> {
     ) -> Result<Option<u32>, OpenFault<F>>
         requires short { make ≡ true → length name.now ≤ 255 }
         requires out { OutAre self.old.each (S.out store.old) }
+        ensures sound { AreOpen self.new }
         ensures number { IfOk result (λ o. IfSome o (λ n. (h : OpenDataset S.Folder) × (slice_get self.new.each n ≡ Some h) × (h.name ≡ name.now))) }
         ensures again { among name.now (names_of self.old.each) ≡ true → (self.new ≡ self.old) × (S.has store.new ≡ S.has store.old) × IfOk result (λ o. IsSome o) × OnErr result ⊥ }
         ensures opened { among name.now (names_of self.old.each) ≡ false → IfOk result (λ o. IfSome o (λ n. Opens S.Folder.has n name.now self.old self.new (S.has store.old) (S.has store.new))) }
@@ -105,6 +106,7 @@ impl<F: Send, S: Store<F>> Library<F, S> {
     /// Hands out the pass of a dataset, which isn't out: the one with which the dataset began, or which was put back last.
     pub fn seat(&mut self, number: u32) -> FolderPass<F, S::Folder>
         requires { (h : OpenDataset S.Folder) × (slice_get self.old.each number ≡ Some h) × IsSome h.pass }
+        ensures sound { AreOpen self.new }
         ensures own { IfSome (slice_get self.old.boards number) (λ b. IsOf b result) }
         ensures change { Changes number self.old self.new (λ h g. (h.pass ≡ Some (seat_of result)) × IsWhole h.name (seat_of result) × (g ≡ record h { pass = None })) }
     {
@@ -115,7 +117,8 @@ impl<F: Send, S: Store<F>> Library<F, S> {
     pub fn unseat(&mut self, number: u32, pass: FolderPass<F, S::Folder>)
         requires out { (h : OpenDataset S.Folder) × (slice_get self.old.each number ≡ Some h) × (h.pass ≡ None) × IsWhole h.name (seat_of pass) }
         requires own { IfSome (slice_get self.old.boards number) (λ b. IsOf b pass) }
-        ensures { Changes number self.old self.new (λ h g. g ≡ record h { pass = Some (seat_of pass) }) }
+        ensures sound { AreOpen self.new }
+        ensures change { Changes number self.old self.new (λ h g. g ≡ record h { pass = Some (seat_of pass) }) }
     {
         self.held[number as usize].unseat(pass);
     }
@@ -132,6 +135,7 @@ impl<F: Send, S: Store<F>> Library<F, S> {
         requires out { OutAre self.old.each (S.out store.old) }
         requires new { among name.now (names_of self.old.each) ≡ false }
         requires few { length self.old.each < 2048 }
+        ensures sound { AreOpen self.new }
         ensures opened { IfOk result (λ o. IfSome o (λ n. Opens S.Folder.has n name.now self.old self.new (S.has store.old) (S.has store.new))) }
         ensures left { IfOk result (λ o. o ≡ None → Leaves name.now self.old self.new (S.has store.old) (S.has store.new)) }
         ensures left_err { OnErr result (Leaves name.now self.old self.new (S.has store.old) (S.has store.new)) }
@@ -194,6 +198,7 @@ impl<F: Send, S: Store<F>> Library<F, S> {
         room: Room,
     ) -> Result<Archiver<F, <S::Folder as Folder<F>>::Shelf>, Down<F>>
         requires { (h : OpenDataset S.Folder) × (slice_get self.old.each number ≡ Some h) × (h.given < 65535) }
+        ensures sound { AreOpen self.new }
         ensures change { Changes number self.old self.new (AsksWriter S.Folder.has S.Folder.faults) }
         ensures new { IfOk result (λ a. Changes number self.old self.new (λ h g. IsNewWriter S.Folder.has room h a × (S.Folder.has g.folder ≡ S.Folder.has h.folder) × (g.lent ≡ h.lent + 1))) }
         ensures tells { IfOk result (λ a. is_some (S.Folder.Shelf.kept a.shelf) ≡ a.told) }
@@ -205,7 +210,8 @@ impl<F: Send, S: Store<F>> Library<F, S> {
     /// Takes a writer of a dataset back. The folder has the files that its shelf keeps from now on.
     pub fn take_back(&mut self, number: u32, archiver: Archiver<F, <S::Folder as Folder<F>>::Shelf>)
         requires { (h : OpenDataset S.Folder) × (slice_get self.old.each number ≡ Some h) × (archiver.dataset ≡ h.name) }
-        ensures { Changes number self.old self.new (TakesWriter S.Folder.has S.Folder.faults S.Folder.Shelf.kept archiver) }
+        ensures sound { AreOpen self.new }
+        ensures took { Changes number self.old self.new (TakesWriter S.Folder.has S.Folder.faults S.Folder.Shelf.kept archiver) }
     {
         self.held[number as usize].take_back(archiver);
     }

@@ -5,8 +5,8 @@ use Rattle.fd_bulk.proofs.Giving.{last_front}
 use Rattle.fd_bulk.proofs.Handed.{changes_none}
 use Rattle.fd_bulk.proofs.handing.hand_back.Goals as goal
 
-pub take_back-requires-clause-dataset : goal.take_back-requires-clause-dataset
-take_back-requires-clause-dataset g c κs within =
+pub take_back-requires-after_bounds : goal.take_back-requires-after_bounds
+take_back-requires-after_bounds g c κs within =
     let r = c.requires.can in
     let f = last_front c.args.job.now.desks.items c.pop.new.self.items c.in-Some-Some.field-0 c.args.number c.in-Some-Some.ensures.items r.long in
     let can = subst (CanHand r.board r.held.name) (ap desk_in f.1 ∙ c.in-Some-Some.field-0-is) r.can in
@@ -30,4 +30,4 @@ pub returns-in-Some-None-clause-hands : goal.returns-in-Some-None-clause-hands
 returns-in-Some-None-clause-hands g c =
     let r = c.requires.can in
     let f = last_front c.args.job.now.desks.items c.pop.new.self.items c.in-Some-None.field-0 c.args.number c.in-Some-None.ensures.items r.long in
-    changes_none c.args.number c.args.opener.now.library r.held _ r.held_at (subst (λ x. Hands g.S.Folder.Folder.has g.S.Folder.Folder.faults g.S.Folder.Shelf.Shelf.kept x r.held r.held (view c.args.pass.now) (view c.args.pass.now)) (sym (ap desk_in f.1 ∙ c.in-Some-None.field-0-is)) (refl, refl))
+    changes_none c.args.number c.args.library.now r.held _ r.held_at (subst (λ x. Hands g.S.Folder.Folder.has g.S.Folder.Folder.faults g.S.Folder.Shelf.Shelf.kept x r.held r.held (view c.args.pass.now) (view c.args.pass.now)) (sym (ap desk_in f.1 ∙ c.in-Some-None.field-0-is)) (refl, refl))

@@ -15,8 +15,8 @@ loop-sheet-init g c = record {
   told = refl;
   later = omega arith;
   jobs = refl;
-  notes = notes_none c.args.names.now.texts.items (names_of c.args.opener.now.library.each);
-  goes = λ rules given p q start all waiting few placed going. went_none g.S.Folder.Folder.has g.S.Folder.Shelf.Shelf.kept rules given p q start (g.S.Store.has c.args.store.now) all waiting c.args.sheets.items c.args.opener.now.library c.args.crew.now.passes.items c.args.crew.now.jobs.items c.args.crew.now.parcels.items few placed going;
+  notes = notes_none c.args.names.now.texts.items (names_of c.args.library.now.each);
+  goes = λ rules given p q start all waiting few placed going. went_none g.S.Folder.Folder.has g.S.Folder.Shelf.Shelf.kept rules given p q start (g.S.Store.has c.args.store.now) all waiting c.args.sheets.items c.args.library.now c.args.crew.now.passes.items c.args.crew.now.jobs.items c.args.crew.now.parcels.items few placed going;
 }
 
 pub deal_sheet-requires-clause-can : goal.deal_sheet-requires-clause-can
@@ -25,7 +25,7 @@ deal_sheet-requires-clause-can g c κs within =
     let is = next_of c.args.sheets.items c.loop-sheet.yielded c.in-Some.sheet t.0 t.1 in
     let r = c.requires.can in
     let w = c.loop-sheet.invariant.goes r.rules r.given r.from r.to r.start r.all r.waiting r.few r.placed r.going in
-    can_deal_next g.S.Folder.Folder.has g.S.Folder.Shelf.Shelf.kept r.rules r.given r.from r.to r.start (g.S.Store.has c.loop-sheet.store) (r.all ++ r.waiting) c.in-Some.sheet _ _ is c.loop-sheet.opener.library c.loop-sheet.crew.passes.items c.loop-sheet.crew.jobs.items c.loop-sheet.crew.parcels.items w
+    can_deal_next g.S.Folder.Folder.has g.S.Folder.Shelf.Shelf.kept r.rules r.given r.from r.to r.start (g.S.Store.has c.loop-sheet.store) (r.all ++ r.waiting) c.in-Some.sheet _ _ is c.loop-sheet.library c.loop-sheet.crew.passes.items c.loop-sheet.crew.jobs.items c.loop-sheet.crew.parcels.items w
 
 pub returns-in_err-deal_sheet-clause-goes : goal.returns-in_err-deal_sheet-clause-goes
 returns-in_err-deal_sheet-clause-goes g c =
@@ -34,9 +34,9 @@ returns-in_err-deal_sheet-clause-goes g c =
     let e : c.from_residual.result ≡ Err c.in_err-deal_sheet.field-0.0 = search rules in
     λ rules given p q start all waiting few placed going.
     let w = c.loop-sheet.invariant.goes rules given p q start all waiting few placed going in
-    let one = next_placed g.S.Folder.Folder.has g.S.Folder.Shelf.Shelf.kept rules given p q start (g.S.Store.has c.loop-sheet.store) (all ++ waiting) c.in-Some.sheet _ _ is c.loop-sheet.opener.library c.loop-sheet.crew.passes.items c.loop-sheet.crew.jobs.items c.loop-sheet.crew.parcels.items w in
-    let at = next_at g.S.Folder.Folder.has g.S.Folder.Shelf.Shelf.kept rules given p q start (g.S.Store.has c.loop-sheet.store) (all ++ waiting) c.in-Some.sheet _ _ is c.loop-sheet.opener.library c.loop-sheet.crew.passes.items c.loop-sheet.crew.jobs.items c.loop-sheet.crew.parcels.items w in
-    rw e (ended_next g.S.Folder.Folder.has g.S.Folder.Shelf.Shelf.kept rules given p q start (g.S.Store.has c.loop-sheet.store) (all ++ waiting) c.in-Some.sheet _ _ is c.loop-sheet.opener.library c.loop-sheet.crew.passes.items c.loop-sheet.crew.jobs.items c.loop-sheet.crew.parcels.items w (g.S.Store.has c.deal_sheet.new.store) c.deal_sheet.new.opener.library c.deal_sheet.new.crew.passes.items c.deal_sheet.new.crew.jobs.items c.deal_sheet.new.crew.parcels.items c.in_err-deal_sheet.field-0.0
+    let one = next_placed g.S.Folder.Folder.has g.S.Folder.Shelf.Shelf.kept rules given p q start (g.S.Store.has c.loop-sheet.store) (all ++ waiting) c.in-Some.sheet _ _ is c.loop-sheet.library c.loop-sheet.crew.passes.items c.loop-sheet.crew.jobs.items c.loop-sheet.crew.parcels.items w in
+    let at = next_at g.S.Folder.Folder.has g.S.Folder.Shelf.Shelf.kept rules given p q start (g.S.Store.has c.loop-sheet.store) (all ++ waiting) c.in-Some.sheet _ _ is c.loop-sheet.library c.loop-sheet.crew.passes.items c.loop-sheet.crew.jobs.items c.loop-sheet.crew.parcels.items w in
+    rw e (ended_next g.S.Folder.Folder.has g.S.Folder.Shelf.Shelf.kept rules given p q start (g.S.Store.has c.loop-sheet.store) (all ++ waiting) c.in-Some.sheet _ _ is c.loop-sheet.library c.loop-sheet.crew.passes.items c.loop-sheet.crew.jobs.items c.loop-sheet.crew.parcels.items w (g.S.Store.has c.deal_sheet.new.store) c.deal_sheet.new.library c.deal_sheet.new.crew.passes.items c.deal_sheet.new.crew.jobs.items c.deal_sheet.new.crew.parcels.items c.in_err-deal_sheet.field-0.0
     (c.in_err-deal_sheet.ensures.goes rules given w.middle at start w.went.all w.went.waiting w.few one w.went.going))
 
 pub returns-in_err-deal_sheet-clause-known : goal.returns-in_err-deal_sheet-clause-known
@@ -61,12 +61,12 @@ loop-sheet-preserved g c =
       told = n.told ∙ i.told;
       later = omega (arith, i.later, n.later);
       jobs = n.jobs ∙ i.jobs;
-      notes = notes_more c.args.names.now.texts.items c.loop-sheet.names.texts.items c.deal_sheet.new.names.texts.items (names_of c.args.opener.now.library.each) (names_of c.loop-sheet.opener.library.each) (names_of c.deal_sheet.new.opener.library.each) i.notes n.notes;
+      notes = notes_more c.args.names.now.texts.items c.loop-sheet.names.texts.items c.deal_sheet.new.names.texts.items (names_of c.args.library.now.each) (names_of c.loop-sheet.library.each) (names_of c.deal_sheet.new.library.each) i.notes n.notes;
       goes = λ rules given p q start all waiting few placed going.
           let w = i.goes rules given p q start all waiting few placed going in
-          let one = next_placed g.S.Folder.Folder.has g.S.Folder.Shelf.Shelf.kept rules given p q start (g.S.Store.has c.loop-sheet.store) (all ++ waiting) c.in-Some.sheet _ _ is c.loop-sheet.opener.library c.loop-sheet.crew.passes.items c.loop-sheet.crew.jobs.items c.loop-sheet.crew.parcels.items w in
-          let at = next_at g.S.Folder.Folder.has g.S.Folder.Shelf.Shelf.kept rules given p q start (g.S.Store.has c.loop-sheet.store) (all ++ waiting) c.in-Some.sheet _ _ is c.loop-sheet.opener.library c.loop-sheet.crew.passes.items c.loop-sheet.crew.jobs.items c.loop-sheet.crew.parcels.items w in
-          went_more g.S.Folder.Folder.has g.S.Folder.Shelf.Shelf.kept rules given p q start (g.S.Store.has c.loop-sheet.store) (all ++ waiting) c.in-Some.sheet _ _ is c.loop-sheet.opener.library c.loop-sheet.crew.passes.items c.loop-sheet.crew.jobs.items c.loop-sheet.crew.parcels.items w (g.S.Store.has c.deal_sheet.new.store) c.deal_sheet.new.opener.library c.deal_sheet.new.crew.passes.items c.deal_sheet.new.crew.jobs.items c.deal_sheet.new.crew.parcels.items
+          let one = next_placed g.S.Folder.Folder.has g.S.Folder.Shelf.Shelf.kept rules given p q start (g.S.Store.has c.loop-sheet.store) (all ++ waiting) c.in-Some.sheet _ _ is c.loop-sheet.library c.loop-sheet.crew.passes.items c.loop-sheet.crew.jobs.items c.loop-sheet.crew.parcels.items w in
+          let at = next_at g.S.Folder.Folder.has g.S.Folder.Shelf.Shelf.kept rules given p q start (g.S.Store.has c.loop-sheet.store) (all ++ waiting) c.in-Some.sheet _ _ is c.loop-sheet.library c.loop-sheet.crew.passes.items c.loop-sheet.crew.jobs.items c.loop-sheet.crew.parcels.items w in
+          went_more g.S.Folder.Folder.has g.S.Folder.Shelf.Shelf.kept rules given p q start (g.S.Store.has c.loop-sheet.store) (all ++ waiting) c.in-Some.sheet _ _ is c.loop-sheet.library c.loop-sheet.crew.passes.items c.loop-sheet.crew.jobs.items c.loop-sheet.crew.parcels.items w (g.S.Store.has c.deal_sheet.new.store) c.deal_sheet.new.library c.deal_sheet.new.crew.passes.items c.deal_sheet.new.crew.jobs.items c.deal_sheet.new.crew.parcels.items
           (n.goes rules given w.middle at start w.went.all w.went.waiting w.few one w.went.going);
     }
 
@@ -74,4 +74,4 @@ pub returns-clause-goes : goal.returns-clause-goes
 returns-clause-goes g c =
     let t = YieldsList-end (YieldsList-from_vec c.args.sheets.items (search rules) (search rules)) c.loop-sheet.yielded c.loop-sheet.sheet-iterator c.loop-sheet.yielded_by c.next.result c.next.new.self c.in-None.is c.next.ensures.steps in
     λ rules given p q start all waiting few placed going.
-    went_all g.S.Folder.Folder.has g.S.Folder.Shelf.Shelf.kept rules given p q start (g.S.Store.has c.loop-sheet.store) (all ++ waiting) _ c.loop-sheet.opener.library c.loop-sheet.crew.passes.items c.loop-sheet.crew.jobs.items c.loop-sheet.crew.parcels.items (none_of c.args.sheets.items c.loop-sheet.yielded t.1) (c.loop-sheet.invariant.goes rules given p q start all waiting few placed going)
+    went_all g.S.Folder.Folder.has g.S.Folder.Shelf.Shelf.kept rules given p q start (g.S.Store.has c.loop-sheet.store) (all ++ waiting) _ c.loop-sheet.library c.loop-sheet.crew.passes.items c.loop-sheet.crew.jobs.items c.loop-sheet.crew.parcels.items (none_of c.args.sheets.items c.loop-sheet.yielded t.1) (c.loop-sheet.invariant.goes rules given p q start all waiting few placed going)

@@ -14,12 +14,12 @@ unseat-requires-clause-own g c κs within = let r = c.requires.sole in subst (λ
 pub hand_back-requires-clause-sole : goal.hand_back-requires-clause-sole
 hand_back-requires-clause-sole g c κs within =
     let r = c.requires.sole in
-    (r.0, record r.1 { pass = Some (seat_of c.args.crew.pass) }, unseated c.args.library c.unseat.new.self r.0 r.1 c.args.crew.pass r.2 c.unseat.ensures, refl, r.6, r.7)
+    (r.0, record r.1 { pass = Some (seat_of c.args.crew.pass) }, unseated c.args.library c.unseat.new.self r.0 r.1 c.args.crew.pass r.2 c.unseat.ensures.change, refl, r.6, r.7)
 
 pub hand_back-requires-clause-out : goal.hand_back-requires-clause-out
 hand_back-requires-clause-out g c κs within =
     let r = c.requires.sole in
-    out_again c.args.library c.unseat.new.self r.0 r.0 r.1 (record r.1 { pass = Some (seat_of c.args.crew.pass) }) (g.S.Store.out c.args.store.now) r.2 (unseated c.args.library c.unseat.new.self r.0 r.1 c.args.crew.pass r.2 c.unseat.ensures) refl c.requires.out
+    out_again c.args.library c.unseat.new.self r.0 r.0 r.1 (record r.1 { pass = Some (seat_of c.args.crew.pass) }) (g.S.Store.out c.args.store.now) r.2 (unseated c.args.library c.unseat.new.self r.0 r.1 c.args.crew.pass r.2 c.unseat.ensures.change) refl c.requires.out
 
 pub returns-clause-back : goal.returns-clause-back
-returns-clause-back g c = λ b h s. c.hand_back.ensures.back b (record h { pass = Some (seat_of c.args.crew.pass) }) (unseated c.args.library c.unseat.new.self b h c.args.crew.pass s c.unseat.ensures)
+returns-clause-back g c = λ b h s. c.hand_back.ensures.back b (record h { pass = Some (seat_of c.args.crew.pass) }) (unseated c.args.library c.unseat.new.self b h c.args.crew.pass s c.unseat.ensures.change)

@@ -27,7 +27,7 @@ loop-archiver-preserved g c = λ b h s lent.
     let ws = c.pop.new.self.items in
     let w = c.in-Some.archiver in
     let popped : c.loop-archiver.archivers.items ≡ ws ++ w ∷ [] = search rules in
-    halfway_more g.S.Folder.Folder.has g.S.Folder.Shelf.Shelf.kept g.S.Folder.Folder.faults b h c.loop-archiver.library c.take_back.new.self c.args.archivers.items c.loop-archiver.archivers.items ws w popped (c.loop-archiver.invariant b h s lent) c.take_back.ensures
+    halfway_more g.S.Folder.Folder.has g.S.Folder.Shelf.Shelf.kept g.S.Folder.Folder.faults b h c.loop-archiver.library c.take_back.new.self c.args.archivers.items c.loop-archiver.archivers.items ws w popped (c.loop-archiver.invariant b h s lent) c.take_back.ensures.took
 
 pub give_back-requires-clause-seated : goal.give_back-requires-clause-seated
 give_back-requires-clause-seated g c κs within =

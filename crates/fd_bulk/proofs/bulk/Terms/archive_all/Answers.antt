@@ -9,7 +9,7 @@ use Rattle.fd_bulk.proofs.Standing.{causes_stand, end_stands}
 use Rattle.fd_bulk.proofs.bulk.Terms.archive_all.Goals as goal
 
 pub returns-in_default-clause-archived : goal.returns-in_default-clause-archived
-returns-in_default-clause-archived g c = starved_first _ g.S.Folder.Folder.has c.args.workers c.args.self.now.schema.now c.args.self.now.given.now (g.I.Source.left c.args.input.now) (g.I.Source.left c.args.input.now) (g.S.Store.has c.args.store.now) c.args.opener.now.library.each c.requires.none.0
+returns-in_default-clause-archived g c = starved_first _ g.S.Folder.Folder.has c.args.workers c.args.self.now.schema.now c.args.self.now.given.now (g.I.Source.left c.args.input.now) (g.I.Source.left c.args.input.now) (g.S.Store.has c.args.store.now) c.args.library.now.each c.requires.none.0
 
 pub returns-in_default-clause-spares : goal.returns-in_default-clause-spares
 returns-in_default-clause-spares g c = same_spared (g.S.Store.has c.args.store.now)
@@ -20,7 +20,7 @@ returns-in_default-clause-causes g c = record { calm = tt; read = tt; disk = tt;
 pub deal_input-dealt-requires-clause-begun : goal.deal_input-dealt-requires-clause-begun
 deal_input-dealt-requires-clause-begun g c κs within =
     let n = c.in-Ok.ensures in
-    deals_none g.S.Folder.Folder.has g.S.Folder.Shelf.Shelf.kept (g.S.Store.has c.args.store.now) c.args.workers c.args.opener.now.library c.in-Ok.crew.passes.items c.in-Ok.crew.jobs.items c.in-Ok.crew.parcels.items c.requires.workers.0 c.requires.workers.1 n.workers n.met_none n.none.0 n.none.1 c.requires.none.0 c.requires.none.1
+    deals_none g.S.Folder.Folder.has g.S.Folder.Shelf.Shelf.kept (g.S.Store.has c.args.store.now) c.args.workers c.args.library.now c.in-Ok.crew.passes.items c.in-Ok.crew.jobs.items c.in-Ok.crew.parcels.items c.requires.workers.0 c.requires.workers.1 n.workers n.met_none n.none.0 n.none.1 c.requires.none.0 c.requires.none.1
 
 pub store_dealt-stored-requires-clause-dealt : goal.store_dealt-stored-requires-clause-dealt
 store_dealt-stored-requires-clause-dealt g c κs within = record {
@@ -44,22 +44,22 @@ list_stored-found-requires-clause-stored g c κs within = record {
 
 pub overflow_cast-datasets : goal.overflow_cast-datasets
 overflow_cast-datasets g c =
-    let few = few_open g.S.Folder.Folder.has g.S.Folder.Shelf.Shelf.kept c.args.self.now.schema.now c.args.self.now.given.now (g.I.Source.left c.args.input.now) (g.I.Source.left c.deal_input-dealt.new.input) (g.S.Store.has c.args.store.now) (g.S.Store.has c.list_stored-found.new.store) c.deal_input-dealt.new.opener.library c.list_stored-found.new.crew.passes.items c.list_stored-found.new.crew.jobs.items c.list_stored-found.result (c.list_stored-found.ensures.lists c.args.self.now.schema.now c.args.self.now.given.now (g.I.Source.left c.args.input.now) (g.I.Source.left c.deal_input-dealt.new.input) (g.S.Store.has c.args.store.now) (c.store_dealt-stored.ensures.stores c.args.self.now.schema.now c.args.self.now.given.now (g.I.Source.left c.args.input.now) (g.I.Source.left c.deal_input-dealt.new.input) (g.S.Store.has c.args.store.now) c.deal_input-dealt.ensures.deals)) in
-    let is : length c.datasets.result.now ≡ length c.deal_input-dealt.new.opener.library.boards = ap length c.datasets.ensures in
+    let few = few_open g.S.Folder.Folder.has g.S.Folder.Shelf.Shelf.kept c.args.self.now.schema.now c.args.self.now.given.now (g.I.Source.left c.args.input.now) (g.I.Source.left c.deal_input-dealt.new.input) (g.S.Store.has c.args.store.now) (g.S.Store.has c.list_stored-found.new.store) c.deal_input-dealt.new.library c.list_stored-found.new.crew.passes.items c.list_stored-found.new.crew.jobs.items c.list_stored-found.result (c.list_stored-found.ensures.lists c.args.self.now.schema.now c.args.self.now.given.now (g.I.Source.left c.args.input.now) (g.I.Source.left c.deal_input-dealt.new.input) (g.S.Store.has c.args.store.now) (c.store_dealt-stored.ensures.stores c.args.self.now.schema.now c.args.self.now.given.now (g.I.Source.left c.args.input.now) (g.I.Source.left c.deal_input-dealt.new.input) (g.S.Store.has c.args.store.now) c.deal_input-dealt.ensures.deals)) in
+    let is : length c.datasets.result.now ≡ length c.deal_input-dealt.new.library.boards = ap length c.datasets.ensures in
     search (rules, few, is)
 
 pub end-requires-clause-can : goal.end-requires-clause-can
-end-requires-clause-can g c κs within = can_end g.S.Folder.Folder.has g.S.Folder.Shelf.Shelf.kept c.args.self.now.schema.now c.args.self.now.given.now (g.I.Source.left c.args.input.now) (g.I.Source.left c.deal_input-dealt.new.input) (g.S.Store.has c.args.store.now) (g.S.Store.has c.list_stored-found.new.store) c.deal_input-dealt.new.opener.library c.list_stored-found.new.crew.passes.items c.list_stored-found.new.crew.jobs.items c.list_stored-found.result (c.list_stored-found.ensures.lists c.args.self.now.schema.now c.args.self.now.given.now (g.I.Source.left c.args.input.now) (g.I.Source.left c.deal_input-dealt.new.input) (g.S.Store.has c.args.store.now) (c.store_dealt-stored.ensures.stores c.args.self.now.schema.now c.args.self.now.given.now (g.I.Source.left c.args.input.now) (g.I.Source.left c.deal_input-dealt.new.input) (g.S.Store.has c.args.store.now) c.deal_input-dealt.ensures.deals))
+end-requires-clause-can g c κs within = can_end g.S.Folder.Folder.has g.S.Folder.Shelf.Shelf.kept c.args.self.now.schema.now c.args.self.now.given.now (g.I.Source.left c.args.input.now) (g.I.Source.left c.deal_input-dealt.new.input) (g.S.Store.has c.args.store.now) (g.S.Store.has c.list_stored-found.new.store) c.deal_input-dealt.new.library c.list_stored-found.new.crew.passes.items c.list_stored-found.new.crew.jobs.items c.list_stored-found.result (c.list_stored-found.ensures.lists c.args.self.now.schema.now c.args.self.now.given.now (g.I.Source.left c.args.input.now) (g.I.Source.left c.deal_input-dealt.new.input) (g.S.Store.has c.args.store.now) (c.store_dealt-stored.ensures.stores c.args.self.now.schema.now c.args.self.now.given.now (g.I.Source.left c.args.input.now) (g.I.Source.left c.deal_input-dealt.new.input) (g.S.Store.has c.args.store.now) c.deal_input-dealt.ensures.deals))
 
 pub returns-in-Ok-found-clause-archived : goal.returns-in-Ok-found-clause-archived
 returns-in-Ok-found-clause-archived g c =
     let e = c.end.ensures in
     let counts = c.in-Ok-found.field-0 in
-    whole g.S.Folder.Folder.has g.S.Folder.Shelf.Shelf.kept c.args.self.now.schema.now c.args.self.now.given.now (g.I.Source.left c.args.input.now) (g.I.Source.left c.deal_input-dealt.new.input) (g.S.Store.has c.args.store.now) (g.S.Store.has c.list_stored-found.new.store) c.deal_input-dealt.new.opener.library c.list_stored-found.new.crew.passes.items c.list_stored-found.new.crew.jobs.items c.args.workers (c.list_stored-found.ensures.jobs ∙ c.store_dealt-stored.ensures.jobs ∙ c.deal_input-dealt.ensures.jobs ∙ c.in-Ok.ensures.workers) c.end.new.opener.library.each e.grows e.all e.full {Z = g.row.X.Denot} counts (record { fields = counts.fields; datasets = length c.datasets.result.now; junk = counts.junk }) (c.in-Ok-found.ensures.lists c.args.self.now.schema.now c.args.self.now.given.now (g.I.Source.left c.args.input.now) (g.I.Source.left c.deal_input-dealt.new.input) (g.S.Store.has c.args.store.now) (c.store_dealt-stored.ensures.stores c.args.self.now.schema.now c.args.self.now.given.now (g.I.Source.left c.args.input.now) (g.I.Source.left c.deal_input-dealt.new.input) (g.S.Store.has c.args.store.now) c.deal_input-dealt.ensures.deals)) refl refl (ap length c.datasets.ensures)
+    whole g.S.Folder.Folder.has g.S.Folder.Shelf.Shelf.kept c.args.self.now.schema.now c.args.self.now.given.now (g.I.Source.left c.args.input.now) (g.I.Source.left c.deal_input-dealt.new.input) (g.S.Store.has c.args.store.now) (g.S.Store.has c.list_stored-found.new.store) c.deal_input-dealt.new.library c.list_stored-found.new.crew.passes.items c.list_stored-found.new.crew.jobs.items c.args.workers (c.list_stored-found.ensures.jobs ∙ c.store_dealt-stored.ensures.jobs ∙ c.deal_input-dealt.ensures.jobs ∙ c.in-Ok.ensures.workers) c.end.new.library.each e.grows e.all e.full {Z = g.row.X.Denot} counts (record { fields = counts.fields; datasets = length c.datasets.result.now; junk = counts.junk }) (c.in-Ok-found.ensures.lists c.args.self.now.schema.now c.args.self.now.given.now (g.I.Source.left c.args.input.now) (g.I.Source.left c.deal_input-dealt.new.input) (g.S.Store.has c.args.store.now) (c.store_dealt-stored.ensures.stores c.args.self.now.schema.now c.args.self.now.given.now (g.I.Source.left c.args.input.now) (g.I.Source.left c.deal_input-dealt.new.input) (g.S.Store.has c.args.store.now) c.deal_input-dealt.ensures.deals)) refl refl (ap length c.datasets.ensures)
 
 pub returns-in-Ok-found-clause-spares : goal.returns-in-Ok-found-clause-spares
 returns-in-Ok-found-clause-spares g c =
-    let each = c.end.new.opener.library.each in
+    let each = c.end.new.library.each in
     parts_spared each (g.S.Store.has c.args.store.now) (g.S.Store.has c.list_stored-found.new.store) (parts_of g.S.Folder.Folder.has c.args.workers c.args.self.now.schema.now c.args.self.now.given.now (g.I.Source.left c.args.input.now) (g.I.Source.left c.deal_input-dealt.new.input) (g.S.Store.has c.args.store.now) (g.S.Store.has c.list_stored-found.new.store) each {X = g.row.X.Denot} (Ok (record { fields = c.in-Ok-found.field-0.fields; datasets = length c.datasets.result.now; junk = c.in-Ok-found.field-0.junk })) (returns-in-Ok-found-clause-archived g c))
 
 pub returns-in-Ok-found-clause-to_end : goal.returns-in-Ok-found-clause-to_end
@@ -78,11 +78,11 @@ returns-in-Ok-found-clause-causes g c =
 pub returns-clause-archived : goal.returns-clause-archived
 returns-clause-archived g c =
     let e = c.end.ensures in
-    told g.S.Folder.Folder.has g.S.Folder.Shelf.Shelf.kept c.args.self.now.schema.now c.args.self.now.given.now (g.I.Source.left c.args.input.now) (g.I.Source.left c.deal_input-dealt.new.input) (g.S.Store.has c.args.store.now) (g.S.Store.has c.list_stored-found.new.store) c.deal_input-dealt.new.opener.library c.list_stored-found.new.crew.passes.items c.list_stored-found.new.crew.jobs.items c.args.workers (c.list_stored-found.ensures.jobs ∙ c.store_dealt-stored.ensures.jobs ∙ c.deal_input-dealt.ensures.jobs ∙ c.in-Ok.ensures.workers) c.end.new.opener.library.each e.grows e.all e.full c.in-Err.fault (c.in-Err.ensures.lists c.args.self.now.schema.now c.args.self.now.given.now (g.I.Source.left c.args.input.now) (g.I.Source.left c.deal_input-dealt.new.input) (g.S.Store.has c.args.store.now) (c.store_dealt-stored.ensures.stores c.args.self.now.schema.now c.args.self.now.given.now (g.I.Source.left c.args.input.now) (g.I.Source.left c.deal_input-dealt.new.input) (g.S.Store.has c.args.store.now) c.deal_input-dealt.ensures.deals))
+    told g.S.Folder.Folder.has g.S.Folder.Shelf.Shelf.kept c.args.self.now.schema.now c.args.self.now.given.now (g.I.Source.left c.args.input.now) (g.I.Source.left c.deal_input-dealt.new.input) (g.S.Store.has c.args.store.now) (g.S.Store.has c.list_stored-found.new.store) c.deal_input-dealt.new.library c.list_stored-found.new.crew.passes.items c.list_stored-found.new.crew.jobs.items c.args.workers (c.list_stored-found.ensures.jobs ∙ c.store_dealt-stored.ensures.jobs ∙ c.deal_input-dealt.ensures.jobs ∙ c.in-Ok.ensures.workers) c.end.new.library.each e.grows e.all e.full c.in-Err.fault (c.in-Err.ensures.lists c.args.self.now.schema.now c.args.self.now.given.now (g.I.Source.left c.args.input.now) (g.I.Source.left c.deal_input-dealt.new.input) (g.S.Store.has c.args.store.now) (c.store_dealt-stored.ensures.stores c.args.self.now.schema.now c.args.self.now.given.now (g.I.Source.left c.args.input.now) (g.I.Source.left c.deal_input-dealt.new.input) (g.S.Store.has c.args.store.now) c.deal_input-dealt.ensures.deals))
 
 pub returns-clause-spares : goal.returns-clause-spares
 returns-clause-spares g c =
-    let each = c.end.new.opener.library.each in
+    let each = c.end.new.library.each in
     parts_spared each (g.S.Store.has c.args.store.now) (g.S.Store.has c.list_stored-found.new.store) (parts_of g.S.Folder.Folder.has c.args.workers c.args.self.now.schema.now c.args.self.now.given.now (g.I.Source.left c.args.input.now) (g.I.Source.left c.deal_input-dealt.new.input) (g.S.Store.has c.args.store.now) (g.S.Store.has c.list_stored-found.new.store) each {X = g.row.X.Denot} (Err c.in-Err.fault) (returns-clause-archived g c))
 
 pub returns-clause-causes : goal.returns-clause-causes

@@ -10,7 +10,7 @@ use Rattle.fd_bulk.proofs.bulk.Terms.deal_all.Goals as goal
 
 pub loop-init : goal.loop-init
 loop-init g c = record {
-  midway = begun g.S.Folder.Folder.has g.S.Folder.Shelf.Shelf.kept c.args.self.now.schema.now c.args.self.now.given.now (g.I.Source.left c.args.input.now) (g.S.Store.has c.args.store.now) c.args.opener.now.library c.args.crew.now.passes.items c.args.crew.now.jobs.items c.args.crew.now.parcels.items c.args.reader.now c.requires.unread c.requires.begun;
+  midway = begun g.S.Folder.Folder.has g.S.Folder.Shelf.Shelf.kept c.args.self.now.schema.now c.args.self.now.given.now (g.I.Source.left c.args.input.now) (g.S.Store.has c.args.store.now) c.args.library.now c.args.crew.now.passes.items c.args.crew.now.jobs.items c.args.crew.now.parcels.items c.args.reader.now c.requires.unread c.requires.begun;
   out = c.requires.out;
   told = refl;
   later = omega arith;
@@ -18,7 +18,7 @@ loop-init g c = record {
   few = let is = ap (λ p. p.split.fed) c.requires.unread in omega (arith, is);
   room = let is = ap (λ p. p.count) c.requires.unread in omega (arith, is);
   turns = omega arith;
-  opened = none_opened c.args.names.now.texts.items (names_of c.args.opener.now.library.each) c.requires.unopened;
+  opened = none_opened c.args.names.now.texts.items (names_of c.args.library.now.each) c.requires.unopened;
   read = refl;
 }
 
@@ -63,13 +63,13 @@ loop-preserved g c =
     let s = stops_on g.row.X.Denot c.deal_batch.new.reader c.deal_batch.new.reader b.mid (g.I.Source.left c.deal_batch.new.input) c.in-Ok.reach on b.stops in
     let further = b.further on in
     record {
-      midway = subst (λ t. Midway g.S.Folder.Folder.has g.S.Folder.Shelf.Shelf.kept c.args.self.now.schema.now c.args.self.now.given.now (g.I.Source.left c.args.input.now) t (g.S.Store.has c.args.store.now) (g.S.Store.has c.deal_batch.new.store) c.deal_batch.new.opener.library c.deal_batch.new.crew.passes.items c.deal_batch.new.crew.jobs.items c.deal_batch.new.crew.parcels.items c.deal_batch.new.reader) (sym s.1) b.midway;
+      midway = subst (λ t. Midway g.S.Folder.Folder.has g.S.Folder.Shelf.Shelf.kept c.args.self.now.schema.now c.args.self.now.given.now (g.I.Source.left c.args.input.now) t (g.S.Store.has c.args.store.now) (g.S.Store.has c.deal_batch.new.store) c.deal_batch.new.library c.deal_batch.new.crew.passes.items c.deal_batch.new.crew.jobs.items c.deal_batch.new.crew.parcels.items c.deal_batch.new.reader) (sym s.1) b.midway;
       out = d.out;
       told = d.told ∙ i.told;
       later = let later = d.causes.later in omega (arith, i.later, later);
       jobs = d.jobs ∙ i.jobs;
       few = b.few;
-      room = has_room g.S.Folder.Folder.has g.S.Folder.Shelf.Shelf.kept c.args.self.now.schema.now c.args.self.now.given.now (g.I.Source.left c.args.input.now) (g.S.Store.has c.args.store.now) (g.S.Store.has c.deal_batch.new.store) b.mid c.deal_batch.new.opener.library c.deal_batch.new.crew.passes.items c.deal_batch.new.crew.jobs.items c.deal_batch.new.crew.parcels.items c.deal_batch.new.reader b.midway;
+      room = has_room g.S.Folder.Folder.has g.S.Folder.Shelf.Shelf.kept c.args.self.now.schema.now c.args.self.now.given.now (g.I.Source.left c.args.input.now) (g.S.Store.has c.args.store.now) (g.S.Store.has c.deal_batch.new.store) b.mid c.deal_batch.new.library c.deal_batch.new.crew.passes.items c.deal_batch.new.crew.jobs.items c.deal_batch.new.crew.parcels.items c.deal_batch.new.reader b.midway;
       turns = omega (arith, i.turns, further);
       opened = d.opened;
       read = d.causes.calm ∙ i.read;

@@ -11,24 +11,24 @@ pub catch_up-requires-clause-free : goal.catch_up-requires-clause-free
 catch_up-requires-clause-free g c κs within =
     let s = c.args.self.now in
     let n = c.args.number in
-    let l = c.args.opener.now.library in
-    let m = c.hand_back_all.new.opener.library in
+    let l = c.args.library.now in
+    let m = c.hand_back_all.new.library in
     let p = c.args.pass in
     let v = view c.hand_back_all.new.pass in
     let can = c.requires.can in
-    let ch = subst (λ xs. Changes c.args.number c.args.opener.now.library c.hand_back_all.new.opener.library (λ h k. HandsAll g.S.Folder.Folder.has g.S.Folder.Folder.faults g.S.Folder.Shelf.Shelf.kept (column c.args.number xs) h k (view c.args.pass) (view c.hand_back_all.new.pass))) c.as_mut_slice.ensures.value c.hand_back_all.ensures.hands in
+    let ch = subst (λ xs. Changes c.args.number c.args.library.now c.hand_back_all.new.library (λ h k. HandsAll g.S.Folder.Folder.has g.S.Folder.Folder.faults g.S.Folder.Shelf.Shelf.kept (column c.args.number xs) h k (view c.args.pass) (view c.hand_back_all.new.pass))) c.as_mut_slice.ensures.value c.hand_back_all.ensures.hands in
     mid_free g.S.Folder.Folder.has g.S.Folder.Folder.faults g.S.Folder.Shelf.Shelf.kept n l m p s.jobs.items v can ch
 
 pub unseat-requires-clause-out : goal.unseat-requires-clause-out
 unseat-requires-clause-out g c κs within =
     let s = c.args.self.now in
     let n = c.args.number in
-    let l = c.args.opener.now.library in
-    let m = c.hand_back_all.new.opener.library in
+    let l = c.args.library.now in
+    let m = c.hand_back_all.new.library in
     let p = c.args.pass in
     let v = view c.hand_back_all.new.pass in
     let can = c.requires.can in
-    let ch = subst (λ xs. Changes c.args.number c.args.opener.now.library c.hand_back_all.new.opener.library (λ h k. HandsAll g.S.Folder.Folder.has g.S.Folder.Folder.faults g.S.Folder.Shelf.Shelf.kept (column c.args.number xs) h k (view c.args.pass) (view c.hand_back_all.new.pass))) c.as_mut_slice.ensures.value c.hand_back_all.ensures.hands in
+    let ch = subst (λ xs. Changes c.args.number c.args.library.now c.hand_back_all.new.library (λ h k. HandsAll g.S.Folder.Folder.has g.S.Folder.Folder.faults g.S.Folder.Shelf.Shelf.kept (column c.args.number xs) h k (view c.args.pass) (view c.hand_back_all.new.pass))) c.as_mut_slice.ensures.value c.hand_back_all.ensures.hands in
     (ch.after, mid_at g.S.Folder.Folder.has g.S.Folder.Folder.faults g.S.Folder.Shelf.Shelf.kept n l m p s.jobs.items v can ch, mid_none g.S.Folder.Folder.has g.S.Folder.Folder.faults g.S.Folder.Shelf.Shelf.kept n l m p s.jobs.items v can ch, mid_whole g.S.Folder.Folder.has g.S.Folder.Folder.faults g.S.Folder.Shelf.Shelf.kept n l m p s.jobs.items v can ch c.catch_up.new.pass c.catch_up.ensures.rest)
 
 pub returns-clause-shorter : goal.returns-clause-shorter
@@ -43,11 +43,11 @@ pub returns-clause-ended : goal.returns-clause-ended
 returns-clause-ended g c =
     let s = c.args.self.now in
     let n = c.args.number in
-    let l = c.args.opener.now.library in
-    let m = c.hand_back_all.new.opener.library in
+    let l = c.args.library.now in
+    let m = c.hand_back_all.new.library in
     let p = c.args.pass in
     let v = view c.hand_back_all.new.pass in
     let can = c.requires.can in
-    let ch = subst (λ xs. Changes c.args.number c.args.opener.now.library c.hand_back_all.new.opener.library (λ h k. HandsAll g.S.Folder.Folder.has g.S.Folder.Folder.faults g.S.Folder.Shelf.Shelf.kept (column c.args.number xs) h k (view c.args.pass) (view c.hand_back_all.new.pass))) c.as_mut_slice.ensures.value c.hand_back_all.ensures.hands in
+    let ch = subst (λ xs. Changes c.args.number c.args.library.now c.hand_back_all.new.library (λ h k. HandsAll g.S.Folder.Folder.has g.S.Folder.Folder.faults g.S.Folder.Shelf.Shelf.kept (column c.args.number xs) h k (view c.args.pass) (view c.hand_back_all.new.pass))) c.as_mut_slice.ensures.value c.hand_back_all.ensures.hands in
     let u = c.catch_up.ensures in
-    ended_one g.S.Folder.Folder.has g.S.Folder.Folder.faults g.S.Folder.Shelf.Shelf.kept n l m p s.jobs.items v can ch c.catch_up.new.pass u.rest c.unseat.new.self.library u.seen (u.count (mid_parts g.S.Folder.Folder.has g.S.Folder.Folder.faults g.S.Folder.Shelf.Shelf.kept n l m p s.jobs.items v can ch)) u.doubts u.few c.unseat.ensures.change
+    ended_one g.S.Folder.Folder.has g.S.Folder.Folder.faults g.S.Folder.Shelf.Shelf.kept n l m p s.jobs.items v can ch c.catch_up.new.pass u.rest c.unseat.new.self u.seen (u.count (mid_parts g.S.Folder.Folder.has g.S.Folder.Folder.faults g.S.Folder.Shelf.Shelf.kept n l m p s.jobs.items v can ch)) u.doubts u.few c.unseat.ensures.change

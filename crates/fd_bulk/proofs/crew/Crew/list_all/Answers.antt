@@ -10,12 +10,12 @@ pub list_round-requires-clause-can : goal.list_round-requires-clause-can
 list_round-requires-clause-can g c κs within =
     let js = c.args.self.now.jobs.items in
     subst (λ xs. All (CanListAll g.S.Folder.Shelf.Shelf.kept c.datasets.result.now) xs) (sym c.as_mut_slice.ensures.value)
-    (subst (λ bs. All (CanListAll g.S.Folder.Shelf.Shelf.kept bs) js) (sym c.datasets.ensures) (λ i e lt. can_list g.S.Folder.Folder.has g.S.Folder.Shelf.Shelf.kept c.args.opener.now.library c.args.self.now.passes.items js c.requires.can i e lt))
+    (subst (λ bs. All (CanListAll g.S.Folder.Shelf.Shelf.kept bs) js) (sym c.datasets.ensures) (λ i e lt. can_list g.S.Folder.Folder.has g.S.Folder.Shelf.Shelf.kept c.args.library.now c.args.self.now.passes.items js c.requires.can i e lt))
 
 pub returns-clause-lists : goal.returns-clause-lists
 returns-clause-lists g c =
     let s = c.args.self.now in
-    let l = c.args.opener.now.library in
+    let l = c.args.library.now in
     let js = s.jobs.items in
     let ks = c.list_round.new.jobs in
     let ms = c.halted.new.jobs in

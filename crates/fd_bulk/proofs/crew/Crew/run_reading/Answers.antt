@@ -9,7 +9,7 @@ use Rattle.fd_bulk.proofs.crew.Crew.run_reading.Goals as goal
 pub run_beside-batch-requires-clause-can : goal.run_beside-batch-requires-clause-can
 run_beside-batch-requires-clause-can g c κs within =
     let s = c.args.self.now in
-    let l = c.args.opener.now.library in
+    let l = c.args.library.now in
     subst (λ xs. (i : ℕ) (e : _) → i < length xs → CanShare g.S.Folder.Shelf.Shelf.kept c.datasets.result.now i c.as_mut_slice.result.now (get_or xs i e)) (sym c.as_mut_slice-2.ensures.value)
     (subst (λ ps. (i : ℕ) (e : _) → i < length s.jobs.items → CanShare g.S.Folder.Shelf.Shelf.kept c.datasets.result.now i ps (get_or s.jobs.items i e)) (sym c.as_mut_slice.ensures.value)
     (subst (λ bs. (i : ℕ) (e : _) → i < length s.jobs.items → CanShare g.S.Folder.Shelf.Shelf.kept bs i s.parcels.items (get_or s.jobs.items i e)) (sym c.datasets.ensures)
@@ -18,7 +18,7 @@ run_beside-batch-requires-clause-can g c κs within =
 pub returns-in-Ok-clause-ran : goal.returns-in-Ok-clause-ran
 returns-in-Ok-clause-ran g c =
     let s = c.args.self.now in
-    let l = c.args.opener.now.library in
+    let l = c.args.library.now in
     let js = s.jobs.items in
     let ks = c.run_beside-batch.new.jobs in
     let ms = c.halted.new.jobs in
@@ -38,7 +38,7 @@ returns-in-Ok-clause-ran g c =
 pub returns-in-Err-clause-ran : goal.returns-in-Err-clause-ran
 returns-in-Err-clause-ran g c =
     let s = c.args.self.now in
-    let l = c.args.opener.now.library in
+    let l = c.args.library.now in
     let js = s.jobs.items in
     let ks = c.run_beside-batch.new.jobs in
     let ms = c.halted.new.jobs in
