@@ -1,7 +1,6 @@
 -- The keys of rows are those of their texts.
-use Rattle.std.proofs.Common.{◌≡◌, ◌∙◌, ◌≤◌, ℕ, Bool, true, false, true≢false, ◌||◌, ◌&&◌, not, cond, List, [], ◌∷◌, ◌++◌, length, Option, Some, None, is_some, Ordering, Less, Equal, Greater, refl, sym, ap, subst, bytes_eq, arith, nat_le, leb-true, append-nil, append_assoc}
-use Rattle.std.specs.Prelude.{drop}
-use Rattle.std.specs.List.{All}
+use Rattle.std.proofs.Common.{◌≡◌, ◌∙◌, ◌≤◌, ◌+◌, ℕ, Bool, true, false, true≢false, ◌||◌, ◌&&◌, not, cond, List, [], ◌∷◌, ◌++◌, length, Option, Some, None, is_some, Ordering, Less, Equal, Greater, refl, sym, ap, subst, bytes_eq, arith, nat_le, leb-true, append-nil, append_assoc}
+use Rattle.std.specs.Prelude.{drop, string_bytes, IfSome}
 use Rattle.std.proofs.lemmas.Bool.{and_from, and_parts, cond-true}
 use Rattle.std.proofs.lemmas.List.Elements.{All-nil, All-push}
 use Rattle.std.proofs.lemmas.Slice.Eq.{bytes_eq-Decides}
@@ -21,17 +20,15 @@ use Rattle.fd_request.specs.Grammar.{has_name}
 use Rattle.fd_request.specs.Keywords.{differ_after}
 use Rattle.fd_cubes.specs.Cubes.{alone}
 use Rattle.fd_outcome.specs.Rows.{Row, Stored, if_new, if_pair, if_short, is_spelled, matches, put, put_by, put_matching, row_of, row_order, rows, rows_from, rows_of_batch, stored, stored_at, with_piece, with_pieces, with_text}
-use Rattle.fd_inventory.specs.Found.{HasKey, HaveKeys, IsNamed, IsSpelled}
+use Rattle.fd_inventory.specs.Found.{AreSpelled, HasKey, HaveKeys, IsNamed, IsSpelled}
+use Rattle.fd_inventory.specs.Keys.{IsFirstOf, IsLead, ending, leading, texts}
+use Rattle.fd_inventory.specs.declared.stored_key.Lead.{Lead}
+use Rattle.fd_inventory.proofs.Copying.{alone_push}
 
 some_same : {A : Type 0} (x y : A) → (let o : Option A = Some x in o ≡ Some y) → x ≡ y
 some_same x y e = cc e
 
 -- ---- pairs that a text is
-
--- each name once, and each value in its one spelling
-record AreSpelled (ps : List keys.Pair) : Type 0 where
-  once : differ_after [] (alone ps) ≡ true
-  spelled : All IsSpelled ps
 
 none_spelled : AreSpelled []
 none_spelled = record { once = refl; spelled = All-nil IsSpelled }
@@ -58,10 +55,6 @@ differ_push before (j ∷ ks) k h new =
     let parts = and_parts (not (has_name before j.name)) (differ_after (before ++ j ∷ []) ks) h in
     and_from (not (has_name before j.name)) (differ_after (before ++ j ∷ []) (ks ++ k ∷ [])) parts.0
     (differ_push (before ++ j ∷ []) ks k parts.1 (ap (λ (us : List Keyword). has_name us k.name) (append_assoc before (j ∷ []) ks) ∙ new))
-
-alone_push : (ps : List keys.Pair) (p : keys.Pair) → alone (ps ++ p ∷ []) ≡ alone ps ++ record { name = p.0; values = p.1 ∷ [] } ∷ []
-alone_push [] p = refl
-alone_push (q ∷ ps) p = ap (λ (ks : List Keyword). record { name = q.0; values = q.1 ∷ [] } ∷ ks) (alone_push ps p)
 
 -- a name and a value in its one spelling
 pair_spelled : (o : Option (List ℕ × List ℕ)) (p : keys.Pair) → if_pair o ≡ Some p → IsSpelled p
@@ -105,7 +98,32 @@ pieces_spelled before (piece ∷ pieces) us are h = by_pair (if_pair (cut 61 pie
     by_pair None e again h = absurd (true≢false (sym (ap is_some h)))
     by_pair (Some p) e again h = by_text p (text_of before p.0) refl (pair_spelled (cut 61 piece) p e) (again p) h
 
+pub leading_spelled : (dataset index : List ℕ) (is : List keys.Pair) → leading dataset index ≡ Some is → AreSpelled is
+unfolding leading
+leading_spelled dataset index is h = by (with_text [] dataset) refl h
+  where
+    by : (o : Option (List keys.Pair)) → with_text [] dataset ≡ o → (o >>= λ ds. with_text ds index) ≡ Some is → AreSpelled is
+    by None e h = absurd (true≢false (sym (ap is_some h)))
+    by (Some ds) e h = pieces_spelled ds (pieces_of index) is (pieces_spelled [] (pieces_of dataset) ds none_spelled e) h
+
 -- ---- stored keys
+
+-- a stored key is that of its leading pairs and its datum text
+pub led : (dataset index datum : List ℕ) → stored_at dataset index datum ≡ (leading dataset index >>= λ is. ending is index datum)
+unfolding stored_at leading ending
+led dataset index datum = by (with_text [] dataset)
+  where
+    by : (o : Option (List keys.Pair)) → (o >>= λ ds. with_text ds index >>= λ is. with_text is datum >>= λ us. if_short index datum is us) ≡ ((o >>= λ ds. with_text ds index) >>= λ is. with_text is datum >>= λ us. if_short index datum is us)
+    by None = refl
+    by (Some ds) = refl
+
+pub told : (dataset key : List ℕ) → stored dataset key ≡ (texts key >>= λ p. stored_at dataset p.0 p.1)
+unfolding stored texts
+told dataset key = by (nat_le (length key) 256 && is_ascii key)
+  where
+    by : (b : Bool) → cond b (cut 124 key >>= λ p. stored_at dataset p.0 p.1) None ≡ (cond b (cut 124 key) None >>= λ p. stored_at dataset p.0 p.1)
+    by true = refl
+    by false = refl
 
 -- a stored key has the texts that it stands at
 record IsKeyed (index datum : List ℕ) (s : Stored) : Type 0 where
@@ -167,6 +185,26 @@ stored_keyed dataset key s h = by (nat_le (length key) 256) refl h
     by : (b : Bool) → nat_le (length key) 256 ≡ b → cond (b && is_ascii key) (cut 124 key >>= λ p. stored_at dataset p.0 p.1) None ≡ Some s → HasKeyed dataset s
     by false e h = absurd (true≢false (sym (ap is_some h)))
     by true e h = by_ascii (is_ascii key) (leb-true (length key) 256 e) h
+
+-- what a key in the files says is short
+pub texts_short : (key : List ℕ) (p : List ℕ × List ℕ) → texts key ≡ Some p → length p.0 + length p.1 ≤ 256
+unfolding texts
+texts_short key p h = by (nat_le (length key) 256) refl h
+  where
+    by_ascii : (b : Bool) → length key ≤ 256 → cond b (cut 124 key) None ≡ Some p → length p.0 + length p.1 ≤ 256
+    by_ascii false le h = absurd (true≢false (sym (ap is_some h)))
+    by_ascii true le h = omega (arith, le, cut_lengths 124 key p h)
+
+    by : (b : Bool) → nat_le (length key) 256 ≡ b → cond (b && is_ascii key) (cut 124 key) None ≡ Some p → length p.0 + length p.1 ≤ 256
+    by false e h = absurd (true≢false (sym (ap is_some h)))
+    by true e h = by_ascii (is_ascii key) (leb-true (length key) 256 e) h
+
+pub lead_first : (dataset datum : List ℕ) (l : Lead) → IsLead dataset l → length dataset ≤ 255 → length (string_bytes l.index) + length datum ≤ 256 → IfSome l.pairs (IsFirstOf datum)
+lead_first dataset datum l is short few = by l.pairs is.is is.few
+  where
+    by : (o : Option (List keys.Pair)) → o ≡ leading dataset (string_bytes l.index) → IfSome o (λ k. length k ≤ length dataset + length (string_bytes l.index) + 2) → IfSome o (IsFirstOf datum)
+    by None e f = tt
+    by (Some k) e f = record { spelled = leading_spelled dataset (string_bytes l.index) k (sym e); room = omega (arith, f, short, few) }
 
 -- ---- rows
 

@@ -2,6 +2,7 @@ mod Asking
 mod AxesOf
 mod AxisLines
 mod Batches
+mod Copying
 mod Counts
 mod Finding
 mod Keyed

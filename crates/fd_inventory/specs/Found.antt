@@ -20,6 +20,11 @@ pub record IsSpelled (p : keys.Pair) : Type 0 where
   pub valued : is_value p.1 ≡ true
   pub again : spelled p.0 p.1 ≡ Some p.1
 
+-- each name once, and each value in its one spelling
+pub record AreSpelled (ps : List keys.Pair) : Type 0 where
+  pub once : differ_after [] (alone ps) ≡ true
+  pub spelled : All IsSpelled ps
+
 -- A key that files may have: each name comes once, each value is in its one spelling, and its text is short.
 pub record IsNamed (key : List keys.Pair) : Type 0 where
   pub once : differ_after [] (alone key) ≡ true

@@ -1,11 +1,11 @@
 // The rows of a dataset: for each of its keys that are asked for, where its newest field stands.
-ghost use Rattle.std.specs.Prelude.{◌≡◌, ◌≤◌, ◌+◌, ◌++◌, ◌∷◌, true, List, Some, IfOk, IfErr, OnOk, length};
+ghost use Rattle.std.specs.Prelude.{◌≡◌, ◌≤◌, ◌+◌, ◌++◌, ◌∷◌, true, List, Some, IfOk, IfErr, IfSome, OnOk, length};
 ghost use Rattle.fd_entries.specs.declared.batch.Pair.{Pair};
 ghost use Rattle.fd_segment.specs.{Causes.{IsBadIndex, OnDamaged}, Held.{IsIndexOf}};
-ghost use Rattle.fd_inventory.specs.{Shown.{AddsRow, AreLengths, AreRows, IsNewestUnless}, Indexes.{IsAmongBad}, Recorded.{ByRecords}};
+ghost use Rattle.fd_inventory.specs.{Shown.{AddsRow, AreLengths, AreRows, IsNewestUnless}, Indexes.{IsAmongBad}, Keys.{IsLead}, Recorded.{ByRecords}};
 ghost use Rattle.fd_outcome.specs.Rows.{Row, Stored, matches, put_matching, rows, rows_from, stored};
 
-use crate::stored_key::{StoredKey, stored_key};
+use crate::stored_key::{Lead, StoredKey, stored_key};
 use fd_bytes::NoMemory;
 use fd_dataset::Snapshot;
 use fd_disk::Sealed;
@@ -39,31 +39,36 @@ fn add_row(rows: &mut Rows, index: String, datum: String, newest: Newest) -> Res
     Ok(())
 }
 
-/// Adds a row for a key of an index, if it is asked for and has none yet.
+/// Adds a row for a key of an index, if it is asked for and has none yet, and tells the lead of its index.
 fn add_record(
     alloc: Global,
     dataset: &str,
     key: &[u8],
+    last: Option<Lead>,
     newest: Newest,
     partial: &Partial,
     rows: &mut Rows,
-) -> Result<(), NoMemory>
-    requires { length dataset.now ≤ 255 }
-    ensures { OnOk result ((t : List (List Pair)) (rs : List Row) → ((s : Stored) → stored dataset.now key.now ≡ Some s → matches partial.now s.pairs ≡ true → IsNewestUnless t rs key.now s newest.len newest.number)
+) -> Result<Option<Lead>, NoMemory>
+    requires short { length dataset.now ≤ 255 }
+    requires last { IfSome last (IsLead dataset.now) }
+    ensures row { OnOk result ((t : List (List Pair)) (rs : List Row) → ((s : Stored) → stored dataset.now key.now ≡ Some s → matches partial.now s.pairs ≡ true → IsNewestUnless t rs key.now s newest.len newest.number)
         → AreRows rows.old.entries rs → AreRows rows.new.entries (put_matching partial.now t key.now (stored dataset.now key.now) rs)) }
+    ensures last { IfOk result (λ o. IfSome o (IsLead dataset.now)) }
 {
-    let Some(stored) = stored_key(alloc, dataset, key)? else {
-        return Ok(());
+    let (stored, last) = stored_key(alloc, dataset, key, last)?;
+    let Some(stored) = stored else {
+        return Ok(last);
     };
     if !partial.matches(&stored.key) {
-        return Ok(());
+        return Ok(last);
     }
     let StoredKey {
         index,
         datum,
         key: _,
     } = stored;
-    add_row(rows, index, datum, newest)
+    add_row(rows, index, datum, newest)?;
+    Ok(last)
 }
 
 /// Adds rows for the keys of a batch, from its last record on.
@@ -80,10 +85,19 @@ fn add_records(
         → AreRows rows.old.entries (rows_from dataset.now partial.now (front ++ b ∷ later) later) → AreRows rows.new.entries (rows_from dataset.now partial.now (front ++ b ∷ later) (b ∷ later))) }
 {
     let mut left = index.len();
+    let mut last = None;
     while left > 0 {
         left -= 1;
         let (key, _, len) = index.record(left);
-        add_record(alloc, dataset, key, Newest { len, number }, partial, rows)?;
+        last = add_record(
+            alloc,
+            dataset,
+            key,
+            last,
+            Newest { len, number },
+            partial,
+            rows,
+        )?;
     }
     Ok(())
 }

@@ -3,18 +3,17 @@ use Rattle.fd_request.specs.Matching.{Matches}
 use Rattle.fd_inventory.specs.Keys.{IsStored}
 use Rattle.fd_inventory.specs.Shown.{AreRows}
 use Rattle.fd_outcome.specs.Rows.{stored}
-use Rattle.fd_inventory.proofs.Batches.{on_ok}
 use Rattle.fd_inventory.proofs.Asking.{adds_asked, adds_unasked}
 use Rattle.fd_inventory.proofs.rows.add_record.Goals as goal
 
-pub returns-then-not-matches : goal.returns-then-not-matches
-returns-then-not-matches c = λ t rs newness rows.
+pub returns-then-not-matches-clause-row : goal.returns-then-not-matches-clause-row
+returns-then-not-matches-clause-row c = λ t rs newness rows.
     let is : IsStored (stored c.args.dataset.now c.args.key.now) c.in-Some.stored = search rules in
     let un : Matches c.args.partial.now c.in-Some.stored.key → ⊥ = search rules in
     subst (AreRows c.args.rows.now.entries) (sym (adds_unasked c.args.partial.now t c.args.key.now (stored c.args.dataset.now c.args.key.now) c.in-Some.stored rs is un)) rows
 
-pub returns : goal.returns
-returns c =
+pub returns-clause-row : goal.returns-clause-row
+returns-clause-row c =
     let is : IsStored (stored c.args.dataset.now c.args.key.now) c.in-Some.stored = search rules in
     let all : Matches c.args.partial.now c.in-Some.stored.key = search rules in
-    on_ok (λ adds t rs newness rows. adds_asked c.args.partial.now t c.args.key.now (stored c.args.dataset.now c.args.key.now) c.in-Some.stored c.args.newest c.args.rows.now.entries c.add_row.new.rows.entries rs is all newness adds rows) c.add_row.result c.add_row.ensures
+    λ t rs newness rows. adds_asked c.args.partial.now t c.args.key.now (stored c.args.dataset.now c.args.key.now) c.in-Some.stored c.args.newest c.args.rows.now.entries c.add_row.new.rows.entries rs is all newness c.in_ok-add_row.ensures rows
