@@ -2,15 +2,12 @@
 ghost use Rattle.std.specs.{Prelude.{◌≡◌, ◌≤◌, ◌++◌, List, ℕ, IfOk, codes, string_bytes}, Fmt.{decimal}};
 ghost use Rattle.fd_bytes.specs.Causes.{Rose};
 ghost use Rattle.fd_listing.specs.Lines.{line};
-ghost use Rattle.fd_outcome.specs.{Refusals.{refusal_line, refusal_status, refused_message_line, cut_message_line, refused_map_line, refused_key_line, refused_field_line}, Ends.{disk_failed, input_failed, output_failed}, Told.{OnLongInput, Told, ToldOrNoMemory}};
+ghost use Rattle.fd_outcome.specs.{Refusals.{refusal_line, refusal_status}, Ends.{disk_failed, input_failed, output_failed}, Told.{OnLongInput, Told, ToldOrNoMemory}};
 
 use crate::refusal::Refusal;
 use crate::status::Status;
 use fd_disk::Store;
 use fd_io::{Sink, write_all};
-use fd_key::KeyFault;
-use fd_packing::FieldFault;
-use fd_sections::{BadAt, Truncated};
 use std::alloc::{AllocError, Global};
 
 /// Writes the text that goes with a status. Where it can't be written, the status is that of a failed output.
@@ -81,87 +78,6 @@ pub fn tell_made<X: Drop, E: Sink<X>>(
     }
 }
 
-/// Writes the line of octets that are no message.
-fn tell_message_fault<X: Drop, E: Sink<X>>(alloc: Global, report: &mut E, at: BadAt) -> Status
-    ensures { ToldOrNoMemory Status.Refused (refused_message_line at) result (E.taken report.old) (E.taken report.new) (E.faults report.old) (E.faults report.new) }
-{
-    match format!(in alloc; "refused message {at}\n") {
-        Ok(line) => tell(report, line.as_str(), Status::Refused),
-        Err(_) => tell_no_memory(report),
-    }
-}
-
-/// Writes the line of a message that is cut.
-fn tell_cut<X: Drop, E: Sink<X>>(alloc: Global, report: &mut E, cut: Truncated) -> Status
-    ensures { ToldOrNoMemory Status.Refused (cut_message_line cut) result (E.taken report.old) (E.taken report.new) (E.faults report.old) (E.faults report.new) }
-{
-    match format!(in alloc; "refused message {cut}\n") {
-        Ok(line) => tell(report, line.as_str(), Status::Refused),
-        Err(_) => tell_no_memory(report),
-    }
-}
-
-/// Writes the line of a field that lacks a bit map.
-fn tell_no_map<X: Drop, E: Sink<X>>(
-    alloc: Global,
-    report: &mut E,
-    number: u64,
-    field: u32,
-) -> Status
-    ensures { ToldOrNoMemory Status.Refused (refused_map_line number field) result (E.taken report.old) (E.taken report.new) (E.faults report.old) (E.faults report.new) }
-{
-    match format!(in alloc; "refused message {number} NoMap {field}\n") {
-        Ok(line) => tell(report, line.as_str(), Status::Refused),
-        Err(_) => tell_no_memory(report),
-    }
-}
-
-/// Writes the line of a message that has no key.
-fn tell_key_fault<X: Drop, E: Sink<X>>(
-    alloc: Global,
-    report: &mut E,
-    number: u64,
-    fault: KeyFault,
-) -> Status
-    ensures { ToldOrNoMemory Status.Refused (refused_key_line number fault) result (E.taken report.old) (E.taken report.new) (E.faults report.old) (E.faults report.new) }
-{
-    match format!(in alloc; "{fault}") {
-        Ok(kind) => tell_kind(alloc, report, "refused key ", number, kind.as_str()),
-        Err(_) => tell_no_memory(report),
-    }
-}
-
-/// Writes the line of a message whose field is not read.
-fn tell_field_fault<X: Drop, E: Sink<X>>(
-    alloc: Global,
-    report: &mut E,
-    number: u64,
-    fault: FieldFault,
-) -> Status
-    ensures { ToldOrNoMemory Status.Refused (refused_field_line number fault) result (E.taken report.old) (E.taken report.new) (E.faults report.old) (E.faults report.new) }
-{
-    match format!(in alloc; "{fault}") {
-        Ok(kind) => tell_kind(alloc, report, "refused field ", number, kind.as_str()),
-        Err(_) => tell_no_memory(report),
-    }
-}
-
-/// Writes the line of a message that is refused for the reason of this text.
-fn tell_kind<X: Drop, E: Sink<X>>(
-    alloc: Global,
-    report: &mut E,
-    text: &str,
-    number: u64,
-    kind: &str,
-) -> Status
-    ensures { ToldOrNoMemory Status.Refused (line (text.now ++ decimal number ++ codes " " ++ kind.now)) result (E.taken report.old) (E.taken report.new) (E.faults report.old) (E.faults report.new) }
-{
-    match format!(in alloc; "{text}{number} {kind}\n") {
-        Ok(line) => tell(report, line.as_str(), Status::Refused),
-        Err(_) => tell_no_memory(report),
-    }
-}
-
 /// Writes a text with a number at its end. Where there is no memory for it, the status and the line tell that.
 pub fn tell_number<X: Drop, E: Sink<X>>(
     alloc: Global,
@@ -182,11 +98,26 @@ pub fn tell_refusal<X: Drop, E: Sink<X>>(alloc: Global, report: &mut E, refusal:
     ensures input { OnLongInput refusal (Told Status.Limit (refusal_line Refusal.Input) result (E.taken report.old) (E.taken report.new) (E.faults report.old) (E.faults report.new)) }
 {
     match refusal {
-        Refusal::Message(at) => tell_message_fault(alloc, report, at),
-        Refusal::Cut(cut) => tell_cut(alloc, report, cut),
-        Refusal::NoMap { number, field } => tell_no_map(alloc, report, number, field),
-        Refusal::Key { number, fault } => tell_key_fault(alloc, report, number, fault),
-        Refusal::Field { number, fault } => tell_field_fault(alloc, report, number, fault),
+        Refusal::Message(at) => {
+            let line = format!(in alloc; "refused message {at}\n");
+            tell_made(report, line, Status::Refused)
+        }
+        Refusal::Cut(cut) => {
+            let line = format!(in alloc; "refused message {cut}\n");
+            tell_made(report, line, Status::Refused)
+        }
+        Refusal::NoMap { number, field } => {
+            let line = format!(in alloc; "refused message {number} NoMap {field}\n");
+            tell_made(report, line, Status::Refused)
+        }
+        Refusal::Key { number, fault } => {
+            let line = format!(in alloc; "refused key {number} {fault}\n");
+            tell_made(report, line, Status::Refused)
+        }
+        Refusal::Field { number, fault } => {
+            let line = format!(in alloc; "refused field {number} {fault}\n");
+            tell_made(report, line, Status::Refused)
+        }
         Refusal::TooLong { len } => {
             tell_number(alloc, report, "limit TooLong ", len, Status::Limit)
         }

@@ -7,7 +7,7 @@ ghost use Rattle.fd_reclaim.specs.Halts.{OnDisk, ToldHalt};
 use crate::halt::Halt;
 use fd_disk::Store;
 use fd_io::Sink;
-use fd_outcome::{Status, tell, tell_no_memory, tell_noted, tell_place};
+use fd_outcome::{Status, tell, tell_made, tell_no_memory, tell_noted, tell_place};
 use fd_purge::Purged;
 use fd_telling::{tell_broken, tell_schema};
 use std::alloc::Global;
@@ -21,20 +21,16 @@ pub(crate) fn tell_purged<X: Drop, E: Sink<X>>(
     ensures { ToldOrNoMemory Status.Done (purged_line purged.dropped purged.kept) result (E.taken report.old) (E.taken report.new) (E.faults report.old) (E.faults report.new) }
 {
     let Purged { dropped, kept } = purged;
-    match format!(in alloc; "purged {dropped} kept {kept}\n") {
-        Ok(line) => tell(report, line.as_str(), Status::Done),
-        Err(_) => tell_no_memory(report),
-    }
+    let line = format!(in alloc; "purged {dropped} kept {kept}\n");
+    tell_made(report, line, Status::Done)
 }
 
 /// Writes how many entries were wiped.
 pub(crate) fn tell_wiped<X: Drop, E: Sink<X>>(alloc: Global, report: &mut E, count: u32) -> Status
     ensures { ToldOrNoMemory Status.Done (wiped_line count) result (E.taken report.old) (E.taken report.new) (E.faults report.old) (E.faults report.new) }
 {
-    match format!(in alloc; "wiped {count}\n") {
-        Ok(line) => tell(report, line.as_str(), Status::Done),
-        Err(_) => tell_no_memory(report),
-    }
+    let line = format!(in alloc; "wiped {count}\n");
+    tell_made(report, line, Status::Done)
 }
 
 /// Writes which entry has a writer that is too great.

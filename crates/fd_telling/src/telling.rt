@@ -13,7 +13,7 @@ use fd_disk::{FileKind, FileName, Store};
 use fd_io::Sink;
 use fd_outcome::{
     Status, Unruled, is_request_limit, request_kind, tell, tell_input_failed, tell_limit,
-    tell_no_memory, tell_no_schema, tell_noted, tell_place, tell_text,
+    tell_made, tell_no_memory, tell_no_schema, tell_noted, tell_place, tell_text,
 };
 use fd_request::RequestKind;
 use fd_schema::SchemaKind;
@@ -138,10 +138,8 @@ pub fn tell_broken<X: Drop, E: Sink<X>>(
     let Ok(text) = broken_text(alloc, broken) else {
         return tell_no_memory(report);
     };
-    match format!(in alloc; "damaged {dataset} {text}\n") {
-        Ok(line) => tell(report, line.as_str(), Status::Damaged),
-        Err(_) => tell_no_memory(report),
-    }
+    let line = format!(in alloc; "damaged {dataset} {text}\n");
+    tell_made(report, line, Status::Damaged)
 }
 
 /// What is broken, with its numbers.
