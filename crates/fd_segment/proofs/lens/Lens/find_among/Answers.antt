@@ -1,4 +1,4 @@
-use Rattle.std.proofs.Common.{◌≡◌, ◌≤◌, ◌<◌, ◌+◌, ℕ, Option, Some, None, sym, subst, arith, rules}
+use Rattle.std.proofs.Common.{◌≤◌, ◌<◌, ◌+◌, ℕ, Option, Some, None, sym, subst, arith, rules}
 use Rattle.fd_segment.specs.Causes.{IsPlace, OnDamaged, StandsForNone}
 use Rattle.fd_segment.specs.Held.{Opened, behind}
 use Rattle.fd_segment.proofs.Looking.{all_place, beyond_none, found_in_batch}
