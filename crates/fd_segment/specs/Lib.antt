@@ -5,5 +5,6 @@ pub mod Filling
 pub mod Causes
 pub mod Copying
 pub mod CopyCalls
+pub mod LookUps
 pub mod Steps
 pub mod Putting

@@ -1,8 +1,8 @@
 ghost use Rattle.std.specs.Prelude.{◌≡◌, ◌≤◌, ◌+◌, ℕ, List, Option, Some, None, Ok, take, IfOk, IfErr, OnOk, IfSome, IsSome};
 ghost use Rattle.fd_disk.specs.{Names.{name_of}, declared.folders.FileKind.TheVariants.{Fields}};
 ghost use Rattle.fd_bytes.specs.Causes.{Rose};
-ghost use Rattle.fd_pages.specs.{Paging.{HasRead, digits}, Parts.{IsSeen, pages_by}};
-ghost use Rattle.fd_segment.specs.{declared.fault.Damage.TheVariants.{Beyond}, declared.fault.LensFault.TheVariants.{Damaged}, Causes.{AreAllOf, IsBadIndex, IsFieldDamage, IsFindDamage, IsPlace, OnCheckDamaged, OnCheckFault, OnCopyFault, OnDamaged, OnLensFault, StandsForNone, UnlessWrite, lens_fault}, Copying.{IsBatchIndex, IsCopied, IsCopiedInPart, IsDigestedAt, IsOfBatch, IsPiece}, Counts.{HasChecked, HasCopied, HasReadOnce, KeepsFieldCounts, KeepsIndexCounts, paging_of}, Held.{IsIndexOf, behind}};
+ghost use Rattle.fd_pages.specs.{Paging.{HasRead, digits}, Parts.{pages_by}};
+ghost use Rattle.fd_segment.specs.{declared.fault.Damage.TheVariants.{Beyond}, declared.fault.LensFault.TheVariants.{Damaged}, Causes.{AreAllOf, IsBadIndex, IsFieldDamage, IsPlace, OnCheckDamaged, OnCheckFault, OnCopyFault, OnDamaged, OnLensFault, StandsForNone, UnlessWrite, lens_fault}, Copying.{IsBatchIndex, IsCopied, IsCopiedInPart, IsDigestedAt, IsPiece}, Counts.{HasChecked, HasCopied, HasReadOnce, KeepsFieldCounts, KeepsIndexCounts, paging_of}, Held.{IsIndexOf, behind}, LookUps.{IsLookUp}};
 
 use crate::copying::copy_pieces;
 use crate::digest::{digest_at, kept_at};
@@ -79,12 +79,7 @@ impl<F: Send, R: Reader<F>> Lens<F, R> {
     /// ends beyond the fields; it never comes where the files stand for a batch. `Fault` comes only where the index file's
     /// count of faults rose.
     pub fn find(&mut self, alloc: Global, key: &[u8]) -> Result<Option<(u64, u64)>, LensFault<F>>
-        ensures place { IfOk result (IsPlace self.old.files.entry self.old.files.index key.now) }
-        ensures seen { IfOk result (IsSeen self.old.files.index self.old.files.entry.index_len key.now) }
-        ensures batch { IfOk result (IsOfBatch self.old.files key.now) }
-        ensures inside { IfOk result (λ o. IfSome o (λ p. p.0 + p.1 + behind self.old.files.entry ≤ self.old.files.entry.fields_len)) }
-        ensures damaged { IfErr result (λ e. OnDamaged e (IsFindDamage self.old.files.entry self.old.files.index key.now)) }
-        ensures sound { IfErr result (λ e. OnDamaged e (λ _. StandsForNone self.old.files)) }
+        ensures found { IsLookUp self.old.files key.now result }
         ensures files { self.new.files ≡ self.old.files }
         ensures few { HasRead (digits (pages_by self.old.files.entry.index_len)) (paging_of self.old) (paging_of self.new) }
         ensures unread { KeepsFieldCounts self.old self.new }
@@ -112,12 +107,7 @@ impl<F: Send, R: Reader<F>> Lens<F, R> {
         key: &[u8],
     ) -> Result<Option<(u64, u64)>, LensFault<F>>
         requires { AreAllOf self.now.files records.now }
-        ensures place { IfOk result (IsPlace self.now.files.entry self.now.files.index key.now) }
-        ensures seen { IfOk result (IsSeen self.now.files.index self.now.files.entry.index_len key.now) }
-        ensures batch { IfOk result (IsOfBatch self.now.files key.now) }
-        ensures inside { IfOk result (λ o. IfSome o (λ p. p.0 + p.1 + behind self.now.files.entry ≤ self.now.files.entry.fields_len)) }
-        ensures damaged { IfErr result (λ e. OnDamaged e (IsFindDamage self.now.files.entry self.now.files.index key.now)) }
-        ensures sound { IfErr result (λ e. OnDamaged e (λ _. StandsForNone self.now.files)) }
+        ensures found { IsLookUp self.now.files key.now result }
         ensures cause { IfErr result (λ e. OnLensFault e ⊥) }
     {
         let Some((at, len)) = records.find(key) else {
