@@ -5,7 +5,7 @@ ghost use Rattle.fd_lanes.specs.Acts.{ArePlaces, LanesFit};
 ghost use Rattle.fd_casting.specs.{Steps.{AreMessages, HasLines, Posed, all_posed, posed}, Miscasts.{Faults, NoneFails}, Done.{IsCourse, is_behind}};
 
 use crate::fault::{CastFault, Miscast, Refusal};
-use crate::judging::judge;
+use crate::judging::{Setting, judge};
 use fd_bytes::{Bytes, Items, NoMemory};
 use fd_key::Given;
 use fd_schema::{Place, Schema};
@@ -32,22 +32,20 @@ fn is_behind(line: u32, course: &Course) -> bool
 /// Goes over a step.
 fn cast_step(
     alloc: Global,
-    schema: &Schema,
-    dataset: &str,
-    messages: &[Bytes],
+    setting: &Setting,
     given: &Given,
     step: &Step,
     line: u32,
     course: &mut Course,
 ) -> Result<(), NoMemory>
-    requires schema { IsSchema schema.now }
-    requires messages { AreMessages messages.now }
-    ensures { OnOk result ((ps : List Posed) → IsCourse schema.now dataset.now messages.now ps course.old → IsCourse schema.now dataset.now messages.now (ps ++ record { given = given.now; step = step.now; line = line } ∷ []) course.new) }
+    requires schema { IsSchema setting.now.schema.now }
+    requires messages { AreMessages setting.now.messages.now }
+    ensures { OnOk result ((ps : List Posed) → IsCourse setting.now.schema.now setting.now.dataset.now setting.now.messages.now ps course.old → IsCourse setting.now.schema.now setting.now.dataset.now setting.now.messages.now (ps ++ record { given = given.now; step = step.now; line = line } ∷ []) course.new) }
 {
     if is_behind(line, course) {
         return Ok(());
     }
-    match judge(alloc, schema, dataset, messages, given, step) {
+    match judge(alloc, setting, given, step) {
         Ok(Some(place)) => course.places.push(place),
         Ok(None) => Ok(()),
         Err(Refusal::Miscast(kind)) => {
@@ -74,20 +72,16 @@ fn cast_lane(
 {
     let lane = &script.lanes()[number as usize];
     let dataset = script.dataset();
+    let setting = Setting {
+        schema,
+        dataset,
+        messages,
+    };
     let count = lane.steps.len();
     for i in 0..count {
         let line = script.line(number + 1, i as u32 + 1);
         let step = lane.steps.at(i);
-        cast_step(
-            alloc,
-            schema,
-            dataset,
-            messages,
-            &lane.given,
-            step,
-            line,
-            course,
-        )?;
+        cast_step(alloc, &setting, &lane.given, step, line, course)?;
     }
     Ok(())
 }

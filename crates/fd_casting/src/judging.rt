@@ -16,6 +16,14 @@ use fd_script::Step;
 use fd_sections::{Message, message};
 use std::alloc::Global;
 
+/// What steps are judged by: the schema, the script's dataset and the messages of its stream.
+#[derive(Clone, Copy)]
+pub(crate) struct Setting<'a> {
+    pub(crate) schema: &'a Schema,
+    pub(crate) dataset: &'a str,
+    pub(crate) messages: &'a [Bytes],
+}
+
 /// The place of a key in the dataset.
 fn place_in(alloc: Global, schema: &Schema, dataset: &str, key: &Key) -> Result<Place, Refusal>
     ensures place { IfOk result (λ p. place_from 0 schema.now key.now ≡ Some (seen_place p)) }
@@ -94,22 +102,20 @@ fn message_at(messages: &[Bytes], number: u32) -> Option<Message<'_>>
 /// The place of a message's key in the dataset.
 fn judge_message(
     alloc: Global,
-    schema: &Schema,
-    dataset: &str,
-    messages: &[Bytes],
+    setting: &Setting,
     given: &Given,
     number: u32,
 ) -> Result<Place, Refusal>
-    requires schema { IsSchema schema.now }
-    requires messages { AreMessages messages.now }
-    ensures place { IfOk result (λ p. CanPut schema.now dataset.now messages.now given.now number (seen_place p)) }
-    ensures refused { IfErr result (λ e. OnMiscast e (PutFails schema.now dataset.now messages.now given.now number)) }
+    requires schema { IsSchema setting.now.schema.now }
+    requires messages { AreMessages setting.now.messages.now }
+    ensures place { IfOk result (λ p. CanPut setting.now.schema.now setting.now.dataset.now setting.now.messages.now given.now number (seen_place p)) }
+    ensures refused { IfErr result (λ e. OnMiscast e (PutFails setting.now.schema.now setting.now.dataset.now setting.now.messages.now given.now number)) }
 {
-    let Some(message) = message_at(messages, number) else {
+    let Some(message) = message_at(setting.messages, number) else {
         return Err(Refusal::Miscast(Miscast::Message));
     };
     match key_of(alloc, &message, given) {
-        Ok(key) => place_in(alloc, schema, dataset, &key),
+        Ok(key) => place_in(alloc, setting.schema, setting.dataset, &key),
         Err(KeyFault::NoMemory) => Err(Refusal::NoMemory),
         Err(fault) => Err(Refusal::Miscast(Miscast::Key(fault))),
     }
@@ -118,26 +124,22 @@ fn judge_message(
 /// Whether a step can be done, and the place of a put.
 pub(crate) fn judge(
     alloc: Global,
-    schema: &Schema,
-    dataset: &str,
-    messages: &[Bytes],
+    setting: &Setting,
     given: &Given,
     step: &Step,
 ) -> Result<Option<Place>, Refusal>
-    requires schema { IsSchema schema.now }
-    requires messages { AreMessages messages.now }
-    ensures can { IfOk result (λ p. Can schema.now dataset.now messages.now given.now step.now (seen_if p)) }
-    ensures refused { IfErr result (λ e. OnMiscast e (Fails schema.now dataset.now messages.now given.now step.now)) }
+    requires schema { IsSchema setting.now.schema.now }
+    requires messages { AreMessages setting.now.messages.now }
+    ensures can { IfOk result (λ p. Can setting.now.schema.now setting.now.dataset.now setting.now.messages.now given.now step.now (seen_if p)) }
+    ensures refused { IfErr result (λ e. OnMiscast e (Fails setting.now.schema.now setting.now.dataset.now setting.now.messages.now given.now step.now)) }
 {
     match step {
-        Step::Put(number) => {
-            match judge_message(alloc, schema, dataset, messages, given, *number) {
-                Ok(place) => Ok(Some(place)),
-                Err(refusal) => Err(refusal),
-            }
-        }
+        Step::Put(number) => match judge_message(alloc, setting, given, *number) {
+            Ok(place) => Ok(Some(place)),
+            Err(refusal) => Err(refusal),
+        },
         Step::Flush => Ok(None),
-        Step::Get(request) => match judge_request(alloc, schema, dataset, request) {
+        Step::Get(request) => match judge_request(alloc, setting.schema, setting.dataset, request) {
             Ok(()) => Ok(None),
             Err(refusal) => Err(refusal),
         },

@@ -91,7 +91,15 @@ impl<F: Send, S: Store<F>> Library<F, S> {
             return Ok(Some(number));
         }
         if self.held.len() < 2048 {
-            return self.open(alloc, store, name, make);
+            return open_behind(
+                alloc,
+                store,
+                name,
+                make,
+                &mut self.datasets,
+                &mut self.held,
+                &mut self.numbers,
+            );
         }
         none_more(alloc, store, name, make)
     }
@@ -121,43 +129,6 @@ impl<F: Send, S: Store<F>> Library<F, S> {
         ensures change { Changes number self.old self.new (λ h g. g ≡ record h { pass = Some (seat_of pass) }) }
     {
         self.held[number as usize].unseat(pass);
-    }
-
-    // Opens a dataset that isn't open.
-    fn open(
-        &mut self,
-        alloc: Global,
-        store: &mut S,
-        name: &str,
-        make: bool,
-    ) -> Result<Option<u32>, OpenFault<F>>
-        requires short { make ≡ true → length name.now ≤ 255 }
-        requires out { OutAre self.old.each (S.out store.old) }
-        requires new { among name.now (names_of self.old.each) ≡ false }
-        requires few { length self.old.each < 2048 }
-        ensures sound { AreOpen self.new }
-        ensures opened { IfOk result (λ o. IfSome o (λ n. Opens S.Folder.has n name.now self.old self.new (S.has store.old) (S.has store.new))) }
-        ensures left { IfOk result (λ o. o ≡ None → Leaves name.now self.old self.new (S.has store.old) (S.has store.new)) }
-        ensures left_err { OnErr result (Leaves name.now self.old self.new (S.has store.old) (S.has store.new)) }
-        ensures none { IfOk result (λ o. IfSome (S.has store.old) (λ s. is_some o ≡ (is_some (folder_at s name.now).table || make))) }
-        ensures undamaged { IfOk result (λ o. IfSome o (λ n. IfSome (S.has store.old) (λ s. IsUndamaged name.now (folder_at s name.now)))) }
-        ensures unmade { IfOk result (λ o. o ≡ None → make ≡ false) }
-        ensures not_a_table { IfErr result (λ e. OnNotATable e (λ fault. IfSome (S.has store.old) (λ s. WithTable (folder_at s name.now).table (λ f. listed name.now f.reads ≡ Err fault)))) }
-        ensures damaged { IfErr result (λ e. OnDamaged e (λ d. IfSome (S.has store.old) (λ s. WithTable (folder_at s name.now).table (λ f. (es : List Entry) × (listed name.now f.reads ≡ Ok es) × IsFirst d (damages (folder_at s name.now).files es))))) }
-        ensures too_many { TooManyAt (length self.old.each) ⊥ result }
-        ensures cause { IfErr result (λ e. OnDisk e (Rose (S.faults store.old) (S.faults store.new) ⊎ (FolderFailed S.Folder.has S.Folder.faults (S.has store.old) (S.has store.new) name.now ⊎ TableBrokeIn S.Folder.Table.file S.Folder.Table.faults (S.has store.new) name.now))) }
-        ensures out { OutAre self.new.each (S.out store.new) }
-        ensures later { S.faults store.old ≤ S.faults store.new }
-    {
-        open_behind(
-            alloc,
-            store,
-            name,
-            make,
-            &mut self.datasets,
-            &mut self.held,
-            &mut self.numbers,
-        )
     }
 
     /// Gives all folders back to the store, with their tables. No pass is out, and each archiver was taken back.

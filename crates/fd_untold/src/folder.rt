@@ -2,7 +2,7 @@
 ghost use Rattle.std.specs.Prelude.{◌≡◌, ◌≤◌, None, true, false, string_bytes};
 ghost use Rattle.fd_disk.specs.{Folders.{with_table}, Renewals.{StandsStill}};
 
-use crate::fault::{counted, told};
+use crate::fault::{copied, counted, told};
 use crate::shelf::path_of;
 use crate::{Ground, Place, SystemFault, UntoldDisk, UntoldShelf};
 use fd_disk::{Down, FileName, Folder};
@@ -71,10 +71,8 @@ impl<P: Place> Folder<SystemFault> for UntoldFolder<P> {
         if self.name.len() > 255 {
             return Ok(None);
         }
-        let (Ok(name), Ok(mut device)) = (
-            String::from_str(alloc, self.name.as_str()),
-            self.place.table(alloc),
-        ) else {
+        let name = copied(alloc, self.name.as_str())?;
+        let Ok(mut device) = self.place.table(alloc) else {
             return Err(Down::NoMemory);
         };
         match self.place.open(alloc, &mut device) {
@@ -115,12 +113,8 @@ impl<P: Place> Folder<SystemFault> for UntoldFolder<P> {
         alloc: Global,
         writer: u32,
     ) -> Result<UntoldShelf<P::Files>, Down<SystemFault>> {
-        let (Ok(name), Ok(folder)) = (
-            String::from_str(alloc, self.name.as_str()),
-            String::from_str(alloc, self.place.path()),
-        ) else {
-            return Err(Down::NoMemory);
-        };
+        let name = copied(alloc, self.name.as_str())?;
+        let folder = copied(alloc, self.place.path())?;
         if let Err(error) = self.place.enter(alloc, self.table_out) {
             return Err(Down::Fault(counted(&mut self.faults, error)));
         }
@@ -147,12 +141,8 @@ impl<P: Place> Folder<SystemFault> for UntoldFolder<P> {
         alloc: Global,
         file: FileName,
     ) -> Result<Option<P::Sealed>, Down<SystemFault>> {
-        let (Ok(name), Ok(path)) = (
-            String::from_str(alloc, self.name.as_str()),
-            path_of(alloc, self.place.path(), file),
-        ) else {
-            return Err(Down::NoMemory);
-        };
+        let name = copied(alloc, self.name.as_str())?;
+        let path = path_of(alloc, self.place.path(), file)?;
         match self.place.length_of(path.as_str()) {
             Ok(Some(len)) => Ok(Some(self.place.sealed(path, name, file, len))),
             Ok(None) => Ok(None),

@@ -1,11 +1,12 @@
 // One writer's files in one dataset.
+ghost use Rattle.std.specs.Prelude.{◌≡◌, IfErr};
 
-use crate::fault::counted;
+use crate::fault::{copied, counted};
 use crate::{Files, SystemFault, UntoldDisk};
 use fd_bytes::NoMemory;
 use fd_disk::{Down, FileKind, FileName, Shelf};
 use fd_unsynced::Writing;
-use std::alloc::{AllocError, Global};
+use std::alloc::Global;
 use std::io::{Error, ErrorKind};
 
 /// How many bytes of small writes to a file of fields are gathered.
@@ -50,12 +51,8 @@ impl<N: Files> Shelf<SystemFault> for UntoldShelf<N> {
             seq,
             kind,
         };
-        let (Ok(name), Ok(path)) = (
-            String::from_str(alloc, self.name.as_str()),
-            path_of(alloc, self.folder.as_str(), made),
-        ) else {
-            return Err(Down::NoMemory);
-        };
+        let name = copied(alloc, self.name.as_str())?;
+        let path = path_of(alloc, self.folder.as_str(), made)?;
         let Ok(device) = self.files.device(alloc, path) else {
             return Err(Down::NoMemory);
         };
@@ -100,10 +97,19 @@ impl<N: Files> Shelf<SystemFault> for UntoldShelf<N> {
 }
 
 /// The path of a file: `FOLDER/WRITER-SEQ.fields` or `FOLDER/WRITER-SEQ.index`.
-pub(crate) fn path_of(alloc: Global, folder: &str, file: FileName) -> Result<String, AllocError> {
+pub(crate) fn path_of(
+    alloc: Global,
+    folder: &str,
+    file: FileName,
+) -> Result<String, Down<SystemFault>>
+    ensures { IfErr result (λ e. e ≡ Down.NoMemory) }
+{
     let kind = match file.kind {
         FileKind::Fields => "fields",
         FileKind::Index => "index",
     };
-    format!(in alloc; "{folder}/{}-{}.{kind}", file.writer, file.seq)
+    match format!(in alloc; "{folder}/{}-{}.{kind}", file.writer, file.seq) {
+        Ok(path) => Ok(path),
+        Err(_) => Err(Down::NoMemory),
+    }
 }
