@@ -13,7 +13,7 @@ ghost use Rattle.fd_trial.specs.{Asking.{Begins}, Telling.{ToldUnstored}};
 use crate::made::{MadeMessages, Unmade};
 use crate::places::places_of;
 use crate::ruling::{Unruled, ruled};
-use fd_archive::{store_all, tell_fault};
+use fd_archive::{Setup, tell_fault};
 use fd_bulk::BulkFault;
 use fd_bytes::NoMemory;
 use fd_io::Sink;
@@ -132,13 +132,15 @@ impl Plan<'_> {
         ensures output { objects.new.output ≡ objects.old.output }
         ensures home { (name : List ℕ) → W.Store.out objects.new.store name ≡ false }
     {
+        let setup = Setup {
+            schema: self.schema,
+            given: self.given,
+            workers: self.workers,
+        };
         let mut messages = MadeMessages::new(objects.alloc, self.count);
-        match store_all(
+        match setup.store_all(
             rt,
             objects.alloc,
-            self.schema,
-            self.given,
-            self.workers,
             &mut objects.store,
             &mut messages,
             &objects.gate,
