@@ -69,10 +69,10 @@ pub record FoundReclaimed (dataset : List ℕ) (P : Contents → Left → Type 0
 abbrev pub HasOldOr : (List (List Pair) → List (List Pair)) → List ℕ → Holdings → Holdings → Type 0
 HasOldOr new dataset h j = AreFirm h → (t : List (List Pair)) → table_at h dataset ≡ Some t → (table_at j dataset ≡ Some t) ⊎ (table_at j dataset ≡ Some (new t))
 
--- What each store has that a crash may leave once one dataset was purged or wiped: it is found so, and where all tables were firm, its
+-- What each store has that a crash may leave once a dataset was purged or wiped: it is found so; and where all tables were firm, its
 -- table is the old one, or the new.
 pub record LeavesReclaimed (dataset : List ℕ) (P : Contents → Left → Type 0) (new : List (List Pair) → List (List Pair)) (before now : Option Holdings) : Type 0 where
-  pub found : WhereTold before now (EachLeft (FoundReclaimed dataset P))
+  pub finds : WhereTold before now (EachLeft (FoundReclaimed dataset P))
   pub table : WhereTold before now (EachLeft (HasOldOr new dataset))
 
 -- what a crash left of a store, with each table firm

@@ -6,6 +6,6 @@ returns-clause-left g c =
     let before = g.W.Store.Store.has c.args.objects.now.store.inner in
     let now = g.W.Store.Store.has c.purge.new.objects.store.inner in
     record {
-      found = purge_found _ c.args.dataset.now before now c.purge.ensures.ran.store_is;
+      finds = purge_found _ c.args.dataset.now before now c.purge.ensures.ran.store_is;
       table = purge_holds c.every_purge.ensures.images _ c.args.dataset.now before now c.purge.ensures.ran.store_is;
     }
