@@ -7,12 +7,11 @@ ghost use Rattle.fd_outcome.specs.{Asking.{rules_of}, Noticing.{Notices, ReadsFi
 ghost use Rattle.fd_objects.specs.Objects.{Over, since};
 ghost use Rattle.fd_archive.specs.Crashing.{OutlastsCrash};
 
-use crate::storing::store_all;
+use crate::storing::Setup;
 use crate::telling::{tell_counts, tell_fault};
 use fd_key::Given;
 use fd_objects::{Objects, World};
 use fd_outcome::{Status, stored_schema};
-use fd_schema::Schema;
 use fd_telling::tell_unruled;
 use fd_words::Root;
 use std::sync::Wait;
@@ -48,7 +47,14 @@ pub fn archive<W: World, R: Threads + Wait + Sync>(
     ensures home { (name : List ℕ) → W.Store.out objects.new.store name ≡ false }
 {
     match stored_schema(objects.alloc, &mut objects.store, root.as_str()) {
-        Ok(schema) => archive_by(rt, objects, &schema, given, workers),
+        Ok(schema) => {
+            let setup = Setup {
+                schema: &schema,
+                given,
+                workers,
+            };
+            setup.archive_by(rt, objects)
+        }
         Err(unruled) => tell_unruled(
             objects.alloc,
             &mut objects.store,
@@ -58,41 +64,38 @@ pub fn archive<W: World, R: Threads + Wait + Sync>(
     }
 }
 
-/// The same, by the store's rules.
-fn archive_by<W: World, R: Threads + Wait + Sync>(
-    rt: &R,
-    objects: &mut Objects<W>,
-    schema: &Schema,
-    given: &Given,
-    workers: u32,
-) -> Status
-    requires home { (name : List ℕ) → W.Store.out objects.old.store name ≡ false }
-    requires schema { IsSchema schema.now }
-    requires workers { (1 ≤ workers) × (workers ≤ 8) }
-    ensures ran { Over W.Store.Store W.Input.Source W.Output.Sink W.Report.Sink objects (λ store input output report.
-        (root : List ℕ) (faults : ℕ) → faults ≤ store.faults_before → IfSome store.before (λ h. rules_of h.schema ≡ Ok schema.now)
-        → Ran (Archive root given.now workers) result (since store.before faults store) input output report) }
-    ensures notices { Over W.Store.Store W.Input.Source W.Output.Sink W.Report.Sink objects (λ store input output report.
-        (root : List ℕ) → IfSome store.before (λ h. rules_of h.schema ≡ Ok schema.now)
-        → Notices (Archive root given.now workers) result store input output report) }
-    ensures spares { WhereTold (W.Store.has objects.old.store) (W.Store.has objects.new.store) SparesDamaged }
-    ensures outlasts { Over W.Store.Store W.Input.Source W.Output.Sink W.Report.Sink objects (λ store input _ report.
-        (root : List ℕ) → IfSome store.before (λ h. rules_of h.schema ≡ Ok schema.now)
-        → OutlastsCrash (Archive root given.now workers) result store input report) }
-    ensures output { objects.new.output ≡ objects.old.output }
-    ensures home { (name : List ℕ) → W.Store.out objects.new.store name ≡ false }
-{
-    match store_all(
-        rt,
-        objects.alloc,
-        schema,
-        given,
-        workers,
-        &mut objects.store,
-        &mut objects.input,
-        &objects.gate,
-    ) {
-        Ok(bulk) => tell_counts(objects.alloc, &mut objects.report, bulk),
-        Err(fault) => tell_fault(objects.alloc, &mut objects.report, fault),
+impl Setup<'_> {
+    /// As `archive`, by these rules.
+    fn archive_by<W: World, R: Threads + Wait + Sync>(
+        &self,
+        rt: &R,
+        objects: &mut Objects<W>,
+    ) -> Status
+        requires home { (name : List ℕ) → W.Store.out objects.old.store name ≡ false }
+        requires schema { IsSchema self.now.schema.now }
+        requires workers { (1 ≤ self.now.workers) × (self.now.workers ≤ 8) }
+        ensures ran { Over W.Store.Store W.Input.Source W.Output.Sink W.Report.Sink objects (λ store input output report.
+            (root : List ℕ) (faults : ℕ) → faults ≤ store.faults_before → IfSome store.before (λ h. rules_of h.schema ≡ Ok self.now.schema.now)
+            → Ran (Archive root self.now.given.now self.now.workers) result (since store.before faults store) input output report) }
+        ensures notices { Over W.Store.Store W.Input.Source W.Output.Sink W.Report.Sink objects (λ store input output report.
+            (root : List ℕ) → IfSome store.before (λ h. rules_of h.schema ≡ Ok self.now.schema.now)
+            → Notices (Archive root self.now.given.now self.now.workers) result store input output report) }
+        ensures spares { WhereTold (W.Store.has objects.old.store) (W.Store.has objects.new.store) SparesDamaged }
+        ensures outlasts { Over W.Store.Store W.Input.Source W.Output.Sink W.Report.Sink objects (λ store input _ report.
+            (root : List ℕ) → IfSome store.before (λ h. rules_of h.schema ≡ Ok self.now.schema.now)
+            → OutlastsCrash (Archive root self.now.given.now self.now.workers) result store input report) }
+        ensures output { objects.new.output ≡ objects.old.output }
+        ensures home { (name : List ℕ) → W.Store.out objects.new.store name ≡ false }
+    {
+        match self.store_all(
+            rt,
+            objects.alloc,
+            &mut objects.store,
+            &mut objects.input,
+            &objects.gate,
+        ) {
+            Ok(bulk) => tell_counts(objects.alloc, &mut objects.report, bulk),
+            Err(fault) => tell_fault(objects.alloc, &mut objects.report, fault),
+        }
     }
 }

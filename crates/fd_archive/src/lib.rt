@@ -6,5 +6,5 @@ mod storing;
 mod telling;
 
 pub use command::archive;
-pub use storing::store_all;
+pub use storing::Setup;
 pub use telling::tell_fault;

@@ -1,7 +1,7 @@
 -- What is found of a store whose command was stopped at some call of the disk, and which then crashed.
 use Rattle.std.specs.Prelude.{◌≡◌, ◌≢◌, ◌⊎◌, ℕ, List, Option, Some, None, Result, Ok, Err, option_map}
 use Rattle.std.specs.Result.{IsOk}
-use Rattle.fd_disk.specs.Folders.{Contents, Holdings, IsStoreImage, Left, folder_at}
+use Rattle.fd_disk.specs.Folders.{Contents, Holdings, IsStoreImage, Left, WhereTold, folder_at}
 use Rattle.fd_disk.specs.Images.{firm_file}
 use Rattle.fd_entries.specs.declared.batch.Pair.{Pair}
 use Rattle.fd_key.specs.Pairs as keys
@@ -68,6 +68,12 @@ pub record FoundReclaimed (dataset : List ℕ) (P : Contents → Left → Type 0
 -- Where all tables were firm, a sound dataset holds what it held, or the new batches.
 abbrev pub HasOldOr : (List (List Pair) → List (List Pair)) → List ℕ → Holdings → Holdings → Type 0
 HasOldOr new dataset h j = AreFirm h → (t : List (List Pair)) → table_at h dataset ≡ Some t → (table_at j dataset ≡ Some t) ⊎ (table_at j dataset ≡ Some (new t))
+
+-- What each store has that a crash may leave once a dataset was purged or wiped: it is found so; and where all tables were firm, its
+-- table is the old one, or the new.
+pub record LeavesReclaimed (dataset : List ℕ) (P : Contents → Left → Type 0) (new : List (List Pair) → List (List Pair)) (before now : Option Holdings) : Type 0 where
+  pub finds : WhereTold before now (EachLeft (FoundReclaimed dataset P))
+  pub table : WhereTold before now (EachLeft (HasOldOr new dataset))
 
 -- what a crash left of a store, with each table firm
 abbrev pub firm_left : Left → Contents

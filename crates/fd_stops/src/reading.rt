@@ -1,7 +1,7 @@
 // The commands that only read, until the store stops. What they do is nothing that a crash may find.
-ghost use Rattle.std.specs.Prelude.{◌≡◌, ◌≤◌, None, false, List, ℕ};
+ghost use Rattle.std.specs.Prelude.{◌≡◌, None, false, List, ℕ};
 ghost use Rattle.fd_disk.specs.Folders.{WhereTold};
-ghost use Rattle.fd_words.specs.Words.{AreLayers};
+ghost use Rattle.fd_words.specs.Words.{IsWithinLimits};
 ghost use Rattle.fd_words.specs.declared.command.Command.TheVariants as commands;
 ghost use Rattle.fd_stops.specs.Found.{AnswersLast, EachLeft, IsAfterCrash};
 
@@ -24,7 +24,7 @@ pub fn retrieve_until<W: World, R: Threads + Wait + Sync>(
     root: &Root,
     workers: u32,
 ) -> Status
-    requires workers { (1 ≤ workers) × (workers ≤ 8) }
+    requires within { IsWithinLimits (commands.Retrieve root.now workers) }
     requires home { (name : List ℕ) → W.Store.out objects.old.store.inner name ≡ false }
     ensures before { WhereTold (W.Store.has objects.old.store.inner) (W.Store.has objects.new.store.inner) (EachLeft IsAfterCrash) }
     ensures answered { AnswersLast (commands.Retrieve root.now workers) result (W.Input.left objects.old.input)
@@ -42,8 +42,7 @@ pub fn retrieve_over_until<W: World, R: Threads + Wait + Sync>(
     layers: &Layers,
     workers: u32,
 ) -> Status
-    requires workers { (1 ≤ workers) × (workers ≤ 8) }
-    requires layers { AreLayers layers.now }
+    requires within { IsWithinLimits (commands.RetrieveOver root.now layers.now workers) }
     requires home { (name : List ℕ) → W.Store.out objects.old.store.inner name ≡ false }
     ensures before { WhereTold (W.Store.has objects.old.store.inner) (W.Store.has objects.new.store.inner) (EachLeft IsAfterCrash) }
     ensures answered { AnswersLast (commands.RetrieveOver root.now layers.now workers) result (W.Input.left objects.old.input)

@@ -1,8 +1,7 @@
 // `purge` and `wipe`, until the store stops.
 ghost use Rattle.std.specs.Prelude.{◌≡◌, [], false, List, ℕ};
-ghost use Rattle.fd_disk.specs.Folders.{WhereTold};
 ghost use Rattle.fd_purge.specs.{Kept.{kept}, Purging.{IsLeftByPurge, IsLeftByWipe}};
-ghost use Rattle.fd_stops.specs.Found.{EachLeft, FoundReclaimed, HasOldOr};
+ghost use Rattle.fd_stops.specs.Found.{LeavesReclaimed};
 
 use crate::stopping::Stopping;
 use fd_objects::{Objects, World};
@@ -20,10 +19,8 @@ pub fn purge_until<W: World>(
     dataset: &Dataset,
 ) -> Status
     requires home { (name : List ℕ) → W.Store.out objects.old.store.inner name ≡ false }
-    ensures left { WhereTold (W.Store.has objects.old.store.inner) (W.Store.has objects.new.store.inner)
-        (EachLeft (FoundReclaimed dataset.now (IsLeftByPurge dataset.now))) }
-    ensures table { WhereTold (W.Store.has objects.old.store.inner) (W.Store.has objects.new.store.inner)
-        (EachLeft (HasOldOr kept dataset.now)) }
+    ensures left { LeavesReclaimed dataset.now (IsLeftByPurge dataset.now) kept (W.Store.has objects.old.store.inner)
+        (W.Store.has objects.new.store.inner) }
     ensures home { (name : List ℕ) → W.Store.out objects.new.store.inner name ≡ false }
 {
     every_purge();
@@ -39,10 +36,8 @@ pub fn wipe_until<W: World>(
     dataset: &Dataset,
 ) -> Status
     requires home { (name : List ℕ) → W.Store.out objects.old.store.inner name ≡ false }
-    ensures left { WhereTold (W.Store.has objects.old.store.inner) (W.Store.has objects.new.store.inner)
-        (EachLeft (FoundReclaimed dataset.now (IsLeftByWipe dataset.now))) }
-    ensures table { WhereTold (W.Store.has objects.old.store.inner) (W.Store.has objects.new.store.inner)
-        (EachLeft (HasOldOr (λ t. []) dataset.now)) }
+    ensures left { LeavesReclaimed dataset.now (IsLeftByWipe dataset.now) (λ t. []) (W.Store.has objects.old.store.inner)
+        (W.Store.has objects.new.store.inner) }
     ensures home { (name : List ℕ) → W.Store.out objects.new.store.inner name ≡ false }
 {
     every_purge();

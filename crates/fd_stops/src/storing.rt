@@ -2,6 +2,7 @@
 ghost use Rattle.std.specs.Prelude.{◌≡◌, ◌≤◌, false, List, ℕ, IfSome};
 ghost use Rattle.fd_disk.specs.Folders.{WhereTold};
 ghost use Rattle.fd_outcome.specs.{Asking.{rules_of}, Trying.{trial_rules}};
+ghost use Rattle.fd_trial.specs.Size.{IsTrialSize};
 ghost use Rattle.fd_stops.specs.Found.{EachLeft, FoundStored, FoundTried};
 
 use crate::stopping::Stopping;
@@ -43,8 +44,7 @@ pub fn trial_until<W: World, R: Threads + Wait + Sync>(
     count: u32,
     workers: u32,
 ) -> Status
-    requires count { count ≤ 100000 }
-    requires workers { (1 ≤ workers) × (workers ≤ 8) }
+    requires size { IsTrialSize count workers }
     requires home { (name : List ℕ) → W.Store.out objects.old.store.inner name ≡ false }
     ensures left { WhereTold (W.Store.has objects.old.store.inner) (W.Store.has objects.new.store.inner)
         (EachLeft (λ h j. FoundTried workers count (trial_rules h.schema) h j)) }

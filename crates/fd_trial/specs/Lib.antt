@@ -3,3 +3,4 @@ pub mod Placed
 pub mod Ruling
 pub mod Asking
 pub mod Telling
+pub mod Size

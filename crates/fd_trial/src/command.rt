@@ -8,12 +8,12 @@ ghost use Rattle.fd_outcome.specs.{Archiving.{taken}, Ends.{IsPlanted}, Noticing
 ghost use Rattle.fd_objects.specs.Objects.{Over, since};
 ghost use Rattle.fd_archive.specs.{Crashing.{OutlastsCrash, OutlastsTrial}, Kept.{NoneDamaged}};
 ghost use Rattle.fd_retrieve.specs.Looking.{IsLookedThrough};
-ghost use Rattle.fd_trial.specs.{Asking.{Begins}, Telling.{ToldUnstored}};
+ghost use Rattle.fd_trial.specs.{Asking.{Begins}, Size.{IsTrialSize}, Telling.{ToldUnstored}};
 
 use crate::made::{MadeMessages, Unmade};
 use crate::places::places_of;
 use crate::ruling::{Unruled, ruled};
-use fd_archive::{store_all, tell_fault};
+use fd_archive::{Setup, tell_fault};
 use fd_bulk::BulkFault;
 use fd_bytes::NoMemory;
 use fd_io::Sink;
@@ -56,8 +56,7 @@ pub fn trial<W: World, R: Threads + Wait + Sync>(
     count: u32,
     workers: u32,
 ) -> Status
-    requires count { count ≤ 100000 }
-    requires workers { (1 ≤ workers) × (workers ≤ 8) }
+    requires size { IsTrialSize count workers }
     requires home { (name : List ℕ) → W.Store.out objects.old.store name ≡ false }
     ensures ran { Over W.Store.Store W.Input.Source W.Output.Sink W.Report.Sink objects (Ran (Trial root.now count workers) result) }
     ensures notices { Over W.Store.Store W.Input.Source W.Output.Sink W.Report.Sink objects
@@ -132,13 +131,15 @@ impl Plan<'_> {
         ensures output { objects.new.output ≡ objects.old.output }
         ensures home { (name : List ℕ) → W.Store.out objects.new.store name ≡ false }
     {
+        let setup = Setup {
+            schema: self.schema,
+            given: self.given,
+            workers: self.workers,
+        };
         let mut messages = MadeMessages::new(objects.alloc, self.count);
-        match store_all(
+        match setup.store_all(
             rt,
             objects.alloc,
-            self.schema,
-            self.given,
-            self.workers,
             &mut objects.store,
             &mut messages,
             &objects.gate,
