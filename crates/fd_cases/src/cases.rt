@@ -247,102 +247,117 @@ fn is_right(
         && are(alloc, output.taken(), row.output)
 }
 
-/// Runs a row over this store. Gives the store back, and tells whether the row ends as it says.
-fn ends_so<F: Send + Drop, S: Store<F>, R: Threads + Wait + Sync>(
-    rt: &R,
-    alloc: Global,
-    store: S,
-    row: &Row,
-    piece: u32,
-) -> (S, bool)
-where
-    S::Folder: Renew<F>,
-    requires home { (name : List ℕ) → S.out store name ≡ false }
-    ensures home { (name : List ℕ) → S.out result.0 name ≡ false }
-{
-    let Some(streams) = streams_of(alloc, row, piece) else {
-        return (store, false);
-    };
-    let Streams {
-        input,
-        output,
-        report,
-    } = streams;
-    let turns = Turns::new(row.holds);
-    let mut objects = Objects::<Kinds<F, MemIoFault, S, _, _, _, _>> {
-        alloc,
-        store,
-        input: Gated {
-            input,
-            reads: 0,
-            gate: &turns,
-        },
-        output,
-        report,
-        gate: Lent { turns: &turns },
-    };
-    let status = fdb(rt, &mut objects, row.words).code();
-    let Objects {
-        alloc: _alloc,
-        store,
-        input: _input,
-        output,
-        report,
-        gate: _gate,
-    } = objects;
-    let is_so = is_right(alloc, row, &output, &report, status, &turns);
-    (store, is_so)
+/// What rows are run with.
+pub struct Runner<'a, R> {
+    /// The host's threads.
+    pub rt: &'a R,
+    /// What memory is asked of.
+    pub alloc: Global,
+    /// How many octets a read of the input gives at most.
+    pub piece: u32,
 }
 
-/// Runs rows over this store, one after the other. Gives the store back, and tells whether each row ends as it says.
-pub fn all_end_so<F: Send + Drop, S: Store<F>, R: Threads + Wait + Sync>(
-    rt: &R,
-    alloc: Global,
-    store: S,
-    rows: &[Row],
-    piece: u32,
-) -> (S, bool)
-where
-    S::Folder: Renew<F>,
-    requires home { (name : List ℕ) → S.out store name ≡ false }
-    ensures home { (name : List ℕ) → S.out result.0 name ≡ false }
-{
-    let mut store = store;
-    for row in rows {
-        let (left, is_so) = ends_so(rt, alloc, store, row, piece);
-        store = left;
-        if !is_so {
+impl<R> Drop for Runner<'_, R> {
+    fn drop(self) {
+        let Runner {
+            rt: _,
+            alloc: _,
+            piece: _,
+        } = self;
+    }
+}
+
+impl<R: Threads + Wait + Sync> Runner<'_, R> {
+    /// Runs a row over this store. Gives the store back, and tells whether the row ends as it says.
+    fn ends_so<F: Send + Drop, S: Store<F>>(&self, store: S, row: &Row) -> (S, bool)
+    where
+        S::Folder: Renew<F>,
+        requires home { (name : List ℕ) → S.out store name ≡ false }
+        ensures home { (name : List ℕ) → S.out result.0 name ≡ false }
+    {
+        let Some(streams) = streams_of(self.alloc, row, self.piece) else {
             return (store, false);
+        };
+        let Streams {
+            input,
+            output,
+            report,
+        } = streams;
+        let turns = Turns::new(row.holds);
+        let mut objects = Objects::<Kinds<F, MemIoFault, S, _, _, _, _>> {
+            alloc: self.alloc,
+            store,
+            input: Gated {
+                input,
+                reads: 0,
+                gate: &turns,
+            },
+            output,
+            report,
+            gate: Lent { turns: &turns },
+        };
+        let status = fdb(self.rt, &mut objects, row.words).code();
+        let Objects {
+            alloc,
+            store,
+            input: _input,
+            output,
+            report,
+            gate: _gate,
+        } = objects;
+        let is_so = is_right(alloc, row, &output, &report, status, &turns);
+        (store, is_so)
+    }
+
+    /// Runs rows over this store, one after the other. Gives the store back, and tells whether each row ends as it says.
+    pub fn all_end_so<F: Send + Drop, S: Store<F>>(&self, store: S, rows: &[Row]) -> (S, bool)
+    where
+        S::Folder: Renew<F>,
+        requires home { (name : List ℕ) → S.out store name ≡ false }
+        ensures home { (name : List ℕ) → S.out result.0 name ≡ false }
+    {
+        let mut store = store;
+        for row in rows {
+            let (left, is_so) = self.ends_so(store, row);
+            store = left;
+            if !is_so {
+                return (store, false);
+            }
+        }
+        (store, true)
+    }
+
+    /// The same, over a store in memory.
+    fn all_end_in_memory(&self, store: MemStore, rows: &[Row]) -> (MemStore, bool) {
+        self.all_end_so(store, rows)
+    }
+
+    /// Runs a row where so many calls of the store pass before all fail. Gives the store back, and tells whether the row ends as it
+    /// says.
+    fn is_halted(&self, mut store: MemStore, halted: Option<(u64, Row)>) -> (MemStore, bool) {
+        match halted {
+            Some((calls, row)) => {
+                store.fuse(calls);
+                self.all_end_in_memory(store, &[row])
+            }
+            None => (store, true),
         }
     }
-    (store, true)
-}
 
-/// The same, over a store in memory.
-fn all_end_in_memory<R: Threads + Wait + Sync>(
-    rt: &R,
-    alloc: Global,
-    store: MemStore,
-    rows: &[Row],
-    piece: u32,
-) -> (MemStore, bool) {
-    all_end_so(rt, alloc, store, rows, piece)
-}
-
-/// Runs a row where so many calls of the store pass before all fail. Gives the store back, and tells whether the row ends as it
-/// says.
-fn is_halted<R: Threads + Wait + Sync>(
-    rt: &R,
-    alloc: Global,
-    mut store: MemStore,
-    halted: Option<(u64, Row)>,
-) -> (MemStore, bool) {
-    match halted {
-        Some((calls, row)) => {
-            store.fuse(calls);
-            all_end_in_memory(rt, alloc, store, &[row], 100)
+    /// Runs the rows of a case, and tells whether each ends as it says.
+    fn holds(&self, case: &Case) -> bool {
+        let Some(store) = store_of(self.alloc, case) else {
+            return false;
+        };
+        let (store, before) = self.all_end_in_memory(store, case.rows);
+        let (store, halted) = self.is_halted(store, case.halted);
+        match after(self.alloc, store, &case.event) {
+            Some(store) => {
+                let (_store, behind) = self.all_end_in_memory(store, case.after);
+                before && halted && behind
+            }
+            None => false,
         }
-        None => (store, true),
     }
 }
 
@@ -428,22 +443,6 @@ fn after(alloc: Global, mut store: MemStore, event: &Event) -> Option<MemStore> 
     }
 }
 
-/// Runs the rows of a case, and tells whether each ends as it says.
-fn holds<R: Threads + Wait + Sync>(rt: &R, alloc: Global, case: &Case) -> bool {
-    let Some(store) = store_of(alloc, case) else {
-        return false;
-    };
-    let (store, before) = all_end_in_memory(rt, alloc, store, case.rows, case.piece);
-    let (store, halted) = is_halted(rt, alloc, store, case.halted);
-    match after(alloc, store, &case.event) {
-        Some(store) => {
-            let (_store, behind) = all_end_in_memory(rt, alloc, store, case.after, case.piece);
-            before && halted && behind
-        }
-        None => false,
-    }
-}
-
 /// The number of the first case that doesn't hold, from 0.
 pub fn first_wrong<R: Threads + Wait + Sync>(
     rt: &R,
@@ -451,7 +450,12 @@ pub fn first_wrong<R: Threads + Wait + Sync>(
     cases: &[Case],
 ) -> Option<usize> {
     for (number, case) in cases.iter().enumerate() {
-        if !holds(rt, alloc, case) {
+        let runner = Runner {
+            rt,
+            alloc,
+            piece: case.piece,
+        };
+        if !runner.holds(case) {
             return Some(number);
         }
     }

@@ -4,5 +4,5 @@
 mod cases;
 mod octets;
 
-pub use cases::{CASE, Case, Event, Hold, ROW, Row, all_end_so, first_wrong};
+pub use cases::{CASE, Case, Event, Hold, ROW, Row, Runner, first_wrong};
 pub use octets::{FIELD, NEWER, Part, are, push_parts};

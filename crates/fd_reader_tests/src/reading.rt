@@ -6,7 +6,7 @@ ghost use Rattle.fd_retriever.specs.Kept.{Fits};
 
 use crate::writing::{Key, SIZE, place};
 use fd_dataset::{Dataset, DatasetPass, Snapshot};
-use fd_disk::{Folder, Sealed};
+use fd_disk::{Disk, Folder, Sealed};
 use fd_finding::find_all;
 use fd_io::{Gate, MemSink, Sink};
 use fd_recovery::{Recovered, recover};
@@ -17,28 +17,30 @@ use std::sync::Wait;
 use std::sync::atomic::{AtomicU64, Ordering};
 use std::thread::Threads;
 
-/// A dataset of a folder, with its pass.
-pub(crate) type Opened<F, D> = (
-    Dataset<F, <D as Folder<F>>::Table, <D as Folder<F>>::Sealed>,
-    DatasetPass<F, <D as Folder<F>>::Table, <D as Folder<F>>::Sealed>,
-);
+/// A dataset that is open, with its pass.
+#[derive(Drop)]
+pub(crate) struct Open<F: Send, T: Disk<F>, Z: Sealed<F>> {
+    pub(crate) dataset: Dataset<F, T, Z>,
+    pub(crate) pass: DatasetPass<F, T, Z>,
+}
 
 /// Opens the dataset of a folder that has its table.
 pub(crate) fn opened<F: Send + Drop, D: Folder<F>>(
     alloc: Global,
     folder: &mut D,
-) -> Option<Opened<F, D>>
+) -> Option<Open<F, D::Table, D::Sealed>>
 where
     requires back { D.table_out folder.old ≡ false }
     requires name { D.name folder.old ≡ codes "a=1" }
-    ensures free { IfSome result (λ r. IsFree r.0 r.1) }
+    ensures free { IfSome result (λ o. IsFree o.dataset o.pass) }
     ensures out { OnSome result (D.table_out folder.new ≡ true) }
     ensures name { D.name folder.new ≡ codes "a=1" }
 {
     let Ok(Some(Recovered { toc, segments })) = recover(alloc, folder, "a=1") else {
         return None;
     };
-    Dataset::new(alloc, toc, segments).ok()
+    let (dataset, pass) = Dataset::new(alloc, toc, segments).ok()?;
+    Some(Open { dataset, pass })
 }
 
 /// What is listed in the dataset of a folder.
@@ -51,7 +53,7 @@ where
     requires back { D.table_out folder.old ≡ false }
     requires name { D.name folder.old ≡ codes "a=1" }
 {
-    let Some((dataset, mut pass)) = opened(alloc, folder) else {
+    let Some(Open { dataset, mut pass }) = opened(alloc, folder) else {
         return None;
     };
     let snapshot = dataset.snapshot(rt, alloc, &mut pass);

@@ -4,9 +4,8 @@ ghost use Rattle.fd_disk.specs.declared.folders.FileName.{FileName};
 ghost use Rattle.fd_schema.specs.{Rules.{file_key}, Reading.{seen_place}};
 ghost use Rattle.fd_reader_tests.specs.Passing.{IsFree};
 
-use crate::reading::opened;
+use crate::reading::{Open, opened};
 use fd_archiver::{Archiver, Flush, FlushFault};
-use fd_dataset::{Dataset, DatasetPass};
 use fd_disk::{Disk, Folder, Shelf};
 use fd_schema::Place;
 use fd_segment::Room;
@@ -102,19 +101,18 @@ fn flush<F: Send + Drop, T: Disk<F>, H: Shelf<F>, R: Wait>(
     rt: &R,
     alloc: Global,
     archiver: &mut Archiver<F, H>,
-    dataset: &Dataset<F, T, H::Sealed>,
-    pass: &mut DatasetPass<F, T, H::Sealed>,
+    open: &mut Open<F, T, H::Sealed>,
 ) -> Went
 where
-    requires free { IsFree dataset.now pass.old }
+    requires free { IsFree open.old.dataset open.old.pass }
     requires dataset { archiver.old.dataset ≡ codes "a=1" }
-    ensures free { IsFree dataset.now pass.new }
+    ensures free { IsFree open.new.dataset open.new.pass }
     ensures same { archiver.new.dataset ≡ archiver.old.dataset }
 {
     if archiver.writer() > 65_536 || archiver.flushes_left() == 0 {
         return Went::Never;
     }
-    match archiver.flush(rt, alloc, dataset, pass) {
+    match archiver.flush(rt, alloc, &open.dataset, &mut open.pass) {
         Ok(Flush::Listed(_)) => Went::AtOnce,
         Err(FlushFault::TableFull { count }) => Went::Full(count),
         _ => Went::Never,
@@ -126,26 +124,25 @@ fn write<F: Send + Drop, T: Disk<F>, H: Shelf<F>, R: Wait>(
     rt: &R,
     alloc: Global,
     archiver: &mut Archiver<F, H>,
-    dataset: &Dataset<F, T, H::Sealed>,
-    pass: &mut DatasetPass<F, T, H::Sealed>,
+    open: &mut Open<F, T, H::Sealed>,
     two: Two,
 ) -> Went
 where
-    requires free { IsFree dataset.now pass.old }
+    requires free { IsFree open.old.dataset open.old.pass }
     requires dataset { archiver.old.dataset ≡ codes "a=1" }
-    ensures free { IsFree dataset.now pass.new }
+    ensures free { IsFree open.new.dataset open.new.pass }
     ensures same { archiver.new.dataset ≡ archiver.old.dataset }
 {
     if !put(alloc, archiver, two.first) {
         return Went::Never;
     }
     if two.apart {
-        went!(flush(rt, alloc, archiver, dataset, pass));
+        went!(flush(rt, alloc, archiver, open));
     }
     if !put(alloc, archiver, two.second) {
         return Went::Never;
     }
-    went!(flush(rt, alloc, archiver, dataset, pass))
+    went!(flush(rt, alloc, archiver, open))
 }
 
 /// Has a writer of this shelf put two messages, and gives the shelf back.
@@ -154,15 +151,14 @@ fn written<F: Send + Drop, T: Disk<F>, H: Shelf<F>, R: Wait>(
     alloc: Global,
     shelf: H,
     writer: u32,
-    dataset: &Dataset<F, T, H::Sealed>,
-    pass: &mut DatasetPass<F, T, H::Sealed>,
+    open: &mut Open<F, T, H::Sealed>,
     two: Two,
 ) -> (H, Went)
 where
-    requires free { IsFree dataset.now pass.old }
+    requires free { IsFree open.old.dataset open.old.pass }
     requires shelf { (H.name shelf ≡ codes "a=1") × (H.writer shelf ≡ writer) }
     requires new { (n : FileName) → H.created shelf n ≡ false }
-    ensures free { IsFree dataset.now pass.new }
+    ensures free { IsFree open.new.dataset open.new.pass }
     ensures shelf { H.name result.0 ≡ codes "a=1" }
 {
     let room = Room { keys: 2, bytes: 6 };
@@ -170,7 +166,7 @@ where
         Ok(archiver) => archiver,
         Err((shelf, _)) => return (shelf, Went::Never),
     };
-    let went = write(rt, alloc, &mut archiver, dataset, pass, two);
+    let went = write(rt, alloc, &mut archiver, open, two);
     (archiver.close(), went)
 }
 
@@ -191,10 +187,11 @@ where
     let Ok(shelf) = folder.shelf(alloc, writer) else {
         return None;
     };
-    let Some((dataset, mut pass)) = opened(alloc, folder) else {
+    let Some(mut open) = opened(alloc, folder) else {
         return None;
     };
-    let (shelf, went) = written(rt, alloc, shelf, writer, &dataset, &mut pass, two);
+    let (shelf, went) = written(rt, alloc, shelf, writer, &mut open, two);
+    let Open { dataset, pass } = open;
     folder.give_shelf(shelf);
     folder.give_table(dataset.close(pass).into_table());
     Some(went)

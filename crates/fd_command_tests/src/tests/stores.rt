@@ -1,5 +1,5 @@
 //! The commands over a store in memory, and once over real files.
-use fd_cases::{CASE, Case, FIELD, NEWER, Part, ROW, Row, all_end_so, first_wrong};
+use fd_cases::{CASE, Case, FIELD, NEWER, Part, ROW, Row, Runner, first_wrong};
 use fd_disk_mem::Op;
 use fd_disk_real::RealStore;
 
@@ -116,7 +116,12 @@ const KEEPING: &[Row] = &[CREATED, ARCHIVED, RETRIEVED, MISSED];
 fn keeps_files(rt: HostRuntime) {
     let kept = match RealStore::new(rt.alloc(), rt) {
         Ok(store) => {
-            let (_store, is_so) = all_end_so(&rt, rt.alloc(), store, KEEPING, 100);
+            let runner = Runner {
+                rt: &rt,
+                alloc: rt.alloc(),
+                piece: 100,
+            };
+            let (_store, is_so) = runner.all_end_so(store, KEEPING);
             is_so
         }
         Err(_) => false,
