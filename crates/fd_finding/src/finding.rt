@@ -7,6 +7,7 @@ ghost use Rattle.fd_retriever.specs.Answers.{SomeUntold, Tells};
 ghost use Rattle.fd_finding.specs.{Spots.{AllSayOf, AreTheOnly, IsAnswer, IsWithin, StandsForSome, place_key}, Searching.{IsFresh, Ran, all_spots, spot_of}};
 
 use crate::dealing::deal;
+use crate::finder::Finder;
 use crate::searching::search;
 use crate::spot::{Job, Sought};
 use fd_dataset::Snapshot;
@@ -99,7 +100,7 @@ fn fault_of<F: Drop>(jobs: Vec<Job<F>>) -> Option<LensFault<F>>
 
 /// Finds for each place the newest bytes of its key among the segments of a snapshot, and answers, in the order of the
 /// places, where they stand, or none exactly where no segment has the key. The places are looked for in contiguous pieces
-/// by so many workers, each in a thread of its own; worker w, from 1, passes the gate with its number and the step 1 before
+/// by the finder's workers, each in a thread of its own; worker w, from 1, passes the gate with its number and the step 1 before
 /// its first look-up, also where its piece is empty. A worker goes from the newest segment to the oldest, opens each at most
 /// once, looks up in it all its keys that it hasn't found yet, and ends where none is left. What is answered follows from
 /// the snapshot and the places alone, whatever the number of workers.
@@ -109,14 +110,11 @@ fn fault_of<F: Drop>(jobs: Vec<Job<F>>) -> Option<LensFault<F>>
 /// damage stands in one of the segments. All memory but that of the look-ups is taken before the first worker begins. Where
 /// several workers are refused, the refusal of the first of them is answered.
 pub fn find_all<F: Send + Drop, Z: Sealed<F>, G: Gate, R: Threads + Wait + Sync>(
-    rt: &R,
-    alloc: Global,
+    finder: &Finder<'_, G, R>,
     snapshot: &Snapshot<F, Z>,
     places: &[Place],
-    workers: u32,
-    gate: &G,
 ) -> Result<Vec<Option<Spot>>, LensFault<F>>
-    requires workers { (1 ≤ workers) × (workers ≤ 8) }
+    requires workers { (1 ≤ finder.now.workers) × (finder.now.workers ≤ 8) }
     ensures count { IfOk result (λ v. length v.items ≡ length places.now) }
     ensures answer { IfOk result (λ v. (t : List (List Pair)) → Tells (map listing snapshot.now) t → AllZip (IsAnswer snapshot.now t) (map place_key places.now) v.items) }
     ensures says { IfOk result (λ v. AllZip (AllSayOf snapshot.now) (map place_key places.now) v.items) }
@@ -125,13 +123,19 @@ pub fn find_all<F: Send + Drop, Z: Sealed<F>, G: Gate, R: Threads + Wait + Sync>
     ensures damaged { IfErr result (λ e. OnDamaged e (StandsForSome snapshot.now (map place_key places.now))) }
     ensures sound { IfErr result (λ e. OnDamaged e (λ _. SomeUntold (map listing snapshot.now))) }
 {
-    let Ok(spots) = Vec::with_capacity(alloc, places.len()) else {
+    let Ok(spots) = Vec::with_capacity(finder.alloc, places.len()) else {
         return Err(LensFault::NoMemory);
     };
-    let Ok(mut jobs) = deal(alloc, places, workers) else {
+    let Ok(mut jobs) = deal(finder.alloc, places, finder.workers) else {
         return Err(LensFault::NoMemory);
     };
-    run_all(rt, alloc, gate, snapshot, jobs.as_mut_slice());
+    run_all(
+        finder.rt,
+        finder.alloc,
+        finder.gate,
+        snapshot,
+        jobs.as_mut_slice(),
+    );
     let spots = spots_of(&jobs, spots);
     match fault_of(jobs) {
         Some(fault) => Err(fault),

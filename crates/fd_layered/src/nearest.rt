@@ -6,6 +6,7 @@ ghost use Rattle.fd_layered.specs.{Chains.{first_some, firsts}, Finding.{AreNear
 
 use fd_bytes::NoMemory;
 use fd_disk::Sealed;
+use fd_finding::Finder;
 use fd_io::Gate;
 use fd_retrieve::{Located, Lost, Opened, locate};
 use fd_schema::Place;
@@ -45,24 +46,21 @@ fn firsts_of(
 }
 
 /// Finds where the newest bytes of each key stand: of so many places behind one another those of the first whose dataset has
-/// the key. All keys of one dataset are looked for at once, by so many workers.
+/// the key. All keys of one dataset are looked for at once, by the finder's workers.
 pub(crate) fn locate_over<F: Send + Drop, Z: Sealed<F>, G: Gate, R: Threads + Wait + Sync>(
-    rt: &R,
-    alloc: Global,
+    finder: &Finder<'_, G, R>,
     opened: &[Opened<F, Z>],
     places: &[Place],
     width: usize,
     count: u32,
-    workers: u32,
-    gate: &G,
 ) -> Result<Vec<Option<Located>>, Lost<F>>
 where
-    requires workers { (1 ≤ workers) × (workers ≤ 8) }
+    requires workers { (1 ≤ finder.now.workers) × (finder.now.workers ≤ 8) }
     ensures located { IfOk result (λ v. AreNearest opened.now places.now width count v.items) }
     ensures damaged { IfErr result (λ e. OnLost e (IsDamagedAt opened.now)) }
 {
-    match locate(rt, alloc, opened, places, workers, gate) {
-        Ok(located) => match firsts_of(alloc, &located, width, count) {
+    match locate(finder, opened, places) {
+        Ok(located) => match firsts_of(finder.alloc, &located, width, count) {
             Ok(nearest) => Ok(nearest),
             Err(NoMemory) => Err(Lost::NoMemory),
         },

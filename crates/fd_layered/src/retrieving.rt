@@ -12,6 +12,7 @@ ghost use Rattle.fd_layered.specs.{Chains.{AreChains}, Ready.{IsReady, laid_with
 use crate::nearest::locate_over;
 use crate::preparing::prepared;
 use fd_disk::Sealed;
+use fd_finding::Finder;
 use fd_objects::{Objects, World};
 use fd_outcome::Status;
 use fd_retrieve::{Ready, answer_located};
@@ -90,14 +91,16 @@ fn answered<W: World, Z: Sealed<W::StoreFault>, R: Threads + Wait + Sync>(
         opened,
     } = ready;
     let located = locate_over(
-        rt,
-        objects.alloc,
+        &Finder {
+            rt,
+            alloc: objects.alloc,
+            workers,
+            gate: &objects.gate,
+        },
         &opened,
         &places,
         layers.len() + 1,
         request.count(),
-        workers,
-        &objects.gate,
     );
     answer_located(rt, objects, &request, &opened, located, workers)
 }

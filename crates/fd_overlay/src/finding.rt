@@ -11,7 +11,7 @@ use crate::spot::{FindFault, LayerSpot};
 use fd_bytes::NoMemory;
 use fd_dataset::Snapshot;
 use fd_disk::Sealed;
-use fd_finding::{again, find_all};
+use fd_finding::{Finder, again, find_all};
 use fd_io::Gate;
 use fd_retriever::Spot;
 use fd_schema::Place;
@@ -112,24 +112,21 @@ fn merge(
 
 /// Finds these places in one layer, if there are any.
 fn find_some<F: Send + Drop, Z: Sealed<F>, G: Gate, R: Threads + Wait + Sync>(
-    rt: &R,
-    alloc: Global,
+    finder: &Finder<'_, G, R>,
     snapshot: &Snapshot<F, Z>,
     layer: usize,
     places: &[Place],
-    workers: u32,
-    gate: &G,
 ) -> Result<Vec<Option<Spot>>, FindFault<F>>
 where
-    requires workers { (1 ≤ workers) × (workers ≤ 8) }
+    requires workers { (1 ≤ finder.now.workers) × (finder.now.workers ≤ 8) }
     ensures found { IfOk result (λ v. AllZip (FoundIn snapshot.now) (map place_key places.now) v.items) }
     ensures damaged { IfErr result (λ e. OnDamaged e (λ n d. (n ≡ layer) × StandsForSome snapshot.now (map place_key places.now) d)) }
     ensures sound { IfErr result (λ e. OnDamaged e (λ _ _. SomeUntold (map listing snapshot.now))) }
 {
     if places.is_empty() {
-        return Ok(Vec::new(alloc));
+        return Ok(Vec::new(finder.alloc));
     }
-    match find_all(rt, alloc, snapshot, places, workers, gate) {
+    match find_all(finder, snapshot, places) {
         Ok(found) => Ok(found),
         Err(LensFault::Fault(fault)) => Err(FindFault::Fault(fault)),
         Err(LensFault::Damaged(damage)) => Err(FindFault::Damaged { layer, damage }),
@@ -139,30 +136,27 @@ where
 
 /// Finds in the layer with this number the keys of which no spot is known.
 fn find_more<F: Send + Drop, Z: Sealed<F>, G: Gate, R: Threads + Wait + Sync>(
-    rt: &R,
-    alloc: Global,
+    finder: &Finder<'_, G, R>,
     snapshot: &Snapshot<F, Z>,
     layer: usize,
     places: &[Place],
     spots: &[Option<LayerSpot>],
-    workers: u32,
-    gate: &G,
 ) -> Result<Vec<Option<LayerSpot>>, FindFault<F>>
 where
-    requires workers { (1 ≤ workers) × (workers ≤ 8) }
+    requires workers { (1 ≤ finder.now.workers) × (finder.now.workers ≤ 8) }
     requires long { length spots.now ≡ length places.now }
     ensures more { IfOk result (λ v. SearchesMore snapshot.now layer (map place_key places.now) spots.now v.items) }
     ensures damaged { IfErr result (λ e. OnDamaged e (λ n d. (n ≡ layer) × StandsForSome snapshot.now (map place_key places.now) d)) }
     ensures sound { IfErr result (λ e. OnDamaged e (λ _ _. SomeUntold (map listing snapshot.now))) }
 {
-    let Ok(others) = unfound(alloc, places, spots) else {
+    let Ok(others) = unfound(finder.alloc, places, spots) else {
         return Err(FindFault::NoMemory);
     };
-    let found = match find_some(rt, alloc, snapshot, layer, &others, workers, gate) {
+    let found = match find_some(finder, snapshot, layer, &others) {
         Ok(found) => found,
         Err(fault) => return Err(fault),
     };
-    match merge(alloc, layer, spots, &found) {
+    match merge(finder.alloc, layer, spots, &found) {
         Ok(all) => Ok(all),
         Err(NoMemory) => Err(FindFault::NoMemory),
     }
@@ -170,21 +164,18 @@ where
 
 /// Finds for each place the newest bytes of its key among layers, the nearest first, and answers, in the order of the places,
 /// where they stand, or none exactly where no layer has the key. The layers are searched one after the other, the nearest first, each
-/// for the keys that no nearer one has, by so many workers, each in a thread of its own, which go over a layer's segments from
+/// for the keys that no nearer one has, by the finder's workers, each in a thread of its own, which go over a layer's segments from
 /// the newest on. What is answered follows from the layers and the places alone, whatever the number of workers.
 ///
 /// `Fault` comes only with the fault of a file's call in this search. `Damaged` never comes where each segment of the layer
 /// that it names stands for a batch, and the damage stands in one of that layer's segments.
 pub fn find_over<F: Send + Drop, Z: Sealed<F>, G: Gate, R: Threads + Wait + Sync>(
-    rt: &R,
-    alloc: Global,
+    finder: &Finder<'_, G, R>,
     layers: &[&Snapshot<F, Z>],
     places: &[Place],
-    workers: u32,
-    gate: &G,
 ) -> Result<Vec<Option<LayerSpot>>, FindFault<F>>
 where
-    requires workers { (1 ≤ workers) × (workers ≤ 8) }
+    requires workers { (1 ≤ finder.now.workers) × (finder.now.workers ≤ 8) }
     ensures count { IfOk result (λ v. length v.items ≡ length places.now) }
     ensures answer { IfOk result (λ v. (ts : List (List (List Pair))) → AllTell (shown layers.now) ts → AllZip (IsLaidAnswer (shown layers.now) ts) (map place_key places.now) v.items) }
     ensures says { IfOk result (λ v. AllZip (LayersSayOf (shown layers.now)) (map place_key places.now) v.items) }
@@ -193,11 +184,11 @@ where
     ensures damaged { IfErr result (λ e. OnDamaged e (StandsInNumber (shown layers.now) (map place_key places.now))) }
     ensures sound { IfErr result (λ e. OnDamaged e (λ n _. IsUntoldNumber (shown layers.now) n)) }
 {
-    let Ok(mut spots) = nowhere(alloc, places) else {
+    let Ok(mut spots) = nowhere(finder.alloc, places) else {
         return Err(FindFault::NoMemory);
     };
     for i in 0..layers.len() {
-        spots = match find_more(rt, alloc, layers[i], i, places, &spots, workers, gate) {
+        spots = match find_more(finder, layers[i], i, places, &spots) {
             Ok(more) => more,
             Err(fault) => return Err(fault),
         };

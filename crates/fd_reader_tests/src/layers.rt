@@ -8,6 +8,7 @@ use fd_bytes::NoMemory;
 use fd_dataset::Snapshot;
 use fd_disk::{Sealed, Store};
 use fd_disk_mem::{MemFault, MemStore};
+use fd_finding::Finder;
 use fd_io::MemSink;
 use fd_overlay::{LayerSpot, Over, find_over};
 use fd_retriever::{Got, Spot};
@@ -85,7 +86,13 @@ fn all_found<F: Send + Drop, Z: Sealed<F>, R: Threads + Wait + Sync>(
     places: &[Place; 3],
 ) -> Option<Finding> {
     let counts = Counts::new();
-    let Ok(spots) = find_over(rt, alloc, layers, places.as_slice(), 2, &counts) else {
+    let finder = Finder {
+        rt,
+        alloc,
+        workers: 2,
+        gate: &counts,
+    };
+    let Ok(spots) = find_over(&finder, layers, places.as_slice()) else {
         return None;
     };
     let three = [spot_at(&spots, 0), spot_at(&spots, 1), spot_at(&spots, 2)];

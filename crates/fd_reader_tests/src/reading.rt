@@ -7,7 +7,7 @@ ghost use Rattle.fd_retriever.specs.Kept.{Fits};
 use crate::writing::{Key, SIZE, place};
 use fd_dataset::{Dataset, DatasetPass, Snapshot};
 use fd_disk::{Disk, Folder, Sealed};
-use fd_finding::find_all;
+use fd_finding::{Finder, find_all};
 use fd_io::{Gate, MemSink, Sink};
 use fd_recovery::{Recovered, recover};
 use fd_retriever::*;
@@ -182,7 +182,13 @@ fn found_at<F: Send + Drop, Z: Sealed<F>, R: Threads + Wait + Sync>(
     requires { (1 ≤ workers) × (workers ≤ 8) }
 {
     let counts = Counts::new();
-    let Ok(spots) = find_all(rt, alloc, snapshot, places, workers, &counts) else {
+    let finder = Finder {
+        rt,
+        alloc,
+        workers,
+        gate: &counts,
+    };
+    let Ok(spots) = find_all(&finder, snapshot, places) else {
         return None;
     };
     let three = [spot_at(&spots, 0), spot_at(&spots, 1), spot_at(&spots, 2)];

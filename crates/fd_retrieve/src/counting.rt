@@ -15,6 +15,7 @@ use fd_ahead::{Located, Opened, ReadStock, Stock};
 use fd_answering::write_found;
 use fd_bytes::NoMemory;
 use fd_disk::{Folder, Sealed, Store};
+use fd_finding::Finder;
 use fd_io::{Gate, Sink};
 use fd_retriever::{FetchFault, Got};
 use fd_schema::Place;
@@ -46,18 +47,15 @@ impl Sink<NoMemory> for Unkept {
     }
 }
 
-/// Looks for the newest fields of the keys of these places, reads them, and counts. So many workers look for the keys of each
+/// Looks for the newest fields of the keys of these places, reads them, and counts. The finder's workers look for the keys of each
 /// dataset, side by side. No folder of the store is out, and none is out afterwards; nothing is made in the store.
 pub fn count_found<F: Send + Drop, S: Store<F>, G: Gate, R: Threads + Wait + Sync>(
-    rt: &R,
-    alloc: Global,
+    finder: &Finder<'_, G, R>,
     store: &mut S,
     places: &[Place],
-    workers: u32,
-    gate: &G,
 ) -> Result<Counted, Stop<F>>
 where
-    requires workers { (1 ≤ workers) × (workers ≤ 8) }
+    requires workers { (1 ≤ finder.now.workers) × (finder.now.workers ≤ 8) }
     requires home { (n : List ℕ) → S.out store.old n ≡ false }
     // The newest fields are counted, where no dataset of the places is damaged.
     ensures counted { IfOk result (λ r. IfSome (S.has store.old) (λ h. (xs : List (Option (List ℕ))) → finds (table_at h) (map seen_place places.now) ≡ Some xs → IsTally r (tally_of xs))) }
@@ -72,38 +70,35 @@ where
     ensures home { (n : List ℕ) → S.out store.new n ≡ false }
     ensures later { S.faults store.old ≤ S.faults store.new }
 {
-    let names = match tables_of(alloc, store, places) {
+    let names = match tables_of(finder.alloc, store, places) {
         Ok(names) => names,
         Err(stop) => return Err(stop),
     };
-    let opened = match open_all(alloc, store, &names) {
+    let opened = match open_all(finder.alloc, store, &names) {
         Ok(opened) => opened,
         Err(stop) => return Err(stop),
     };
-    count_in(rt, alloc, &opened, places, workers, gate)
+    count_in(finder, &opened, places)
 }
 
 /// The same, in datasets that are open.
 fn count_in<F: Send + Drop, Z: Sealed<F>, G: Gate, R: Threads + Wait + Sync>(
-    rt: &R,
-    alloc: Global,
+    finder: &Finder<'_, G, R>,
     opened: &[Opened<F, Z>],
     places: &[Place],
-    workers: u32,
-    gate: &G,
 ) -> Result<Counted, Stop<F>>
 where
-    requires workers { (1 ≤ workers) × (workers ≤ 8) }
+    requires workers { (1 ≤ finder.now.workers) × (finder.now.workers ≤ 8) }
     ensures counted { IfOk result (λ r. (xs : List (Option (List ℕ))) → finds (table_in opened.now) (map seen_place places.now) ≡ Some xs → IsTally r (tally_of xs)) }
     ensures broken { IfErr result (λ e. IsLostIn opened.now e) }
 {
-    let located = match locate(rt, alloc, opened, places, workers, gate) {
+    let located = match locate(finder, opened, places) {
         Ok(located) => located,
-        Err(lost) => return Err(stop_of(alloc, lost, opened)),
+        Err(lost) => return Err(stop_of(finder.alloc, lost, opened)),
     };
-    match count_all(alloc, opened, &located) {
+    match count_all(finder.alloc, opened, &located) {
         Ok(found) => Ok(found),
-        Err(lost) => Err(stop_of(alloc, lost, opened)),
+        Err(lost) => Err(stop_of(finder.alloc, lost, opened)),
     }
 }
 

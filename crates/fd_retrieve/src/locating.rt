@@ -6,7 +6,7 @@ ghost use Rattle.fd_answering.specs.Damages.{IsDamagedAt};
 use fd_ahead::{Located, Opened};
 use fd_bytes::NoMemory;
 use fd_disk::Sealed;
-use fd_finding::{again, find_all};
+use fd_finding::{Finder, again, find_all};
 use fd_io::Gate;
 use fd_retriever::Spot;
 use fd_schema::Place;
@@ -37,38 +37,25 @@ struct Dealt {
     groups: Vec<Vec<usize>>,
 }
 
-/// Finds where the newest bytes of each place's key stand, all keys of one dataset at once, by so many workers.
+/// Finds where the newest bytes of each place's key stand, all keys of one dataset at once, by the finder's workers.
 pub fn locate<F: Send + Drop, Z: Sealed<F>, G: Gate, R: Threads + Wait + Sync>(
-    rt: &R,
-    alloc: Global,
+    finder: &Finder<'_, G, R>,
     opened: &[Opened<F, Z>],
     places: &[Place],
-    workers: u32,
-    gate: &G,
 ) -> Result<Vec<Option<Located>>, Lost<F>>
 where
-    requires workers { (1 ≤ workers) × (workers ≤ 8) }
+    requires workers { (1 ≤ finder.now.workers) × (finder.now.workers ≤ 8) }
     ensures located { IfOk result (λ v. AreLocated opened.now places.now v.items) }
     ensures damaged { IfErr result (λ e. OnLost e (IsDamagedAt opened.now)) }
 {
-    let Ok(dealt) = deal(alloc, opened, places) else {
+    let Ok(dealt) = deal(finder.alloc, opened, places) else {
         return Err(Lost::NoMemory);
     };
-    let Ok(mut located) = nowhere(alloc, places.len()) else {
+    let Ok(mut located) = nowhere(finder.alloc, places.len()) else {
         return Err(Lost::NoMemory);
     };
     for number in 0..opened.len() {
-        match locate_in(
-            rt,
-            alloc,
-            opened,
-            number,
-            places,
-            &dealt,
-            &mut located,
-            workers,
-            gate,
-        ) {
+        match locate_in(finder, opened, number, places, &dealt, &mut located) {
             Ok(()) => {}
             Err(lost) => return Err(lost),
         }
@@ -78,31 +65,28 @@ where
 
 /// Finds the keys of the places that are in the dataset with this number.
 fn locate_in<F: Send + Drop, Z: Sealed<F>, G: Gate, R: Threads + Wait + Sync>(
-    rt: &R,
-    alloc: Global,
+    finder: &Finder<'_, G, R>,
     opened: &[Opened<F, Z>],
     number: usize,
     places: &[Place],
     dealt: &Dealt,
     located: &mut [Option<Located>],
-    workers: u32,
-    gate: &G,
 ) -> Result<(), Lost<F>>
 where
     requires number { number < length opened.now }
     requires dealt { AreDealt opened.now places.now dealt.now.numbers.items dealt.now.groups.items }
     requires long { length located.old ≡ length places.now }
-    requires workers { (1 ≤ workers) × (workers ≤ 8) }
+    requires workers { (1 ≤ finder.now.workers) × (finder.now.workers ≤ 8) }
     ensures located { OnOk result (AreLocatedBy opened.now places.now dealt.now.numbers.items number located.old → AreLocatedBy opened.now places.now dealt.now.numbers.items (number + 1) located.new) }
     ensures long { OnOk result (length located.new ≡ length located.old) }
     ensures damaged { IfErr result (λ e. OnLost e (IsDamagedAt opened.now)) }
 {
     let keys = keys_of(dealt.groups.as_slice(), number);
-    let Ok(group) = group_of(alloc, places, keys) else {
+    let Ok(group) = group_of(finder.alloc, places, keys) else {
         return Err(Lost::NoMemory);
     };
     let dataset = &opened[number];
-    match find_all(rt, alloc, dataset.snapshot(), &group, workers, gate) {
+    match find_all(finder, dataset.snapshot(), &group) {
         Ok(found) => {
             fill(number, keys, &found, located);
             Ok(())

@@ -16,6 +16,7 @@ use crate::preparing::{Ready, prepared};
 use fd_ahead::{Located, Opened};
 use fd_answering::{Halt, answer_all};
 use fd_disk::{Folder, Sealed, Store};
+use fd_finding::Finder;
 use fd_io::Sink;
 use fd_objects::{Objects, World};
 use fd_outcome::{Status, tell, tell_disk_failed, tell_no_memory, tell_output_failed};
@@ -89,7 +90,16 @@ fn answered<W: World, Z: Sealed<W::StoreFault>, R: Threads + Wait + Sync>(
         places,
         opened,
     } = ready;
-    let located = locate(rt, objects.alloc, &opened, &places, workers, &objects.gate);
+    let located = locate(
+        &Finder {
+            rt,
+            alloc: objects.alloc,
+            workers,
+            gate: &objects.gate,
+        },
+        &opened,
+        &places,
+    );
     answer_located(rt, objects, &request, &opened, located, workers)
 }
 

@@ -16,6 +16,7 @@ use crate::ruling::{Unruled, ruled};
 use fd_archive::{Setup, tell_fault};
 use fd_bulk::BulkFault;
 use fd_bytes::NoMemory;
+use fd_finding::Finder;
 use fd_io::Sink;
 use fd_key::{Given, GivenFault};
 use fd_objects::{Objects, World};
@@ -168,14 +169,13 @@ impl Plan<'_> {
         let Ok(places) = places_of(objects.alloc, self.schema, self.given, self.count) else {
             return tell_no_memory(&mut objects.report);
         };
-        match count_found(
+        let finder = Finder {
             rt,
-            objects.alloc,
-            &mut objects.store,
-            &places,
-            self.workers,
-            &objects.gate,
-        ) {
+            alloc: objects.alloc,
+            workers: self.workers,
+            gate: &objects.gate,
+        };
+        match count_found(&finder, &mut objects.store, &places) {
             Ok(counted) => tell_counted(objects.alloc, &mut objects.report, self.count, counted),
             Err(stop) => tell_stop(objects.alloc, &mut objects.store, &mut objects.report, stop),
         }
