@@ -5,7 +5,7 @@ use Rattle.fd_retriever.specs.Kept.{IsNumbered}
 use Rattle.fd_segment.specs.Held.{Standing}
 use Rattle.fd_outcome.specs.Asking.{Answer}
 use Rattle.fd_ahead.specs.declared.located.Located.{Located}
-use Rattle.fd_ahead.specs.Places.{Open}
+use Rattle.fd_ahead.specs.Places.{AreIn, Open}
 
 -- These are the bytes where a key is located.
 pub record StandsAt (os : List Open) (bytes : Option (List ℕ)) (l : Located) : Type 0 where
@@ -27,3 +27,8 @@ pub record AreAt (os : List Open) (ks : List (List keys.Pair)) (xs : List Answer
   pub long : length xs ≡ length ks
   pub each : (k : ℕ) (key : List keys.Pair) → slice_get ks k ≡ Some key
       → (found : Option (List ℕ)) × (slice_get xs k ≡ Some (record { key = key; found = found })) × ((d : Option Located) → IsAt os found (slice_index_or located k d))
+
+-- Each of these keys has its place, or none, and each place lies in one of the datasets.
+pub record AreLocatedIn (os : List Open) (ks : List (List keys.Pair)) (located : List (Option Located)) : Type 0 where
+  pub count : length located ≡ length ks
+  pub within : AreIn os located

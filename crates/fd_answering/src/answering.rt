@@ -7,8 +7,8 @@ ghost use Rattle.fd_key.specs.Pairs.{key_text};
 ghost use Rattle.fd_listing.specs.Lines.{line};
 ghost use Rattle.fd_request.specs.Expansion.{expand};
 ghost use Rattle.fd_objects.specs.Given.{sink_of};
-ghost use Rattle.fd_ahead.specs.{Places.{AreIn}, Reading.{IsStock}, Places.{IsIn}};
-ghost use Rattle.fd_answering.specs.{Damages.{IsDamagedAt}, Located.{IsAt}, Finding.{IsOne, IsOneInPart, OnDamaged, OnUnwritten, TookSome, one_if}, Rounds.{IsRound, IsStep}};
+ghost use Rattle.fd_ahead.specs.{Places.{IsIn}, Reading.{IsStock}};
+ghost use Rattle.fd_answering.specs.{Damages.{IsDamagedAt}, Located.{AreLocatedIn, IsAt}, Finding.{IsOne, IsOneInPart, OnDamaged, OnUnwritten, TookSome, one_if}, Rounds.{IsRound, IsStep}};
 
 use crate::datasets::write_found;
 use fd_ahead::{Located, Opened, ReadStock};
@@ -144,8 +144,7 @@ fn answer_counted<F: Send + Drop, X, Z: Sealed<F>, K: Sink<X>, E: Sink<X>>(
     report: &mut E,
 ) -> Result<u32, Halt<F, X>>
 where
-    requires count { length located.now ≡ length (expand request.now) }
-    requires within { AreIn opened.now located.now }
+    requires located { AreLocatedIn opened.now (expand request.now) located.now }
     requires stock { IsStock opened.now stock.old }
     requires range { (number < length located.now) × (number < 2 ^ 32 - 1) × (found ≤ number) }
     ensures stock { IsStock opened.now stock.new }
@@ -175,8 +174,7 @@ fn answer_next<F: Send + Drop, X, Z: Sealed<F>, K: Sink<X>, E: Sink<X>>(
     report: &mut E,
 ) -> Result<(u32, u32), Halt<F, X>>
 where
-    requires count { length located.now ≡ length (expand request.now) }
-    requires within { AreIn opened.now located.now }
+    requires located { AreLocatedIn opened.now (expand request.now) located.now }
     requires stock { IsStock opened.now stock.old }
     requires range { (from < to) × (to ≤ length located.now) × (found ≤ from) }
     ensures stock { IsStock opened.now stock.new }
@@ -215,8 +213,7 @@ pub(crate) fn answer_some<F: Send + Drop, X, Z: Sealed<F>, K: Sink<X>, E: Sink<X
     report: &mut E,
 ) -> Result<u32, Halt<F, X>>
 where
-    requires count { length located.now ≡ length (expand request.now) }
-    requires within { AreIn opened.now located.now }
+    requires located { AreLocatedIn opened.now (expand request.now) located.now }
     requires stock { IsStock opened.now stock.old }
     requires range { (from ≤ to) × (to ≤ length located.now) × (found ≤ from) }
     ensures stock { IsStock opened.now stock.new }

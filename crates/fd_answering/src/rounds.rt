@@ -4,7 +4,7 @@ ghost use Rattle.fd_request.specs.Expansion.{expand};
 ghost use Rattle.fd_outcome.specs.Objects.{object};
 ghost use Rattle.fd_objects.specs.Given.{sink_of};
 ghost use Rattle.fd_ahead.specs.{Places.{AreIn, Open}, Reading.{IsJob, IsStock}};
-ghost use Rattle.fd_answering.specs.Rounds.{IsRound, IsWhole};
+ghost use Rattle.fd_answering.specs.{Located.{AreLocatedIn}, Rounds.{IsRound, IsWhole}};
 
 use crate::answering::{Halt, answer_some};
 use fd_ahead::{Located, Opened, ReadJob, ReadStock, Stock, deal, jobs_for, read_beside};
@@ -42,8 +42,7 @@ fn answer_round<'a, F: Send + Drop, X, Z: Sealed<F>, K: Sink<X>, E: Sink<X>, R: 
     report: &mut E,
 ) -> Result<u32, Halt<F, X>>
 where
-    requires count { length located.now ≡ length (expand request.now) }
-    requires within { AreIn opened.now located.now }
+    requires located { AreLocatedIn opened.now (expand request.now) located.now }
     requires range { (from ≤ to) × (to ≤ length located.now) × (found ≤ from) }
     requires jobs { All (IsJob opened.now) jobs.old }
     requires stock { IsStock opened.now stock.old }
@@ -55,7 +54,7 @@ where
 {
     let other = alloc;
     let mut write = || -> Result<u32, Halt<F, X>>
-        requires { IsStock opened.now stock.now × AreIn opened.now located.now × (length located.now ≡ length (expand request.now))
+        requires { IsStock opened.now stock.now × AreLocatedIn opened.now (expand request.now) located.now
             × ((from ≤ to) × (to ≤ length located.now) × (found ≤ from)) }
         ensures { IsStock opened.entry.now stock.exit.now
             × IsRound opened.entry.now (expand request.entry.now) located.entry.now from to found
@@ -103,8 +102,7 @@ fn answer_rounds<F: Send + Drop, X, Z: Sealed<F>, K: Sink<X>, E: Sink<X>, R: Thr
     report: &mut E,
 ) -> Result<(u32, u32), Halt<F, X>>
 where
-    requires count { length located.now ≡ length (expand request.now) }
-    requires within { AreIn opened.now located.now }
+    requires located { AreLocatedIn opened.now (expand request.now) located.now }
     requires jobs { All (IsJob opened.now) jobs.old }
     requires stock { IsStock opened.now stock.old }
     ensures whole { IsWhole opened.now (expand request.now) located.now (sink_of K.Sink output) (sink_of E.Sink report) result }

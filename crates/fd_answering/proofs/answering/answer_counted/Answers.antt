@@ -6,7 +6,7 @@ use Rattle.fd_answering.proofs.CopiedLemmas.{within_at}
 use Rattle.fd_answering.proofs.answering.answer_counted.Goals as goal
 
 pub answer_one-requires-clause-within : goal.answer_one-requires-clause-within
-answer_one-requires-clause-within g c κs within = within_at c.args.opened.now c.args.opened.now c.args.located.now c.args.number refl c.requires.within c.requires.range.0 _
+answer_one-requires-clause-within g c κs within = within_at c.args.opened.now c.args.opened.now c.args.located.now c.args.number refl c.requires.located.within c.requires.range.0 _
 
 pub returns-in-Err-clause-round : goal.returns-in-Err-clause-round
 returns-in-Err-clause-round g c = record {
@@ -15,7 +15,7 @@ returns-in-Err-clause-round g c = record {
   halted = λ xs a0 c0 there so_far.
       let i = c.args.number in
       let ks = expand c.args.request.now in
-      let within : i < length ks = omega (arith, c.requires.range.0, c.requires.count) in
+      let within : i < length ks = omega (arith, c.requires.range.0, c.requires.located.count) in
       let key = there_is ks i within in
       let n = there.each i key.0 key.1 in
       part_answered xs i (record { key = key.0; found = n.0 }) n.1 _ _ _ _ _ _ c.args.found (i - c.args.found) so_far (c.in-Err.ensures.halted n.0 key.0 (n.2 _) key.1);
@@ -32,7 +32,7 @@ returns-in-Ok-clause-round g c = record {
   answered = λ xs a0 c0 there so_far.
       let i = c.args.number in
       let ks = expand c.args.request.now in
-      let within : i < length ks = omega (arith, c.requires.range.0, c.requires.count) in
+      let within : i < length ks = omega (arith, c.requires.range.0, c.requires.located.count) in
       let key = there_is ks i within in
       let n = there.each i key.0 key.1 in
       let one = c.in-Ok.ensures.one n.0 key.0 (n.2 _) key.1 in

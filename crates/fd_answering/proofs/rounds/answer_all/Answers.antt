@@ -2,6 +2,9 @@ use Rattle.std.proofs.Common.{All, subst, sym}
 use Rattle.fd_ahead.specs.Reading.{IsJob}
 use Rattle.fd_answering.proofs.rounds.answer_all.Goals as goal
 
+pub answer_rounds-requires-clause-located : goal.answer_rounds-requires-clause-located
+answer_rounds-requires-clause-located g c κs within = record { count = c.requires.count; within = c.requires.within }
+
 pub answer_rounds-requires-clause-jobs : goal.answer_rounds-requires-clause-jobs
 answer_rounds-requires-clause-jobs g c κs within = subst (All (IsJob c.args.opened.now)) (sym c.deref_mut.ensures.value) (c.in-Ok.ensures.jobs c.args.opened.now)
 
