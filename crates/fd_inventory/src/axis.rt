@@ -8,7 +8,7 @@ ghost use Rattle.fd_inventory.specs.{Axes.{AddsIndex, AreAxes, HaveData, at_text
 ghost use Rattle.fd_outcome.specs.Rows.{Row, axes_text, order, put, with_text};
 
 use crate::axis_lines::write_axes;
-use crate::fault::LinesFault;
+use crate::fault::{LinesFault, lines_fault};
 use crate::rows::{Rows, rows_of};
 use crate::stored_key::add_text;
 use fd_bytes::NoMemory;
@@ -155,7 +155,10 @@ where
     ensures damaged { IfErr result (λ e. OnLines e (IsAmongBad snapshot.now)) }
     ensures cause { HasLinesCause result (K.faults sink.old) (K.faults sink.new) }
 {
-    let rows = rows_of(alloc, dataset, snapshot, partial)?;
+    let rows = match rows_of(alloc, dataset, snapshot, partial) {
+        Ok(rows) => rows,
+        Err(fault) => return Err(lines_fault(fault)),
+    };
     let Ok(axes) = axes_of(alloc, rows) else {
         return Err(LinesFault::NoMemory);
     };

@@ -7,7 +7,7 @@ ghost use Rattle.fd_segment.specs.Causes.{OnDamaged};
 ghost use Rattle.fd_inventory.specs.{Counted.{AreKeys, stats_line}, Indexes.{IsAmongBad, OnLines, Tells}, Recorded.{ByRecords, TakesBy}, Shown.{AreLengths}, Written.{HasLinesCause}};
 ghost use Rattle.fd_outcome.specs.Rows.{keys_in, put_keys, stats_text, sum_bytes, sum_fields};
 
-use crate::fault::LinesFault;
+use crate::fault::{LinesFault, lines_fault};
 use crate::rows::records_of;
 use fd_bytes::NoMemory;
 use fd_dataset::Snapshot;
@@ -139,7 +139,10 @@ where
     ensures damaged { IfErr result (λ e. OnLines e (IsAmongBad snapshot.now)) }
     ensures cause { HasLinesCause result (K.faults sink.old) (K.faults sink.new) }
 {
-    let keys = keys_of(alloc, snapshot)?;
+    let keys = match keys_of(alloc, snapshot) {
+        Ok(keys) => keys,
+        Err(fault) => return Err(lines_fault(fault)),
+    };
     let (fields, bytes) = sums(snapshot);
     let Ok(line) = line_of(alloc, dataset, snapshot.len(), fields, keys.len(), bytes) else {
         return Err(LinesFault::NoMemory);

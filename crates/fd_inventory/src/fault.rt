@@ -16,14 +16,12 @@ pub enum LinesFault<F, X> {
 }
 
 /// What ended the reading of an index ends the writing of lines.
-impl<F, X> From<LensFault<F>> for LinesFault<F, X> {
-    ghost from_gives = { λ fault e. IsOfLens fault e };
-
-    fn from(fault: LensFault<F>) -> LinesFault<F, X> {
-        match fault {
-            LensFault::Fault(fault) => LinesFault::Disk(fault),
-            LensFault::Damaged(damage) => LinesFault::Damaged(damage),
-            LensFault::NoMemory => LinesFault::NoMemory,
-        }
+pub(crate) fn lines_fault<F, X>(fault: LensFault<F>) -> LinesFault<F, X>
+    ensures { IsOfLens fault result }
+{
+    match fault {
+        LensFault::Fault(fault) => LinesFault::Disk(fault),
+        LensFault::Damaged(damage) => LinesFault::Damaged(damage),
+        LensFault::NoMemory => LinesFault::NoMemory,
     }
 }

@@ -7,7 +7,7 @@ ghost use Rattle.fd_listing.specs.Sinks.{HasSinkCause};
 ghost use Rattle.fd_inventory.specs.{Indexes.{IsAmongBad, OnLines, Tells}, Recorded.{TakesBy}, Shown.{kept}, Written.{HasLinesCause, shown_line, shown_lines}};
 ghost use Rattle.fd_outcome.specs.Rows.{list_text};
 
-use crate::fault::LinesFault;
+use crate::fault::{LinesFault, lines_fault};
 use crate::rows::{Newest, Rows, rows_of};
 use fd_bytes::NoMemory;
 use fd_dataset::Snapshot;
@@ -79,7 +79,10 @@ where
     ensures damaged { IfErr result (λ e. OnLines e (IsAmongBad snapshot.now)) }
     ensures cause { HasLinesCause result (K.faults sink.old) (K.faults sink.new) }
 {
-    let rows = rows_of(alloc, dataset, snapshot, partial)?;
+    let rows = match rows_of(alloc, dataset, snapshot, partial) {
+        Ok(rows) => rows,
+        Err(fault) => return Err(lines_fault(fault)),
+    };
     match write_rows(alloc, dataset, &rows, sink) {
         Ok(()) => Ok(()),
         Err(TextFault::Write(fault)) => Err(LinesFault::Write(fault)),
