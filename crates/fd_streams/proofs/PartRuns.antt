@@ -15,11 +15,11 @@ use Rattle.fd_outcome.specs.declared.refusal.Refusal.{Refusal}
 use Rattle.fd_outcome.specs.declared.refusal.Refusal.TheVariants.{Cut, Input}
 use Rattle.fd_outcome.specs.Limits.{input_limit}
 use Rattle.fd_outcome.specs.Fields.{FieldList, Numbered, behind_fields, fields_after}
-use Rattle.fd_outcome.specs.Positions.{FieldsOn, at_message, fed_at, fields_from, skipped_from}
+use Rattle.fd_outcome.specs.Positions.{FieldsOn, at_message, fed_at, fields_from}
 use Rattle.fd_outcome.specs.Listed.{Listed}
 use Rattle.fd_outcome.specs.Splitting.{Split, octets_of, split_after, split_of}
 use Rattle.fd_outcome.proofs.FrameLaws.{all_of, front_of, begins_with}
-use Rattle.fd_outcome.proofs.Positions.{fields_fed, fields_more, fields_nothing}
+use Rattle.fd_outcome.proofs.Positions.{fields_fed, fields_more}
 use Rattle.fd_streams.specs.declared.feeding.Stop.{Stop}
 use Rattle.fd_streams.specs.declared.feeding.Stop.TheVariants as stops
 use Rattle.fd_streams.specs.declared.listing.Halt.{Halt}
@@ -27,7 +27,7 @@ use Rattle.fd_streams.specs.declared.listing.Halt.TheVariants as halts
 use Rattle.fd_streams.specs.declared.parting.Tally.{Tally}
 use Rattle.fd_streams.specs.Feeding.{IsFed}
 use Rattle.fd_streams.specs.Halted.{HaltedAs, IsCut, IsRefused, halt_of}
-use Rattle.fd_streams.specs.Parted.{HaltsParting, IsParted, Parted, PartsAll, PartsOn, lines_of, written_of}
+use Rattle.fd_streams.specs.Parted.{HaltsParting, IsParted, Parted, PartsAll, lines_of, written_of}
 use Rattle.fd_streams.specs.Run.{Reads}
 use Rattle.fd_streams.proofs.Runs.{read_on, some_left}
 use Rattle.fd_streams.proofs.ListingSteps.{halted_behind}
@@ -73,9 +73,6 @@ fed_on p q r k b c piece f t = let here = t.goes_on.on.is_fed in let before = ap
 -- the fields are no more than the octets that were gone over
 pub few_on : (p q r : Progress) (n k : ℕ) (b c : Text) (piece : List ℕ) → n + length p.rest ≤ p.fed → q ≡ fed p piece → PartsAll k q r b c → (n + k) + length r.rest ≤ p.fed + length piece
 few_on p q r n k b c piece e f t = let few = t.few in let came = ap (λ (x : Progress). length x.rest) f in omega (arith, few, came, length-append p.rest piece, e)
-
-pub held_few : (p q : Progress) (n : ℕ) (piece : List ℕ) → n + length p.rest ≤ p.fed → q ≡ fed p piece → length q.rest ≤ p.fed + length piece
-held_few p q n piece e f = let came = ap (λ (x : Progress). length x.rest) f in omega (arith, came, length-append p.rest piece, e)
 
 -- ---- whatever more comes, it stands behind what was written
 

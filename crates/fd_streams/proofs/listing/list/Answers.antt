@@ -1,4 +1,4 @@
-use Rattle.std.proofs.Common.{◌≡◌, refl, ap, ◌∙◌, arith}
+use Rattle.std.proofs.Common.{refl, ap, ◌∙◌, arith}
 use Rattle.fd_streams.proofs.Causes.{both_before, input_stops}
 use Rattle.fd_streams.proofs.Runs.{waiting_start, waiting_still, finished_still, at_end}
 use Rattle.fd_streams.proofs.ListingRuns.{began, next_turn, fed_on, list_halted, list_unfed, list_whole, list_truncated}

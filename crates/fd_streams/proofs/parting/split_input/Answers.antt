@@ -1,4 +1,4 @@
-use Rattle.std.proofs.Common.{◌≡◌, length, refl, ap, ◌∙◌, arith}
+use Rattle.std.proofs.Common.{length, refl, ap, ◌∙◌, arith}
 use Rattle.fd_streams.proofs.Causes.{both_before, input_stops}
 use Rattle.fd_streams.proofs.Runs.{waiting_start, waiting_still, finished_still, at_end}
 use Rattle.fd_streams.proofs.PartRuns.{began, next_turn, fed_on, few_on, part_halted, part_none, part_unfed, part_whole, part_truncated}

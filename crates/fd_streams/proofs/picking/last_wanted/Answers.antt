@@ -1,4 +1,4 @@
-use Rattle.std.proofs.Common.{◌≡◌, refl, ap, ◌∙◌, arith}
+use Rattle.std.proofs.Common.{refl, ap, ◌∙◌, arith}
 use Rattle.fd_streams.proofs.Causes.{input_before, input_calm}
 use Rattle.fd_streams.proofs.Runs.{began, waiting_start, waiting_still, finished_still, at_end, found_last, found_cut, found_stop, found_unfed, next_turn, fed_on}
 use Rattle.fd_streams.proofs.picking.last_wanted.Goals as goal
