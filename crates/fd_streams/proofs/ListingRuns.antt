@@ -12,12 +12,16 @@ use Rattle.fd_sections.specs.Stream.{stream, Stream, first}
 use Rattle.fd_sections.specs.Joining.{IsStream, IsWaiting}
 use Rattle.fd_sections.proofs.Joins.{all_ended, all_ended_so, splits_more, splits_nothing, splits_piece}
 use Rattle.fd_outcome.specs.declared.listing.Listing.{Listing}
+use Rattle.fd_streams.specs.declared.feeding.Stop.{Stop}
+use Rattle.fd_streams.specs.declared.feeding.Stop.TheVariants as stops
 use Rattle.fd_streams.specs.declared.listing.Halt.{Halt}
+use Rattle.fd_streams.specs.declared.listing.Halt.TheVariants as halts
 use Rattle.fd_outcome.specs.declared.refusal.Refusal.{Refusal}
 use Rattle.fd_outcome.specs.declared.refusal.Refusal.TheVariants.{Cut, Input}
 use Rattle.fd_outcome.specs.Limits.{input_limit}
 use Rattle.fd_outcome.specs.Listed.{Listed, alone, ended, before, listed_after, listed_messages, listed}
-use Rattle.fd_streams.specs.Halted.{IsCut, IsRefused, IsListed, HaltedAs, Halted, ListedAll}
+use Rattle.fd_streams.specs.Feeding.{IsFed}
+use Rattle.fd_streams.specs.Halted.{IsCut, IsRefused, IsListed, HaltedAs, Halted, ListedAll, halt_of}
 use Rattle.fd_streams.specs.Run.{Reads, Gone}
 use Rattle.fd_outcome.proofs.InputLaws.{all_of, front_of, begins_with}
 use Rattle.fd_streams.proofs.Runs.{read_on, some_left}
@@ -56,8 +60,8 @@ pub next_turn : (i j k : Text) (listing : Listing) (p q n : Progress) (a b c : T
 next_turn i j k listing p q n a b c piece r gives f t =
     read_on i j k piece (Gone listing p a b) (Gone listing n a c) r gives (λ seen s. gone_on listing p n a b c piece seen s (subst (λ (x : Progress). ListedAll listing x n b c) f t))
 
-pub fed_on : (listing : Listing) (p q n : Progress) (b c : Text) (piece : List ℕ) (total size : ℕ) → p.fed ≡ total → q ≡ fed p piece → ListedAll listing q n b c → length piece ≡ size → n.fed ≡ total + size
-fed_on listing p q n b c piece total size e f t l = let here = t.goes_on.splits.fed in let before = ap (λ (x : Progress). x.fed) f in omega (arith, here, before, e, l)
+pub fed_on : (listing : Listing) (p q n : Progress) (b c : Text) (piece : List ℕ) → q ≡ fed p piece → ListedAll listing q n b c → n.fed ≡ p.fed + length piece
+fed_on listing p q n b c piece f t = let here = t.goes_on.splits.fed in let before = ap (λ (x : Progress). x.fed) f in omega (arith, here, before)
 
 -- a listing that halted after a piece was fed
 halted_on : {X : Type 0} (listing : Listing) (past : Bool) (p : Progress) (a b c : Text) (piece seen more : List ℕ) (e : Halt X) → Gone listing p a b seen → Halted listing e (fed p piece) b c → HaltedAs e a c (listed_after listing past 0 (stream ((seen ++ piece) ++ more)))
@@ -155,3 +159,12 @@ list_past (Some octets) (Some left) k listing p a b piece r full gives some w =
     ∙ ap (λ (x : List ℕ). listed_after listing true 0 (stream x)) front
     ∙ at_limit listing r.0 s.messages s.lines (finished p (first p.rest)) (all_ended p r.0 s.messages s.splits w) s.lists)
     s.took
+
+-- no more was read
+pub list_unfed : {X : Type 0} (i j k : Text) (listing : Listing) (p q : Progress) (a b : Text) (e : Stop X) (halt : Halt X) → halt ≡ halt_of e → Reads i j (Gone listing p a b) → p.fed ≤ input_limit → IsWaiting p → IsFed p q j k (Err e) → IfSome i (λ octets. HaltedAs halt a b (listed listing octets))
+list_unfed i j k listing p q a b (stops.Fault fault) halt is r le w u = subst (λ (h : Halt _). IfSome i (λ octets. HaltedAs h a b (listed listing octets))) (sym is) (list_cut i j listing p a b r le)
+list_unfed i j k listing p q a b (stops.Refused refusal) halt is r le w (same, past) =
+    subst (λ (h : Halt _). IfSome i (λ octets. HaltedAs h a b (listed listing octets)))
+    (sym (is ∙ ap (λ (x : Refusal). halts.Refused x) same))
+    (list_past i j k listing p a b past.piece r past.full past.gives past.some w)
+list_unfed i j k listing p q a b stops.NoMemory halt is r le w u = subst (λ (h : Halt _). IfSome i (λ octets. HaltedAs h a b (listed listing octets))) (sym is) (list_cut i j listing p a b r le)

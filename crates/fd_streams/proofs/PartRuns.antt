@@ -15,15 +15,19 @@ use Rattle.fd_outcome.specs.declared.refusal.Refusal.{Refusal}
 use Rattle.fd_outcome.specs.declared.refusal.Refusal.TheVariants.{Cut, Input}
 use Rattle.fd_outcome.specs.Limits.{input_limit}
 use Rattle.fd_outcome.specs.Fields.{FieldList, Numbered, behind_fields, fields_after}
-use Rattle.fd_outcome.specs.Positions.{FieldsOn, at_message, fed_at, fields_from, skipped_from}
+use Rattle.fd_outcome.specs.Positions.{FieldsOn, at_message, fed_at, fields_from}
 use Rattle.fd_outcome.specs.Listed.{Listed}
 use Rattle.fd_outcome.specs.Splitting.{Split, octets_of, split_after, split_of}
 use Rattle.fd_outcome.proofs.FrameLaws.{all_of, front_of, begins_with}
-use Rattle.fd_outcome.proofs.Positions.{fields_fed, fields_more, fields_nothing}
+use Rattle.fd_outcome.proofs.Positions.{fields_fed, fields_more}
+use Rattle.fd_streams.specs.declared.feeding.Stop.{Stop}
+use Rattle.fd_streams.specs.declared.feeding.Stop.TheVariants as stops
 use Rattle.fd_streams.specs.declared.listing.Halt.{Halt}
+use Rattle.fd_streams.specs.declared.listing.Halt.TheVariants as halts
 use Rattle.fd_streams.specs.declared.parting.Tally.{Tally}
-use Rattle.fd_streams.specs.Halted.{HaltedAs, IsCut, IsRefused}
-use Rattle.fd_streams.specs.Parted.{HaltsParting, IsParted, Parted, PartsAll, PartsOn, lines_of, written_of}
+use Rattle.fd_streams.specs.Feeding.{IsFed}
+use Rattle.fd_streams.specs.Halted.{HaltedAs, IsCut, IsRefused, halt_of}
+use Rattle.fd_streams.specs.Parted.{HaltsParting, IsParted, Parted, PartsAll, lines_of, written_of}
 use Rattle.fd_streams.specs.Run.{Reads}
 use Rattle.fd_streams.proofs.Runs.{read_on, some_left}
 use Rattle.fd_streams.proofs.ListingSteps.{halted_behind}
@@ -63,15 +67,12 @@ pub next_turn : (i j l : Text) (p q r : Progress) (n k : ℕ) (a b c : Text) (pi
 next_turn i j l p q r n k a b c piece x gives f t =
     read_on i j l piece (Parted p n a b) (Parted r (n + k) a c) x gives (λ seen s. gone_on p r n k a b c piece seen s (subst (λ (y : Progress). PartsAll k y r b c) f t))
 
-pub fed_on : (p q r : Progress) (k : ℕ) (b c : Text) (piece : List ℕ) (total size : ℕ) → p.fed ≡ total → q ≡ fed p piece → PartsAll k q r b c → length piece ≡ size → r.fed ≡ total + size
-fed_on p q r k b c piece total size e f t l = let here = t.goes_on.on.is_fed in let before = ap (λ (x : Progress). x.fed) f in omega (arith, here, before, e, l)
+pub fed_on : (p q r : Progress) (k : ℕ) (b c : Text) (piece : List ℕ) → q ≡ fed p piece → PartsAll k q r b c → r.fed ≡ p.fed + length piece
+fed_on p q r k b c piece f t = let here = t.goes_on.on.is_fed in let before = ap (λ (x : Progress). x.fed) f in omega (arith, here, before)
 
 -- the fields are no more than the octets that were gone over
-pub few_on : (p q r : Progress) (n k : ℕ) (b c : Text) (piece : List ℕ) (total size : ℕ) → n + length p.rest ≤ total → q ≡ fed p piece → PartsAll k q r b c → length piece ≡ size → (n + k) + length r.rest ≤ total + size
-few_on p q r n k b c piece total size e f t l = let few = t.few in let came = ap (λ (x : Progress). length x.rest) f in omega (arith, few, came, length-append p.rest piece, e, l)
-
-pub held_few : (p q : Progress) (n : ℕ) (piece : List ℕ) (total size : ℕ) → n + length p.rest ≤ total → q ≡ fed p piece → length piece ≡ size → length q.rest ≤ total + size
-held_few p q n piece total size e f l = let came = ap (λ (x : Progress). length x.rest) f in omega (arith, came, length-append p.rest piece, e, l)
+pub few_on : (p q r : Progress) (n k : ℕ) (b c : Text) (piece : List ℕ) → n + length p.rest ≤ p.fed → q ≡ fed p piece → PartsAll k q r b c → (n + k) + length r.rest ≤ p.fed + length piece
+few_on p q r n k b c piece e f t = let few = t.few in let came = ap (λ (x : Progress). length x.rest) f in omega (arith, few, came, length-append p.rest piece, e)
 
 -- ---- whatever more comes, it stands behind what was written
 
@@ -209,3 +210,12 @@ part_past (Some octets) (Some left) l p n a b piece r full gives some w =
     let z = ended_so true p n a b r.0 s (frames p.rest).skipped (Some Input) (at_limit p (finished p (first p.rest)) (ends_framed p w)) refl in
     subst (λ (y : Split). IsRefused Input a b (lines_of y)) (sym (front_of split_after octets long ∙ ap (λ (x : List ℕ). split_after true (frames x)) front))
     (all_lines true a b r.0 s.fields (Some Input) _ z s.took)
+
+-- no more was read
+pub part_unfed : {X : Type 0} (i j l : Text) (p q : Progress) (n : ℕ) (a b : Text) (e : Stop X) (halt : Halt X) → halt ≡ halt_of e → Reads i j (Parted p n a b) → p.fed ≤ input_limit → IsWaiting p → IsFed p q j l (Err e) → IfSome i (λ octets. HaltedAs halt a b (lines_of (split_of octets)))
+part_unfed i j l p q n a b (stops.Fault fault) halt is r le w u = subst (λ (h : Halt _). IfSome i (λ octets. HaltedAs h a b (lines_of (split_of octets)))) (sym is) (part_cut i j p n a b r le)
+part_unfed i j l p q n a b (stops.Refused refusal) halt is r le w (same, past) =
+    subst (λ (h : Halt _). IfSome i (λ octets. HaltedAs h a b (lines_of (split_of octets))))
+    (sym (is ∙ ap (λ (x : Refusal). halts.Refused x) same))
+    (part_past i j l p n a b past.piece r past.full past.gives past.some w)
+part_unfed i j l p q n a b stops.NoMemory halt is r le w u = subst (λ (h : Halt _). IfSome i (λ octets. HaltedAs h a b (lines_of (split_of octets)))) (sym is) (part_cut i j p n a b r le)

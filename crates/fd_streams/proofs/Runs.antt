@@ -1,5 +1,5 @@
 -- The steps of a search over an input.
-use Rattle.std.proofs.Common.{◌≡◌, ℕ, ◌+◌, ◌<◌, ◌≤◌, Bool, true, false, List, [], ◌∷◌, ◌++◌, length, take, Option, Some, None, Result, Ok, Err, refl, sym, ap, subst, ◌∙◌, append_assoc, arith, length-append}
+use Rattle.std.proofs.Common.{◌≡◌, ℕ, ◌+◌, ◌<◌, ◌≤◌, Bool, true, false, List, [], ◌++◌, length, take, Option, Some, None, Result, Ok, Err, refl, sym, ap, subst, ◌∙◌, append_assoc, arith, length-append}
 use Rattle.std.proofs.lemmas.List.{append-nil, take_at}
 use Rattle.std.specs.Prelude.{IfSome}
 use Rattle.fd_io.specs.Streams.{Gives, IsAtEnd}
@@ -12,12 +12,14 @@ use Rattle.fd_sections.specs.Joining.{IsStream, IsWaiting}
 use Rattle.fd_sections.proofs.Joins.{all_ended, all_ended_so, splits_more, splits_nothing, splits_piece}
 use Rattle.fd_key.specs.Pairs.{Pair}
 use Rattle.fd_streams.specs.declared.picking.Last.{Last}
-use Rattle.fd_streams.specs.declared.picking.Stop.{Stop}
+use Rattle.fd_streams.specs.declared.feeding.Stop.{Stop}
+use Rattle.fd_streams.specs.declared.feeding.Stop.TheVariants as stops
 use Rattle.fd_outcome.specs.declared.refusal.Refusal.{Refusal}
 use Rattle.fd_outcome.specs.declared.refusal.Refusal.TheVariants.{Cut, Input}
 use Rattle.fd_outcome.specs.Limits.{input_limit}
 use Rattle.fd_outcome.proofs.InputLaws.{all_of, front_of, begins_with}
 use Rattle.fd_outcome.specs.Picking.{found, found_after, keyless, last_wanted, unless}
+use Rattle.fd_streams.specs.Feeding.{IsFed}
 use Rattle.fd_streams.specs.Found.{IsLast, StoppedAs, Stopped, TookAll}
 use Rattle.fd_streams.specs.Run.{Reads, Searched}
 use Rattle.fd_streams.proofs.Steps.{both_keyed, found_on, last_more}
@@ -137,19 +139,19 @@ found_past (Some octets) (Some left) c wanted p last piece r full gives some w =
     let front : take input_limit octets ≡ r.0 = ap (take input_limit) r.1 ∙ take_at r.0 left input_limit size in
     beyond wanted octets long ∙ ap (λ (x : List ℕ). found_after wanted true 0 None (stream x)) front ∙ at_limit wanted r.0 s.messages (finished p (first p.rest)) (all_ended p r.0 s.messages s.splits w) s.keyed
 
-empty : (xs : List ℕ) → length xs ≡ 0 → xs ≡ []
-empty [] e = refl
-empty (x ∷ xs) e = absurd (omega arith)
-
-nothing_after : (left after : List ℕ) (n : ℕ) (into : List ℕ) → left ≡ [] → left ≡ take n into ++ after → n ≡ 0 → after ≡ []
-nothing_after left after n into e g z = empty after (omega (arith, ap length (sym e ∙ g), length-append (take n into) after))
-
 -- the end of the input
-pub at_end : (a b c : Option (List ℕ)) (P : List ℕ → Type 0) (n : ℕ) (into : List ℕ) → Reads a b P → IsAtEnd b → Gives b c (take n into) → n ≡ 0 → IfSome a (λ octets. c ≡ Some [])
-at_end None b c P n into r end gives z = tt
-at_end (Some octets) None c P n into r end gives z = absurd r
-at_end (Some octets) (Some left) None P n into r end gives z = absurd gives
-at_end (Some octets) (Some left) (Some after) P n into r end gives z = ap (λ (x : List ℕ). Some x) (nothing_after left after n into end gives z)
+pub at_end : (a b c : Option (List ℕ)) (P : List ℕ → Type 0) → Reads a b P → IsAtEnd b → Gives b c [] → IfSome a (λ octets. c ≡ Some [])
+at_end None b c P r end gives = tt
+at_end (Some octets) None c P r end gives = absurd r
+at_end (Some octets) (Some left) None P r end gives = absurd gives
+at_end (Some octets) (Some left) (Some after) P r end gives = ap (λ (x : List ℕ). Some x) (sym gives ∙ end)
+
+-- where nothing was fed, the splitter is where it was
+pub waiting_still : (p q : Progress) → q ≡ p → IsWaiting p → IsWaiting q
+waiting_still p q same w = subst IsWaiting (sym same) w
+
+pub finished_still : (p q : Progress) (r : Result ℕ Truncated) → q ≡ p → r ≡ finished q (first q.rest) → r ≡ finished p (first p.rest)
+finished_still p q r same e = subst (λ (x : Progress). r ≡ finished x (first x.rest)) same e
 
 -- the search stopped
 pub found_stop : {X : Type 0} (a b c : Option (List ℕ)) (wanted : List Pair) (p q : Progress) (last : Last) (piece : List ℕ) (e : Stop X) → Reads a b (Searched wanted p last) → p.fed + length piece ≤ input_limit → Gives b c piece → q ≡ fed p piece → Stopped wanted e q last → IfSome a (λ octets. StoppedAs e (found wanted octets))
@@ -166,5 +168,12 @@ pub next_turn : (a b c : Option (List ℕ)) (wanted : List Pair) (p q n : Progre
 next_turn a b c wanted p q n old new piece r gives f t =
     read_on a b c piece (Searched wanted p old) (Searched wanted n new) r gives (λ seen s. searched_on wanted p n old new piece seen s (subst (λ (x : Progress). TookAll wanted x n old new) f t))
 
-pub fed_on : (wanted : List Pair) (p q n : Progress) (old new : Last) (piece : List ℕ) (total size : ℕ) → p.fed ≡ total → q ≡ fed p piece → TookAll wanted q n old new → length piece ≡ size → n.fed ≡ total + size
-fed_on wanted p q n old new piece total size e f t l = let here = t.goes_on.splits.fed in let before = ap (λ (x : Progress). x.fed) f in omega (arith, here, before, e, l)
+pub fed_on : (wanted : List Pair) (p q n : Progress) (old new : Last) (piece : List ℕ) → q ≡ fed p piece → TookAll wanted q n old new → n.fed ≡ p.fed + length piece
+fed_on wanted p q n old new piece f t = let here = t.goes_on.splits.fed in let before = ap (λ (x : Progress). x.fed) f in omega (arith, here, before)
+
+-- no more was read
+pub found_unfed : {X : Type 0} (a b c : Option (List ℕ)) (wanted : List Pair) (p q : Progress) (last : Last) (e : Stop X) → Reads a b (Searched wanted p last) → IsWaiting p → IsFed p q b c (Err e) → IfSome a (λ octets. StoppedAs e (found wanted octets))
+found_unfed None b c wanted p q last e r w u = tt
+found_unfed (Some octets) b c wanted p q last (stops.Fault fault) r w u = tt
+found_unfed (Some octets) b c wanted p q last (stops.Refused refusal) r w (is, past) = found_past (Some octets) b c wanted p last past.piece r past.full past.gives past.some w ∙ ap (λ (x : Refusal). Err x) (sym is)
+found_unfed (Some octets) b c wanted p q last stops.NoMemory r w u = tt

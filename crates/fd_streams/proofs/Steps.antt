@@ -11,7 +11,7 @@ use Rattle.fd_key.specs.declared.fault.KeyFault.{KeyFault}
 use Rattle.fd_key.specs.Pairs.{Pair, has_all}
 use Rattle.fd_key.specs.Keys.{key_of}
 use Rattle.fd_streams.specs.declared.picking.Last.{Last}
-use Rattle.fd_streams.specs.declared.picking.Stop.{Stop}
+use Rattle.fd_streams.specs.declared.feeding.Stop.{Stop}
 use Rattle.fd_outcome.specs.declared.refusal.Refusal.{Refusal}
 use Rattle.fd_outcome.specs.declared.refusal.Refusal.TheVariants as refusals
 use Rattle.fd_streams.specs.Found.{GoesOn, IsLast, Stopped, StoppedAs, Took, IsConsidered}

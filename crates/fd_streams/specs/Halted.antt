@@ -11,8 +11,16 @@ use Rattle.fd_outcome.specs.declared.listing.Listing.{Listing}
 use Rattle.fd_outcome.specs.declared.listing.Listing.TheVariants as listings
 use Rattle.fd_streams.specs.declared.listing.Halt.{Halt}
 use Rattle.fd_streams.specs.declared.listing.Halt.TheVariants as halts
+use Rattle.fd_streams.specs.declared.feeding.Stop.{Stop}
+use Rattle.fd_streams.specs.declared.feeding.Stop.TheVariants as stops
 use Rattle.fd_streams.specs.Found.{Measures}
 use Rattle.fd_outcome.specs.Listed.{Listed, alone, listed_after, listed_messages}
+
+-- why a listing ends whose input isn't read on
+abbrev pub halt_of : {X : Type 0} → Stop X → Halt X
+halt_of (stops.Fault fault) = halts.Unread fault
+halt_of (stops.Refused refusal) = halts.Refused refusal
+halt_of stops.NoMemory = halts.NoMemory
 
 -- a listing asks for at most 30 decimals
 abbrev pub AreFew : Listing → Type 0

@@ -1,3 +1,4 @@
+pub mod Feeding
 pub mod Found
 pub mod Halted
 pub mod Run

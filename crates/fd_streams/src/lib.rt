@@ -2,6 +2,7 @@
 //! and `create`, which stores its input as a schema.
 #![tactic(auto)]
 
+mod feeding;
 mod listing;
 mod making;
 mod parting;

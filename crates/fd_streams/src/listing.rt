@@ -5,11 +5,12 @@ ghost use Rattle.fd_sections.specs.Parts.{sections_of};
 ghost use Rattle.fd_packing.specs.Field.{field_of};
 ghost use Rattle.fd_listing.specs.Describe.{describe_text};
 ghost use Rattle.fd_outcome.specs.Listed.{field_lines, message_lines, alone, listed};
-ghost use Rattle.fd_streams.specs.Halted.{AreFew, Comes, Halted, HaltedAs, HasCauses, HasOutputCause, IsWritten, ListedAll, ListedOne};
+ghost use Rattle.fd_streams.specs.Halted.{AreFew, Comes, Halted, HaltedAs, HasCauses, HasOutputCause, IsWritten, ListedAll, ListedOne, halt_of};
 
+use crate::feeding::{Stop, feed_piece};
 use fd_io::{Sink, Source};
 use fd_listing::{TextFault, ValuesFault, describe, values};
-use fd_outcome::{INPUT_LIMIT, Listing, Refusal, new_buffer, read_piece, refusal_of};
+use fd_outcome::{Listing, Refusal, new_buffer, refusal_of};
 use fd_sections::{Message, Splitter};
 use std::alloc::Global;
 
@@ -24,6 +25,17 @@ pub enum Halt<X> {
     Refused(Refusal),
     /// An allocation was refused.
     NoMemory,
+}
+
+/// Why a listing ends whose input isn't read on.
+pub fn halt_of<X>(stop: Stop<X>) -> Halt<X>
+    ensures { result ≡ halt_of stop }
+{
+    match stop {
+        Stop::Fault(fault) => Halt::Unread(fault),
+        Stop::Refused(refusal) => Halt::Refused(refusal),
+        Stop::NoMemory => Halt::NoMemory,
+    }
 }
 
 /// Writes what a message holds.
@@ -147,27 +159,15 @@ pub fn list<X: Drop, I: Source<X>, K: Sink<X>>(
     let Ok(mut buffer) = new_buffer(alloc) else {
         return Err(Halt::NoMemory);
     };
-    let mut total = 0u64;
     for _ in 0..u64::MAX {
-        let n = match read_piece(input, &mut buffer, total) {
-            Ok(n) => n,
-            Err(fault) => return Err(Halt::Unread(fault)),
-        };
-        if n == 0 {
-            match splitter.finish() {
+        match feed_piece(input, &mut buffer, &mut splitter) {
+            Ok(true) => {}
+            Ok(false) => match splitter.finish() {
                 Ok(_) => return Ok(()),
                 Err(cut) => return Err(Halt::Refused(Refusal::Cut(cut))),
-            }
+            },
+            Err(stop) => return Err(halt_of(stop)),
         }
-        if total == INPUT_LIMIT {
-            return Err(Halt::Refused(Refusal::Input));
-        }
-        let (octets, _) = buffer.split_at(n);
-        match splitter.feed(octets) {
-            Ok(()) => {}
-            Err(_) => return Err(Halt::NoMemory),
-        }
-        total += n as u64;
         match list_messages(alloc, listing, &mut splitter, output) {
             Ok(()) => {}
             Err(halt) => return Err(halt),

@@ -5,9 +5,10 @@ ghost use Rattle.fd_split.specs.Reading.{Wrong, reading_fields};
 ghost use Rattle.fd_outcome.specs.{Fields.{refusal_of_wrong}, Listed.{alone, ended}, Splitting.{split_of}};
 ghost use Rattle.fd_streams.specs.{Halted.{HaltedAs, HasCauses, HasOutputCause, StopsOutput}, Parted.{AreWritten, HaltsParting, IsUnsplit, Parts, PartsAll, PartsOne, messages_of, parts_of}};
 
-use crate::listing::Halt;
+use crate::feeding::feed_piece;
+use crate::listing::{Halt, halt_of};
 use fd_io::{Sink, Source, write_all};
-use fd_outcome::{INPUT_LIMIT, Refusal, new_buffer, read_piece, refusal_of};
+use fd_outcome::{Refusal, new_buffer, refusal_of};
 use fd_sections::{BadAt, Splitter};
 use fd_split::{Fields, SplitFault};
 use std::alloc::Global;
@@ -138,28 +139,16 @@ pub fn split_input<X: Drop, I: Source<X>, K: Sink<X>>(
     let Ok(mut buffer) = new_buffer(alloc) else {
         return Err(Halt::NoMemory);
     };
-    let mut total = 0u64;
     let mut fields = 0u64;
     for _ in 0..u64::MAX {
-        let n = match read_piece(input, &mut buffer, total) {
-            Ok(n) => n,
-            Err(fault) => return Err(Halt::Unread(fault)),
-        };
-        if n == 0 {
-            match splitter.finish() {
+        match feed_piece(input, &mut buffer, &mut splitter) {
+            Ok(true) => {}
+            Ok(false) => match splitter.finish() {
                 Ok(junk) => return Ok(Tally { fields, junk }),
                 Err(cut) => return Err(Halt::Refused(Refusal::Cut(cut))),
-            }
+            },
+            Err(stop) => return Err(halt_of(stop)),
         }
-        if total == INPUT_LIMIT {
-            return Err(Halt::Refused(Refusal::Input));
-        }
-        let (octets, _) = buffer.split_at(n);
-        match splitter.feed(octets) {
-            Ok(()) => {}
-            Err(_) => return Err(Halt::NoMemory),
-        }
-        total += n as u64;
         match split_messages(alloc, &mut splitter, output) {
             Ok(more) => fields += more,
             Err(halt) => return Err(halt),

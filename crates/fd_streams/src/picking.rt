@@ -2,32 +2,17 @@
 ghost use Rattle.std.specs.Prelude.{◌≡◌, [], IfOk, IfSome, IfErr, OnOk, Some, false};
 ghost use Rattle.fd_key.specs.{Pairs.{has_all}, Keys.{key_of}};
 ghost use Rattle.fd_outcome.specs.Picking.{found};
-ghost use Rattle.fd_streams.specs.Found.{Answers, HasInputCause, IsNoMemory, Stopped, Took, TookAll, is_fault};
+ghost use Rattle.fd_streams.specs.Found.{Answers, HasInputCause, Stopped, Took, TookAll, is_fault};
 ghost use Rattle.fd_sections.specs.Parts.{sections_of};
 
+use crate::feeding::{Stop, feed_piece};
 use fd_bytes::NoMemory;
 use fd_io::Source;
 use fd_key::{Given, Key, KeyFault, key_of};
-use fd_outcome::{INPUT_LIMIT, Refusal, new_buffer, read_piece, refusal_of};
+use fd_outcome::{Refusal, new_buffer, refusal_of};
 use fd_sections::{Message, Splitter};
 use fd_words::Wanted;
 use std::alloc::Global;
-
-/// Why nothing was found.
-#[derive(Drop)]
-pub enum Stop<X> {
-    Fault(X),
-    Refused(Refusal),
-    NoMemory,
-}
-
-impl<X> From<NoMemory> for Stop<X> {
-    ghost from_gives = { λ _ e. IsNoMemory e };
-
-    fn from(_: NoMemory) -> Stop<X> {
-        Stop::NoMemory
-    }
-}
 
 /// The octets of the message that was found last, if one was.
 #[derive(Drop)]
@@ -132,24 +117,15 @@ pub fn last_wanted<X: Drop, I: Source<X>>(
         octets: Vec::new(alloc),
     };
     let mut buffer = new_buffer(alloc)?;
-    let mut total = 0u64;
     for _ in 0..u64::MAX {
-        let n = match read_piece(input, &mut buffer, total) {
-            Ok(n) => n,
-            Err(fault) => return Err(Stop::Fault(fault)),
-        };
-        if n == 0 {
-            return match splitter.finish() {
-                Ok(_) => Ok(last),
-                Err(cut) => Err(Stop::Refused(Refusal::Cut(cut))),
-            };
+        match feed_piece(input, &mut buffer, &mut splitter) {
+            Ok(true) => {}
+            Ok(false) => match splitter.finish() {
+                Ok(_) => return Ok(last),
+                Err(cut) => return Err(Stop::Refused(Refusal::Cut(cut))),
+            },
+            Err(stop) => return Err(stop),
         }
-        if total == INPUT_LIMIT {
-            return Err(Stop::Refused(Refusal::Input));
-        }
-        let (octets, _) = buffer.split_at(n);
-        splitter.feed(octets)?;
-        total += n as u64;
         match take_messages(alloc, wanted, given, &mut splitter, &mut last) {
             Ok(()) => {}
             Err(stop) => return Err(stop),

@@ -5,9 +5,10 @@ ghost use Rattle.fd_outcome.specs.{Ran.{Ran}, Splitting.{split_line}, Told.{Told
 ghost use Rattle.fd_objects.specs.Objects.{Over};
 ghost use Rattle.fd_streams.specs.{Halted.{AreFew}, Streams.{listing_command}};
 
+use crate::feeding::Stop;
 use crate::listing::{Halt, list};
 use crate::parting::{Tally, split_input};
-use crate::picking::{Stop, last_wanted};
+use crate::picking::last_wanted;
 use fd_io::{Sink, write_all};
 use fd_key::Given;
 use fd_objects::{Objects, World};

@@ -8,9 +8,8 @@ abbrev pub invariant-loop : goal.invariant-loop
 invariant-loop g l = record {
   gone : Reads (g.I.Source.left l.fn.input) (g.I.Source.left l.input) (Gone l.listing l.splitter (g.K.Sink.taken l.fn.output) (g.K.Sink.taken l.output));
   waiting : IsWaiting l.splitter;
-  fed : l.splitter.fed ≡ l.total;
-  limit : l.total ≤ 68719476736;
-  turns : l.counter ≤ l.total;
+  limit : l.splitter.fed ≤ 68719476736;
+  turns : l.counter ≤ l.splitter.fed;
   room : vec_len l.buffer ≡ 65536;
   read : g.I.Source.faults l.input ≡ g.I.Source.faults l.fn.input;
   calm : g.K.Sink.faults l.output ≡ g.K.Sink.faults l.fn.output;

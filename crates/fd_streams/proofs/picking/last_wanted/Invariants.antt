@@ -8,9 +8,8 @@ abbrev pub invariant-loop : goal.invariant-loop
 invariant-loop g l = record {
   searched : Reads (g.I.Source.left l.fn.input) (g.I.Source.left l.input) (Searched l.wanted l.splitter l.last);
   waiting : IsWaiting l.splitter;
-  fed : l.splitter.fed ≡ l.total;
-  limit : l.total ≤ 68719476736;
-  turns : l.counter ≤ l.total;
+  limit : l.splitter.fed ≤ 68719476736;
+  turns : l.counter ≤ l.splitter.fed;
   room : vec_len l.buffer ≡ 65536;
   calm : g.I.Source.faults l.input ≡ g.I.Source.faults l.fn.input;
 }
