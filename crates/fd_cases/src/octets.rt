@@ -23,6 +23,8 @@ pub enum Part {
     Octets(&'static [u8]),
     /// The field with other octets at these places.
     Field(&'static [(usize, u8)]),
+    /// So many first octets of the field, with other octets at these places.
+    Front(usize, &'static [(usize, u8)]),
     /// The generated messages from this number up to that one.
     Generated(u64, u64),
     /// No more, but another octet at this place.
@@ -39,15 +41,18 @@ pub const FIELD: &[Part] = &[Part::Field(&[])];
 /// The field with other values, so another message of its key.
 pub const NEWER: &[Part] = &[Part::Field(&[(178, 43)])];
 
-/// Puts the field with other octets at these places behind the octets.
-fn push_field(octets: &mut Vec<u8>, changes: &[(usize, u8)]) -> bool {
+/// Puts so many first octets of the field behind the octets, with other octets at these places.
+fn push_front(octets: &mut Vec<u8>, length: usize, changes: &[(usize, u8)]) -> bool {
     let mut field = MESSAGE;
     for (place, octet) in changes {
         if let Some(old) = field.get_mut(*place) {
             *old = *octet;
         }
     }
-    octets.extend_from_slice(&field).is_ok()
+    match field.get(..length) {
+        Some(front) => octets.extend_from_slice(front).is_ok(),
+        None => false,
+    }
 }
 
 /// Puts a generated message behind the octets.
@@ -90,7 +95,8 @@ fn push_part(alloc: Global, octets: &mut Vec<u8>, part: &Part) -> bool {
     match part {
         Part::Text(text) => octets.extend_from_slice(text.as_bytes()).is_ok(),
         Part::Octets(more) => octets.extend_from_slice(more).is_ok(),
-        Part::Field(changes) => push_field(octets, changes),
+        Part::Field(changes) => push_front(octets, MESSAGE.len(), changes),
+        Part::Front(length, changes) => push_front(octets, *length, changes),
         Part::Generated(from, to) => push_generated(alloc, octets, *from, *to),
         Part::At(place, octet) => {
             change(octets, *place, *octet);

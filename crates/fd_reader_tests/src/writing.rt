@@ -2,7 +2,7 @@
 ghost use Rattle.std.specs.Prelude.{◌≡◌, ◌≤◌, ◌<◌, length, false, IfOk, OnSome, codes};
 ghost use Rattle.fd_disk.specs.declared.folders.FileName.{FileName};
 ghost use Rattle.fd_schema.specs.{Rules.{file_key}, Reading.{seen_place}};
-ghost use Rattle.fd_reader_tests.specs.Passing.{IsFree};
+ghost use Rattle.fd_reader_tests.specs.Passing.{IsFree, IsReady};
 
 use crate::reading::{Open, opened};
 use fd_archiver::{Archiver, Flush, FlushFault};
@@ -67,22 +67,6 @@ pub(crate) enum Went {
     Never,
 }
 
-/// Puts a message, and tells whether it did.
-fn put<F: Send + Drop, H: Shelf<F>>(
-    alloc: Global,
-    archiver: &mut Archiver<F, H>,
-    message: Message,
-) -> bool
-where
-    requires dataset { archiver.old.dataset ≡ codes "a=1" }
-    ensures same { archiver.new.dataset ≡ archiver.old.dataset }
-{
-    let Ok(place) = place(alloc, message.0) else {
-        return false;
-    };
-    archiver.size() <= 1000 && archiver.archive(&place, &[message.1; SIZE]).is_ok()
-}
-
 /// How a call went that is made again where it was refused.
 macro_rules! went {
     ($call:expr) => {
@@ -96,78 +80,85 @@ macro_rules! went {
     };
 }
 
-/// Flushes, where the writer may, and tells what was answered.
-fn flush<F: Send + Drop, T: Disk<F>, H: Shelf<F>, R: Wait>(
-    rt: &R,
-    alloc: Global,
-    archiver: &mut Archiver<F, H>,
-    open: &mut Open<F, T, H::Sealed>,
-) -> Went
-where
-    requires free { IsFree open.old.dataset open.old.pass }
-    requires dataset { archiver.old.dataset ≡ codes "a=1" }
-    ensures free { IsFree open.new.dataset open.new.pass }
-    ensures same { archiver.new.dataset ≡ archiver.old.dataset }
-{
-    if archiver.writer() > 65_536 || archiver.flushes_left() == 0 {
-        return Went::Never;
+/// A writer of the dataset, which is open.
+struct Writer<F: Send, T: Disk<F>, H: Shelf<F>> {
+    archiver: Archiver<F, H>,
+    opened: Open<F, T, H::Sealed>,
+}
+
+impl<F: Send + Drop, T: Disk<F>, H: Shelf<F>> Writer<F, T, H> {
+    /// Puts a message, and tells whether it did.
+    fn put(&mut self, alloc: Global, message: Message) -> bool
+        requires { IsReady self.old.archiver.dataset self.old.opened.dataset self.old.opened.pass }
+        ensures { IsReady self.new.archiver.dataset self.new.opened.dataset self.new.opened.pass }
+    {
+        let Ok(place) = place(alloc, message.0) else {
+            return false;
+        };
+        self.archiver.size() <= 1000 && self.archiver.archive(&place, &[message.1; SIZE]).is_ok()
     }
-    match archiver.flush(rt, alloc, &open.dataset, &mut open.pass) {
-        Ok(Flush::Listed(_)) => Went::AtOnce,
-        Err(FlushFault::TableFull { count }) => Went::Full(count),
-        _ => Went::Never,
+
+    /// Flushes, where it may, and tells what was answered.
+    fn flush<R: Wait>(&mut self, rt: &R, alloc: Global) -> Went
+        requires { IsReady self.old.archiver.dataset self.old.opened.dataset self.old.opened.pass }
+        ensures { IsReady self.new.archiver.dataset self.new.opened.dataset self.new.opened.pass }
+    {
+        if self.archiver.writer() > 65_536 || self.archiver.flushes_left() == 0 {
+            return Went::Never;
+        }
+        match self
+            .archiver
+            .flush(rt, alloc, &self.opened.dataset, &mut self.opened.pass)
+        {
+            Ok(Flush::Listed(_)) => Went::AtOnce,
+            Err(FlushFault::TableFull { count }) => Went::Full(count),
+            _ => Went::Never,
+        }
+    }
+
+    /// Puts two messages, and tells how the listing of the second went.
+    fn write<R: Wait>(&mut self, rt: &R, alloc: Global, two: Two) -> Went
+        requires { IsReady self.old.archiver.dataset self.old.opened.dataset self.old.opened.pass }
+        ensures { IsReady self.new.archiver.dataset self.new.opened.dataset self.new.opened.pass }
+    {
+        if !self.put(alloc, two.first) {
+            return Went::Never;
+        }
+        if two.apart {
+            went!(self.flush(rt, alloc));
+        }
+        if !self.put(alloc, two.second) {
+            return Went::Never;
+        }
+        went!(self.flush(rt, alloc))
     }
 }
 
-/// Puts two messages, and tells how the listing of the second went.
-fn write<F: Send + Drop, T: Disk<F>, H: Shelf<F>, R: Wait>(
-    rt: &R,
-    alloc: Global,
-    archiver: &mut Archiver<F, H>,
-    open: &mut Open<F, T, H::Sealed>,
-    two: Two,
-) -> Went
-where
-    requires free { IsFree open.old.dataset open.old.pass }
-    requires dataset { archiver.old.dataset ≡ codes "a=1" }
-    ensures free { IsFree open.new.dataset open.new.pass }
-    ensures same { archiver.new.dataset ≡ archiver.old.dataset }
-{
-    if !put(alloc, archiver, two.first) {
-        return Went::Never;
-    }
-    if two.apart {
-        went!(flush(rt, alloc, archiver, open));
-    }
-    if !put(alloc, archiver, two.second) {
-        return Went::Never;
-    }
-    went!(flush(rt, alloc, archiver, open))
-}
-
-/// Has a writer of this shelf put two messages, and gives the shelf back.
+/// Has a writer of this shelf put two messages, and gives the shelf and the open dataset back.
 fn written<F: Send + Drop, T: Disk<F>, H: Shelf<F>, R: Wait>(
     rt: &R,
     alloc: Global,
     shelf: H,
     writer: u32,
-    open: &mut Open<F, T, H::Sealed>,
+    opened: Open<F, T, H::Sealed>,
     two: Two,
-) -> (H, Went)
+) -> (H, Open<F, T, H::Sealed>, Went)
 where
-    requires free { IsFree open.old.dataset open.old.pass }
+    requires free { IsFree opened.dataset opened.pass }
     requires shelf { (H.name shelf ≡ codes "a=1") × (H.writer shelf ≡ writer) }
     requires new { (n : FileName) → H.created shelf n ≡ false }
-    ensures free { IsFree open.new.dataset open.new.pass }
+    ensures free { IsFree result.1.dataset result.1.pass }
     ensures shelf { H.name result.0 ≡ codes "a=1" }
 {
     let room = Room { keys: 2, bytes: 6 };
-    let mut archiver = match Archiver::new(alloc, shelf, writer, room) {
+    let archiver = match Archiver::new(alloc, shelf, writer, room) {
         Ok(archiver) => archiver,
-        Err((shelf, _)) => return (shelf, Went::Never),
+        Err((shelf, _)) => return (shelf, opened, Went::Never),
     };
-    let went = write(rt, alloc, &mut archiver, open, two);
-    (archiver.close(), went)
+    let mut writer = Writer { archiver, opened };
+    let went = writer.write(rt, alloc, two);
+    let Writer { archiver, opened } = writer;
+    (archiver.close(), opened, went)
 }
 
 /// Opens the dataset of a folder, has a writer put two messages, and gives all back: how the listing of the second went.
@@ -187,11 +178,10 @@ where
     let Ok(shelf) = folder.shelf(alloc, writer) else {
         return None;
     };
-    let Some(mut open) = opened(alloc, folder) else {
+    let Some(open) = opened(alloc, folder) else {
         return None;
     };
-    let (shelf, went) = written(rt, alloc, shelf, writer, &mut open, two);
-    let Open { dataset, pass } = open;
+    let (shelf, Open { dataset, pass }, went) = written(rt, alloc, shelf, writer, open, two);
     folder.give_shelf(shelf);
     folder.give_table(dataset.close(pass).into_table());
     Some(went)

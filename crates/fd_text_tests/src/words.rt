@@ -77,8 +77,8 @@ fn is_row(alloc: Global, row: &str, want: &str) -> bool {
     }
 }
 
-/// Words that ask for a command, and what it is told as.
-const READ: &str = "\
+/// Words, and what the command that they ask for is told as; or nothing, where they have no form.
+const ASKED: &str = "\
 pick,step=0,LEVELIST=850.0|pick,,1,0\n\
 describe|describe,,0,0\n\
 values|values,,99,0\n\
@@ -103,10 +103,7 @@ split|split,,0,0\n\
 cubes,s|cubes,s,0,0\n\
 purge,s,class=od|purge,s,1,0\n\
 wipe,s,class=od|wipe,s,1,0\n\
-wipe,s,step=0|wipe,s,0,0\n";
-
-/// Words that have no form.
-const REFUSED: &str = "\
+wipe,s,step=0|wipe,s,0,0\n\
 help|\n\
 --version|\n\
 Stats,s|\n\
@@ -160,12 +157,7 @@ stats,--help|\n\
 stats,s,--|\n";
 
 #[test]
-fn reads_words(rt: HostRuntime) {
-    assert_eq!(rt; agreed(rt.alloc(), READ, is_row), 25);
-}
-
-#[test]
-fn refuses_words(rt: HostRuntime) {
-    assert_eq!(rt; agreed(rt.alloc(), REFUSED, is_row), 51);
+fn reads_or_refuses_words(rt: HostRuntime) {
+    assert_eq!(rt; agreed(rt.alloc(), ASKED, is_row), 76);
     assert!(rt; asks_for(rt.alloc(), &[], ""));
 }

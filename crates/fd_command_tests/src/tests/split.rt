@@ -21,21 +21,20 @@ const MAP_AND_OTHER_VALUES: Part = Part::Octets(&[
     0, 0, 0, 7, 6, 0, 0xF0, 0, 0, 0, 9, 7, 10, 23, 36, 49,
 ]);
 
-/// The front of a message of two fields, and the end of one.
-const OF_TWO: Part = Part::Field(&[(15, 253)]);
+/// A message of two fields up to the end of the first, and the end of a message.
+const OF_TWO: Part = Part::Front(179, &[(15, 253)]);
 
 const END: Part = Part::Text("7777");
 
 /// The first two generated messages as two fields of one message.
-const BOTH: &[Part] = &[OF_TWO, Part::Length(179), ROUND, END];
+const BOTH: &[Part] = &[OF_TWO, ROUND, END];
 
 /// The same, where the second field has the bit map of the first, which has none.
-const UNMAPPED: &[Part] = &[OF_TWO, Part::Length(179), ROUND, Part::At(239, 254), END];
+const UNMAPPED: &[Part] = &[OF_TWO, ROUND, Part::At(239, 254), END];
 
 /// The same, where the first has a bit map.
 const MAPPED: &[Part] = &[
-    Part::Field(&[(15, 254)]),
-    Part::Length(164),
+    Part::Front(164, &[(15, 254)]),
     MAP_AND_VALUES,
     ROUND,
     Part::At(240, 254),
@@ -44,8 +43,7 @@ const MAPPED: &[Part] = &[
 
 /// Its fields, each as a message with the map.
 const TWO_MAPPED: &[Part] = &[
-    Part::Field(&[(15, 184)]),
-    Part::Length(164),
+    Part::Front(164, &[(15, 184)]),
     MAP_AND_VALUES,
     END,
     Part::Generated(1, 2),
@@ -84,9 +82,9 @@ const REFUSING: &[Case] = &[Case {
     piece: 7,
     rows: &[
         row!(ROW, words: SPLIT, input: UNMAPPED, report: "refused message 1 NoMap 2\n", status: 3),
-        row!(ROW, words: SPLIT, input: &[Part::Generated(0, 2), OF_TWO, Part::Length(366 + 179), ROUND, Part::At(366 + 239, 254), END], output: TWO, report: "refused message 3 NoMap 2\n", status: 3),
-        row!(ROW, words: SPLIT, input: &[OF_TWO, Part::Length(179), ROUND, Part::Text("777")], report: "refused message 1 Truncated 252 253\n", status: 3),
-        row!(ROW, words: SPLIT, input: &[OF_TWO, Part::Length(179), ROUND, Part::Text("7778")], report: "refused message 1 NoEnd 249\n", status: 3),
+        row!(ROW, words: SPLIT, input: &[Part::Generated(0, 2), OF_TWO, ROUND, Part::At(366 + 239, 254), END], output: TWO, report: "refused message 3 NoMap 2\n", status: 3),
+        row!(ROW, words: SPLIT, input: &[OF_TWO, ROUND, Part::Text("777")], report: "refused message 1 Truncated 252 253\n", status: 3),
+        row!(ROW, words: SPLIT, input: &[OF_TWO, ROUND, Part::Text("7778")], report: "refused message 1 NoEnd 249\n", status: 3),
         row!(ROW, words: SPLIT, input: &[Part::Field(&[]), Part::Field(&[(15, 5)])], output: FIELD, report: "refused message 2 Short 0 5\n", status: 3),
         row!(ROW, words: SPLIT, input: &[Part::Field(&[(12, 8)])], report: "limit TooLong 134217911\n", status: 9),
         row!(ROW, words: &["describe"], input: BOTH, report: "refused message 1 MultiField 4\n", status: 3),
@@ -111,7 +109,7 @@ const STORING: Case = case!(rows: &[
         CREATED,
         row!(ARCHIVED, input: BOTH, report: "archived 2 datasets 1 junk 0\n"),
         BOTH_FOUND,
-        row!(ARCHIVED, words: &["archive", "s", "--with=class=od,expver=0001", "--workers=4"], input: &[Part::Text("0123456789ab"), OF_TWO, Part::Length(191), ROUND, Part::Text("7777GRI")], report: "archived 2 datasets 1 junk 15\n"),
+        row!(ARCHIVED, words: &["archive", "s", "--with=class=od,expver=0001", "--workers=4"], input: &[Part::Text("0123456789ab"), OF_TWO, ROUND, Part::Text("7777GRI")], report: "archived 2 datasets 1 junk 15\n"),
         BOTH_FOUND,
     ]);
 
@@ -126,13 +124,11 @@ fn stores_fields(rt: HostRuntime) {
     assert_eq!(rt; first_wrong(&rt, rt.alloc(), STORED), None);
 }
 
+/// A message of 1,501 fields up to the end of the first.
+const OF_MANY: Part = Part::Front(179, &[(13, 1), (14, 0x9A), (15, 0xDF)]);
+
 /// A message of more fields than are read at once: the first generated message, and the second one 1,500 times.
-const MANY: &[Part] = &[
-    Part::Field(&[(13, 1), (14, 0x9A), (15, 0xDF)]),
-    Part::Length(179),
-    Part::Repeated(ROUND_OCTETS, 1500),
-    END,
-];
+const MANY: &[Part] = &[OF_MANY, Part::Repeated(ROUND_OCTETS, 1500), END];
 
 const STORED_IN_PARTS: &[Case] = &[Case {
     piece: 65_536,
@@ -140,7 +136,7 @@ const STORED_IN_PARTS: &[Case] = &[Case {
     calls: 16_384,
     rows: &[
         CREATED,
-        row!(ARCHIVED, words: &["archive", "s", "--with=class=od,expver=0001", "--workers=4"], input: &[Part::Field(&[(13, 1), (14, 0x9A), (15, 0xDF)]), Part::Length(179), Part::Repeated(ROUND_OCTETS, 1500), END, Part::Generated(2, 3)], report: "archived 1502 datasets 1 junk 0\n"),
+        row!(ARCHIVED, words: &["archive", "s", "--with=class=od,expver=0001", "--workers=4"], input: &[OF_MANY, Part::Repeated(ROUND_OCTETS, 1500), END, Part::Generated(2, 3)], report: "archived 1502 datasets 1 junk 0\n"),
         BOTH_FOUND,
         row!(ARCHIVED, input: MANY, report: "archived 1501 datasets 1 junk 0\n"),
         BOTH_FOUND,
@@ -160,7 +156,7 @@ const REFUSED_FIELDS: &[Case] = &[
         piece: 7,
         rows: &[
             CREATED,
-            row!(ARCHIVED, input: &[Part::Generated(1, 2), OF_TWO, Part::Length(183 + 179), ROUND, Part::At(183 + 239, 254), END], report: "refused message 2 NoMap 2\n", status: 3),
+            row!(ARCHIVED, input: &[Part::Generated(1, 2), OF_TWO, ROUND, Part::At(183 + 239, 254), END], report: "refused message 2 NoMap 2\n", status: 3),
             row!(BOTH_FOUND, output: &[Part::Generated(1, 2)], report: "miss class=od,expver=0001,date=20240101,time=0000,centre=98,type=1,levtype=100,param=0.0.0,step=0,levelist=100000\nfound 1 missed 1\n", status: 1),
         ],
         ..CASE
@@ -170,7 +166,7 @@ const REFUSED_FIELDS: &[Case] = &[
         piece: 7,
         rows: &[
             CREATED,
-            row!(ARCHIVED, input: &[Part::Generated(2, 3), OF_TWO, Part::Length(183 + 179), ROUND, Part::At(183 + 187, 2), END], report: "refused key 2 Product 2\n", status: 3),
+            row!(ARCHIVED, input: &[Part::Generated(2, 3), OF_TWO, ROUND, Part::At(183 + 187, 2), END], report: "refused key 2 Product 2\n", status: 3),
             RETRIEVED,
             row!(BOTH_FOUND, output: FIELD, report: "miss class=od,expver=0001,date=20240101,time=0000,centre=98,type=1,levtype=100,param=0.0.0,step=0,levelist=92500\nfound 1 missed 1\n", status: 1),
         ],
@@ -179,8 +175,8 @@ const REFUSED_FIELDS: &[Case] = &[
     // A message that has no end, or ends inside the input, gives none.
     case!(piece: 7, rows: &[
         CREATED,
-        row!(ARCHIVED, input: &[OF_TWO, Part::Length(179), ROUND, Part::Text("7778")], report: "refused message 1 NoEnd 249\n", status: 3),
-        row!(ARCHIVED, input: &[OF_TWO, Part::Length(179), ROUND, Part::Text("777")], report: "refused message 1 Truncated 252 253\n", status: 3),
+        row!(ARCHIVED, input: &[OF_TWO, ROUND, Part::Text("7778")], report: "refused message 1 NoEnd 249\n", status: 3),
+        row!(ARCHIVED, input: &[OF_TWO, ROUND, Part::Text("777")], report: "refused message 1 Truncated 252 253\n", status: 3),
         EMPTY,
     ]),
 ];
