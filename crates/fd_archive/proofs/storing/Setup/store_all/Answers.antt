@@ -10,7 +10,7 @@ pub returns-in_default-clause-stored : goal.returns-in_default-clause-stored
 returns-in_default-clause-stored g c = starved_kept _ c.args.self.now.workers c.args.self.now.schema.now c.args.self.now.given.now (g.I.Source.left c.args.input.now) (g.S.Store.has c.args.store.now)
 
 pub archive_all-found-requires-clause-none : goal.archive_all-found-requires-clause-none
-archive_all-found-requires-clause-none g c κs within = let none = c.in-Ok-new.ensures in (ap (λ (l : OpenDatasets g.row.S-Folder.Denot). l.each) none, ap (λ (l : OpenDatasets g.row.S-Folder.Denot). l.boards) none)
+archive_all-found-requires-clause-none g c κs within = let none = c.in-Ok.ensures in (ap (λ (l : OpenDatasets g.row.S-Folder.Denot). l.each) none, ap (λ (l : OpenDatasets g.row.S-Folder.Denot). l.boards) none)
 
 pub give_back-requires-clause-seated : goal.give_back-requires-clause-seated
 give_back-requires-clause-seated g c κs within =
