@@ -21,7 +21,7 @@ use Rattle.fd_outcome.specs.declared.refusal.Refusal.TheVariants.{Cut, Input}
 use Rattle.fd_outcome.specs.Limits.{input_limit}
 use Rattle.fd_outcome.specs.Listed.{Listed, alone, ended, before, listed_after, listed_messages, listed}
 use Rattle.fd_streams.specs.Feeding.{IsFed}
-use Rattle.fd_streams.specs.Halted.{IsCut, IsRefused, IsListed, HaltedAs, Halted, ListedAll, halt_of}
+use Rattle.fd_streams.specs.Halted.{Comes, IsCut, IsRefused, IsListed, HaltedAs, Halted, ListedAll, halt_of}
 use Rattle.fd_streams.specs.Run.{Reads, Gone}
 use Rattle.fd_outcome.proofs.InputLaws.{all_of, front_of, begins_with}
 use Rattle.fd_streams.proofs.Runs.{read_on, some_left}
@@ -33,6 +33,11 @@ Text = Option (List ℕ)
 -- what is made of a stream
 abbrev of_stream : Listing → Bool → Stream → Listed
 of_stream listing past s = listed_after listing past 0 s
+
+-- nothing was written, since memory was refused
+pub list_starved : {A X : Type 0} (i a : Text) (listing : Listing) (r : Result A (Halt X)) → r ≡ Err halts.NoMemory → IfSome i (λ octets. Comes r a a (listed listing octets))
+list_starved None a listing r e = tt
+list_starved {A} {X} (Some octets) a listing r e = subst (λ (q : Result A (Halt X)). Comes q a a (listed listing octets)) (sym e) ([], (listed listing octets).lines, refl, Takes-none a)
 
 -- nothing was read
 pub began : (left a : Text) (listing : Listing) (p : Progress) → p ≡ start → Reads left left (Gone listing p a a)

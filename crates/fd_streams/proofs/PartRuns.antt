@@ -27,7 +27,7 @@ use Rattle.fd_streams.specs.declared.listing.Halt.TheVariants as halts
 use Rattle.fd_streams.specs.declared.parting.Tally.{Tally}
 use Rattle.fd_streams.specs.Feeding.{IsFed}
 use Rattle.fd_streams.specs.Halted.{HaltedAs, IsCut, IsRefused, halt_of}
-use Rattle.fd_streams.specs.Parted.{HaltsParting, IsParted, Parted, PartsAll, lines_of, written_of}
+use Rattle.fd_streams.specs.Parted.{HaltsParting, IsParted, Parted, Parts, PartsAll, lines_of, written_of}
 use Rattle.fd_streams.specs.Run.{Reads}
 use Rattle.fd_streams.proofs.Runs.{read_on, some_left}
 use Rattle.fd_streams.proofs.ListingSteps.{halted_behind}
@@ -116,10 +116,10 @@ part_cut (Some octets) (Some left) p n a b r le =
     let x = fields_from (at_message p n) past more in
     (octets_of s.fields, octets_of x.fields, ap (λ (y : Listed). y.lines) (lines_same past p n a b r.0 more s) ∙ octets_both s.fields x.fields, s.took))
 
--- nothing was written
-pub part_none : (i a : Text) → IfSome i (λ octets. IsCut a a (lines_of (split_of octets)))
-part_none None a = tt
-part_none (Some octets) a = ([], octets_of (split_of octets).fields, refl, Takes-none a)
+-- nothing was written, since memory was refused
+pub part_starved : {X : Type 0} (i a : Text) (r : Result Tally (Halt X)) → r ≡ Err halts.NoMemory → IfSome i (λ octets. Parts r a a (split_of octets))
+part_starved None a r e = tt
+part_starved {X} (Some octets) a r e = subst (λ (q : Result Tally (Halt X)). Parts q a a (split_of octets)) (sym e) ([], octets_of (split_of octets).fields, refl, Takes-none a)
 
 -- ---- the input was read to its end, or to the limit
 

@@ -8,6 +8,7 @@ ghost use Rattle.fd_outcome.specs.Listed.{field_lines, message_lines, alone, lis
 ghost use Rattle.fd_streams.specs.Halted.{AreFew, Comes, Halted, HaltedAs, HasCauses, HasOutputCause, IsWritten, ListedAll, ListedOne, halt_of};
 
 use crate::feeding::{Stop, feed_piece};
+use fd_bytes::NoMemory;
 use fd_io::{Sink, Source};
 use fd_listing::{TextFault, ValuesFault, describe, values};
 use fd_outcome::{Listing, Refusal, new_buffer, refusal_of};
@@ -25,6 +26,16 @@ pub enum Halt<X> {
     Refused(Refusal),
     /// An allocation was refused.
     NoMemory,
+}
+
+impl<X> From<NoMemory> for Halt<X> {
+    ghost use Rattle.fd_streams.specs.declared.listing.Halt.{Halt};
+
+    ghost from_gives = { λ _ e. e ≡ Halt.NoMemory };
+
+    fn from(_: NoMemory) -> Halt<X> {
+        Halt::NoMemory
+    }
 }
 
 /// Why a listing ends whose input isn't read on.
@@ -153,12 +164,8 @@ pub fn list<X: Drop, I: Source<X>, K: Sink<X>>(
     ensures to_end { IfSome (I.left input.old) (λ octets. OnOk result (I.left input.new ≡ Some [])) }
     ensures cause { HasCauses result (I.faults input.old) (I.faults input.new) (K.faults output.old) (K.faults output.new) }
 {
-    let Ok(mut splitter) = Splitter::new(alloc) else {
-        return Err(Halt::NoMemory);
-    };
-    let Ok(mut buffer) = new_buffer(alloc) else {
-        return Err(Halt::NoMemory);
-    };
+    let mut splitter = Splitter::new(alloc)?;
+    let mut buffer = new_buffer(alloc)?;
     for _ in 0..u64::MAX {
         match feed_piece(input, &mut buffer, &mut splitter) {
             Ok(true) => {}

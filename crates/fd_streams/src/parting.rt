@@ -133,12 +133,8 @@ pub fn split_input<X: Drop, I: Source<X>, K: Sink<X>>(
     ensures to_end { IfSome (I.left input.old) (λ octets. OnOk result (I.left input.new ≡ Some [])) }
     ensures cause { HasCauses result (I.faults input.old) (I.faults input.new) (K.faults output.old) (K.faults output.new) }
 {
-    let Ok(mut splitter) = Splitter::new(alloc) else {
-        return Err(Halt::NoMemory);
-    };
-    let Ok(mut buffer) = new_buffer(alloc) else {
-        return Err(Halt::NoMemory);
-    };
+    let mut splitter = Splitter::new(alloc)?;
+    let mut buffer = new_buffer(alloc)?;
     let mut fields = 0u64;
     for _ in 0..u64::MAX {
         match feed_piece(input, &mut buffer, &mut splitter) {

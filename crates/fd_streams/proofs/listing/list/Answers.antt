@@ -1,33 +1,36 @@
-use Rattle.std.proofs.Common.{refl, ap, ◌∙◌, arith}
+use Rattle.std.proofs.Common.{rules, refl, ap, ◌∙◌, arith}
 use Rattle.fd_streams.proofs.Causes.{both_before, input_stops}
 use Rattle.fd_streams.proofs.Runs.{waiting_start, waiting_still, finished_still, at_end}
-use Rattle.fd_streams.proofs.ListingRuns.{began, next_turn, fed_on, list_halted, list_unfed, list_whole, list_truncated}
+use Rattle.fd_streams.proofs.ListingRuns.{began, next_turn, fed_on, list_halted, list_starved, list_unfed, list_whole, list_truncated}
 use Rattle.fd_streams.proofs.listing.list.Goals as goal
 
 pub loop-init : goal.loop-init
 loop-init g c =
-    let none = ap (λ (p : _). p.fed) c.in-Ok.ensures.start in
+    let none = ap (λ (p : _). p.fed) c.in_ok-splitter.ensures.start in
     record {
-      gone = began (g.I.Source.left c.args.input.now) (g.K.Sink.taken c.args.output.now) c.args.listing c.in-Ok.splitter c.in-Ok.ensures.start;
-      waiting = waiting_start c.in-Ok.splitter c.in-Ok.ensures.start;
+      gone = began (g.I.Source.left c.args.input.now) (g.K.Sink.taken c.args.output.now) c.args.listing c.in_ok-splitter.splitter c.in_ok-splitter.ensures.start;
+      waiting = waiting_start c.in_ok-splitter.splitter c.in_ok-splitter.ensures.start;
       limit = omega (arith, none);
       turns = omega arith;
-      room = c.in-Ok-new_buffer.ensures;
+      room = c.in_ok-buffer.ensures;
       read = refl;
       calm = refl;
     }
 
+pub returns-in_err-buffer-clause-answer : goal.returns-in_err-buffer-clause-answer
+returns-in_err-buffer-clause-answer g c = list_starved (g.I.Source.left c.args.input.now) (g.K.Sink.taken c.args.output.now) c.args.listing c.from_residual-in_err-buffer.result (search rules)
+
 pub finish-requires : goal.finish-requires
 finish-requires g c = waiting_still c.loop.splitter c.feed_piece.new.splitter (rw c.in-Ok-false.field-0-test at c.in-Ok-false.ensures.fed).kept c.loop.invariant.waiting
 
-pub returns-in-Ok-finish-clause-answer : goal.returns-in-Ok-finish-clause-answer
-returns-in-Ok-finish-clause-answer g c =
+pub returns-in-Ok-clause-answer : goal.returns-in-Ok-clause-answer
+returns-in-Ok-clause-answer g c =
     let i = c.loop.invariant in
     let ended = rw c.in-Ok-false.field-0-test at c.in-Ok-false.ensures.fed in
-    list_whole (g.I.Source.left c.args.input.now) (g.I.Source.left c.loop.input) c.args.listing c.loop.splitter (g.K.Sink.taken c.args.output.now) (g.K.Sink.taken c.loop.output) _ i.gone i.limit ended.end i.waiting (finished_still c.loop.splitter c.feed_piece.new.splitter _ ended.kept c.in-Ok-finish.ensures)
+    list_whole (g.I.Source.left c.args.input.now) (g.I.Source.left c.loop.input) c.args.listing c.loop.splitter (g.K.Sink.taken c.args.output.now) (g.K.Sink.taken c.loop.output) _ i.gone i.limit ended.end i.waiting (finished_still c.loop.splitter c.feed_piece.new.splitter _ ended.kept c.in-Ok.ensures)
 
-pub returns-in-Ok-finish-clause-to_end : goal.returns-in-Ok-finish-clause-to_end
-returns-in-Ok-finish-clause-to_end g c =
+pub returns-in-Ok-clause-to_end : goal.returns-in-Ok-clause-to_end
+returns-in-Ok-clause-to_end g c =
     let ended = rw c.in-Ok-false.field-0-test at c.in-Ok-false.ensures.fed in
     at_end (g.I.Source.left c.args.input.now) (g.I.Source.left c.loop.input) (g.I.Source.left c.feed_piece.new.input) _ c.loop.invariant.gone ended.end ended.gives
 
