@@ -1,5 +1,5 @@
 use borrow.Author.Count.{below_more}
-use Rattle.std.proofs.Common.{rules, ℕ, ◌≡◌, ◌<◌, ◌∙◌, arith, get_or, length, set, subst, sym}
+use Rattle.std.proofs.Common.{rules, ℕ, ◌<◌, ◌∙◌, arith, get_or, length, set, subst, sym}
 use Rattle.std.proofs.lemmas.List.{get_or-set_same, get_or-set_other, get_or_default}
 use Rattle.fd_sheets.specs.declared.sheets.Sheet.{Sheet}
 use Rattle.fd_sheets.specs.Sheets.{IsLookedUp, IsReadable}
