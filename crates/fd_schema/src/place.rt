@@ -101,6 +101,7 @@ impl Place {
 
     /// Gives the memory of the texts back. They are empty then.
     pub fn let_go(&mut self, alloc: Global)
+        ensures rule { (seen_place self.new).rule ≡ (seen_place self.old).rule }
         ensures dataset { (seen_place self.new).dataset ≡ [] }
         ensures index { (seen_place self.new).index ≡ [] }
         ensures datum { (seen_place self.new).datum ≡ [] }
