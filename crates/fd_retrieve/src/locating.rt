@@ -6,7 +6,7 @@ ghost use Rattle.fd_answering.specs.Damages.{IsDamagedAt};
 use fd_ahead::{Located, Opened};
 use fd_bytes::NoMemory;
 use fd_disk::Sealed;
-use fd_finding::{Finder, again, find_all};
+use fd_finding::{Finder, find_all};
 use fd_io::Gate;
 use fd_retriever::Spot;
 use fd_schema::Place;
@@ -169,7 +169,7 @@ fn numbers_of<F: Send, Z: Sealed<F>>(
     let noted = noted_numbers(alloc, opened)?;
     let mut numbers = Vec::new(alloc);
     for i in 0..places.len() {
-        numbers.push(noted_number(&noted, places[i].dataset.as_str()))?;
+        numbers.push(noted_number(&noted, places[i].dataset()))?;
     }
     Ok(numbers)
 }
@@ -270,7 +270,7 @@ fn copies_of(alloc: Global, places: &[Place], keys: &[usize]) -> Result<Vec<Plac
     let mut group = Vec::new(alloc);
     for i in 0..keys.len() {
         let key = key_at(keys, i, places.len());
-        group.push(again(alloc, &places[key])?)?;
+        group.push(places[key].again(alloc)?)?;
     }
     Ok(group)
 }
