@@ -206,7 +206,7 @@ impl<F: Send + Drop, S: Store<F>> Crew<F, S> {
             return Err(BulkFault::NoMemory);
         };
         let worker = dealt(self.jobs.len() as u32, &place);
-        let dataset = self.opened(alloc, library, store, place.dataset.as_str())?;
+        let dataset = self.opened(alloc, library, store, place.dataset())?;
         match self.seated(alloc, library, store, worker, dataset) {
             Ok(()) => {}
             Err(fault) => return Err(fault),

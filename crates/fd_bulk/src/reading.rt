@@ -110,7 +110,7 @@ where
     } = sheet;
     match found {
         Some(Ok(place)) => {
-            let Ok(()) = names.note(alloc, place.dataset.as_str()) else {
+            let Ok(()) = names.note(alloc, place.dataset()) else {
                 return Err(BulkFault::NoMemory);
             };
             crew.deal(alloc, library, store, round, place, bytes)

@@ -32,7 +32,7 @@ fn place_in(alloc: Global, schema: &Schema, dataset: &str, key: &Key) -> Result<
 {
     match schema.place(alloc, key) {
         Ok(place) => {
-            if place.dataset.as_str() == dataset {
+            if place.dataset() == dataset {
                 Ok(place)
             } else {
                 Err(Refusal::Miscast(Miscast::OtherDataset))

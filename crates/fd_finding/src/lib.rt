@@ -6,10 +6,8 @@ mod dealing;
 mod finder;
 mod finding;
 mod looking;
-mod places;
 mod searching;
 mod spot;
 
 pub use finder::Finder;
 pub use finding::find_all;
-pub use places::again;

@@ -122,3 +122,8 @@ GivesKey (Err (faults.Product template)) read = read ≡ Err (faults.Product tem
 GivesKey (Err (faults.ProductLength said)) read = read ≡ Err (faults.ProductLength said)
 GivesKey (Err faults.BadDate) read = read ≡ Err faults.BadDate
 GivesKey (Err (faults.KeyTooLong len)) read = read ≡ Err (faults.KeyTooLong len)
+
+-- The same of a call that put the pairs of the key in place of others.
+abbrev pub FillsKey : List Pair → Result (Unit {0}) KeyFault → Result (List Pair) KeyFault → Type 0
+FillsKey pairs (Ok done) read = GivesKey (Ok pairs) read
+FillsKey pairs (Err fault) read = GivesKey (Err fault) read

@@ -45,6 +45,14 @@ impl Key {
         Ok(Key { values, spans })
     }
 
+    /// Takes all pairs out. The room for them stays.
+    pub fn clear(&mut self)
+        ensures { self.new ≡ [] }
+    {
+        self.values.clear();
+        self.spans.clear();
+    }
+
     /// The number of pairs.
     pub fn len(&self) -> u32
         ensures { result ≡ length self.now }

@@ -17,4 +17,4 @@ pub use fd_spelling::{
 };
 pub use given::Given;
 pub use key::Key;
-pub use of_message::key_of;
+pub use of_message::{key_into, key_of};

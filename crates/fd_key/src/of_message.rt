@@ -1,9 +1,9 @@
 // The key of a message: what its sections say, and then the given pairs.
-ghost use Rattle.std.specs.{Prelude.{◌≡◌, ◌≤◌, ◌<◌, ◌+◌, ◌-◌, ◌^◌, ◌++◌, length, true, codes, IfOk, OnOk, string_bytes}, Fmt.{decimal}};
+ghost use Rattle.std.specs.{Prelude.{◌≡◌, ◌≤◌, ◌<◌, ◌+◌, ◌-◌, ◌^◌, ◌++◌, length, true, codes, OnOk, string_bytes}, Fmt.{decimal}};
 ghost use Rattle.fd_templates.specs.Product.{Fits};
 ghost use Rattle.fd_sections.specs.Parts.{sections_of};
 ghost use Rattle.fd_spelling.specs.{Canonical.{param_text}, Levels.{levtype_text}, Steps.{step_text}};
-ghost use Rattle.fd_key.specs.{Pairs.{with_pair, with_pair_if, key_text}, Given.{are_reserved}, Fields.{levels_of}, Values.{value_text}, Keys.{key_of, GivesKey, message_pairs, discipline_of, dated_pairs, has_date, date_of, time_of, param_in, levtype_of, step_of, number_of, stat_of, origin_pairs, field_pairs, pairs_in}};
+ghost use Rattle.fd_key.specs.{Pairs.{with_pair, with_pair_if, key_text}, Given.{are_reserved}, Fields.{levels_of}, Values.{value_text}, Keys.{key_of, FillsKey, GivesKey, message_pairs, discipline_of, dated_pairs, has_date, date_of, time_of, param_in, levtype_of, step_of, number_of, stat_of, origin_pairs, field_pairs, pairs_in}};
 
 use crate::fault::KeyFault;
 use crate::fields::{levels_of, ranges_text};
@@ -23,28 +23,49 @@ use std::alloc::Global;
 /// `Product` comes where the template of section 4 is none of 4.0, 4.1, 4.8 and 4.11, `ProductLength` where section 4 is
 /// shorter than its template, `BadDate` where the reference time is no day of the years 0 to 9999 or no time of a day, and `KeyTooLong`
 /// where the key's text has more than 255 bytes, in this order.
-#[tactic(auto, unfolding(crate::specs::Keys::key_of, crate::specs::Keys::within_limit))]
 pub fn key_of(alloc: Global, message: &Message<'_>, given: &Given) -> Result<Key, KeyFault>
     ensures { GivesKey result (key_of (sections_of message.now) given.now) }
 {
-    let mut key = message_key(alloc, message)?;
+    let mut key = Key::new(alloc)?;
+    key_into(&mut key, alloc, message, given)?;
+    Ok(key)
+}
+
+/// The same, which is put into a key in place of its pairs, so that the room for these is used again. After a refusal the key has any
+/// pairs.
+#[tactic(auto, unfolding(crate::specs::Keys::key_of, crate::specs::Keys::within_limit))]
+pub fn key_into(
+    key: &mut Key,
+    alloc: Global,
+    message: &Message<'_>,
+    given: &Given,
+) -> Result<(), KeyFault>
+    ensures { FillsKey key.new result (key_of (sections_of message.now) given.now) }
+{
+    put_message(key, alloc, message)?;
     key.append(given)?;
     let len = key.text_len();
     if len > 255 {
         return Err(KeyFault::KeyTooLong { len: len as u32 });
     }
-    Ok(key)
+    Ok(())
 }
 
-/// The pairs that a message has of its own.
+/// Puts the pairs that a message has of its own in place of those of a key.
 #[tactic(auto, unfolding(crate::specs::Keys::message_pairs))]
-fn message_key(alloc: Global, message: &Message<'_>) -> Result<Key, KeyFault>
-    ensures key { GivesKey result (message_pairs (sections_of message.now)) }
-    ensures short { IfOk result (λ k. length (key_text k) ≤ 9000) }
-    ensures own { IfOk result (λ k. are_reserved k ≡ true) }
+fn put_message(key: &mut Key, alloc: Global, message: &Message<'_>) -> Result<(), KeyFault>
+    ensures key { FillsKey key.new result (message_pairs (sections_of message.now)) }
+    ensures short { OnOk result (length (key_text key.new) ≤ 9000) }
+    ensures own { OnOk result (are_reserved key.new ≡ true) }
 {
     match AnyProduct::read(alloc, message) {
-        Ok(product) => dated_key(alloc, discipline(message), &Ident::read(message), &product),
+        Ok(product) => put_dated(
+            key,
+            alloc,
+            discipline(message),
+            &Ident::read(message),
+            &product,
+        ),
         Err(AnyFault::Template(TemplateFault::Other(template))) => Err(KeyFault::Product(template)),
         Err(AnyFault::Template(TemplateFault::BadLength { said })) => {
             Err(KeyFault::ProductLength { said })
@@ -61,37 +82,39 @@ fn discipline(message: &Message<'_>) -> u8
     message.indicator[6]
 }
 
-/// The pairs of sections 0, 1 and 4, where the reference time is a day and a time of day.
-fn dated_key(
+/// Puts the pairs of sections 0, 1 and 4 in place of those of a key, where the reference time is a day and a time of day.
+fn put_dated(
+    key: &mut Key,
     alloc: Global,
     discipline: u8,
     ident: &Ident,
     product: &AnyProduct,
-) -> Result<Key, KeyFault>
+) -> Result<(), KeyFault>
     requires { Fits product.now.base }
-    ensures key { GivesKey result (dated_pairs discipline ident.now product.now) }
-    ensures short { IfOk result (λ k. length (key_text k) ≤ 9000) }
-    ensures own { IfOk result (λ k. are_reserved k ≡ true) }
+    ensures key { FillsKey key.new result (dated_pairs discipline ident.now product.now) }
+    ensures short { OnOk result (length (key_text key.new) ≤ 9000) }
+    ensures own { OnOk result (are_reserved key.new ≡ true) }
 {
     if !has_date(ident) {
         return Err(KeyFault::BadDate);
     }
-    Ok(own_pairs(alloc, discipline, ident, product)?)
+    put_own(key, alloc, discipline, ident, product)?;
+    Ok(())
 }
 
-/// The pairs of section 1.
-fn origin_key(alloc: Global, ident: &Ident) -> Result<Key, NoMemory>
-    ensures pairs { IfOk result (λ k. k ≡ origin_pairs ident.now) }
-    ensures short { IfOk result (λ k. length (key_text k) ≤ 150) }
+/// Puts the pairs of section 1 in place of those of a key.
+fn put_origin(key: &mut Key, ident: &Ident) -> Result<(), NoMemory>
+    ensures pairs { OnOk result (key.new ≡ origin_pairs ident.now) }
+    ensures short { OnOk result (length (key_text key.new) ≤ 150) }
 {
-    let mut key = Key::new(alloc)?;
-    put_number(&mut key, "centre", u32::from(ident.centre))?;
+    key.clear();
+    put_number(key, "centre", u32::from(ident.centre))?;
     let date = date_of(ident);
     key.spell("date", &date)?;
     let time = time_of(ident);
     key.spell("time", &time)?;
-    put_number(&mut key, "type", u32::from(ident.data_type))?;
-    Ok(key)
+    put_number(key, "type", u32::from(ident.data_type))?;
+    Ok(())
 }
 
 /// The value of these numbers of a parameter.
@@ -155,42 +178,38 @@ fn put_levels(key: &mut Key, product: &Product) -> Result<(), NoMemory>
     }
 }
 
-/// The pairs of sections 0, 1 and 4.
-fn own_pairs(
+/// Puts the pairs of sections 0, 1 and 4 in place of those of a key.
+fn put_own(
+    key: &mut Key,
     alloc: Global,
     discipline: u8,
     ident: &Ident,
     product: &AnyProduct,
-) -> Result<Key, NoMemory>
+) -> Result<(), NoMemory>
     requires { Fits product.now.base }
-    ensures pairs { IfOk result (λ k. k ≡ pairs_in discipline ident.now product.now) }
-    ensures short { IfOk result (λ k. length (key_text k) ≤ 9000) }
-    ensures own { IfOk result (λ k. are_reserved k ≡ true) }
+    ensures pairs { OnOk result (key.new ≡ pairs_in discipline ident.now product.now) }
+    ensures short { OnOk result (length (key_text key.new) ≤ 9000) }
+    ensures own { OnOk result (are_reserved key.new ≡ true) }
 {
-    let mut key = base_key(alloc, discipline, ident, &product.base)?;
-    put_number_of(&mut key, &product.ensemble)?;
-    put_stat(alloc, &mut key, &product.interval)?;
-    Ok(key)
+    put_base(key, discipline, ident, &product.base)?;
+    put_number_of(key, &product.ensemble)?;
+    put_stat(alloc, key, &product.interval)?;
+    Ok(())
 }
 
-/// The pairs of sections 0, 1 and 4 that each of the templates has.
-fn base_key(
-    alloc: Global,
-    discipline: u8,
-    ident: &Ident,
-    product: &Product,
-) -> Result<Key, NoMemory>
+/// Puts the pairs of sections 0, 1 and 4 that each of the templates has in place of those of a key.
+fn put_base(key: &mut Key, discipline: u8, ident: &Ident, product: &Product) -> Result<(), NoMemory>
     requires { Fits product.now }
-    ensures pairs { IfOk result (λ k. k ≡ origin_pairs ident.now ++ field_pairs discipline product.now) }
-    ensures short { IfOk result (λ k. length (key_text k) ≤ 1100) }
-    ensures few { IfOk result (λ k. length k ≤ 8) }
+    ensures pairs { OnOk result (key.new ≡ origin_pairs ident.now ++ field_pairs discipline product.now) }
+    ensures short { OnOk result (length (key_text key.new) ≤ 1100) }
+    ensures few { OnOk result (length key.new ≤ 8) }
 {
-    let mut key = origin_key(alloc, ident)?;
-    put_field(&mut key, discipline, product)?;
-    put_levels(&mut key, product)?;
+    put_origin(key, ident)?;
+    put_field(key, discipline, product)?;
+    put_levels(key, product)?;
     let step = step_of(product);
     key.spell("step", &step)?;
-    Ok(key)
+    Ok(())
 }
 
 /// Puts the number of the member of an ensemble, unless it is missing.

@@ -66,7 +66,7 @@ fn is_same_home(alloc: Global, own: &Place, other: &Place) -> Result<bool, NoMem
     ensures { IfOk result (λ b. b ≡ is_same_home (seen_place own.now) (seen_place other.now)) }
 {
     let is_same = own.file_key(alloc)? == other.file_key(alloc)?;
-    Ok(own.rule == other.rule && is_same)
+    Ok(own.rule() == other.rule() && is_same)
 }
 
 /// The place of a key, which has one, with a layer's values in place of its own. The place has the rule of the key's own,

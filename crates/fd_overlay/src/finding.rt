@@ -11,7 +11,7 @@ use crate::spot::{FindFault, LayerSpot};
 use fd_bytes::NoMemory;
 use fd_dataset::Snapshot;
 use fd_disk::Sealed;
-use fd_finding::{Finder, again, find_all};
+use fd_finding::{Finder, find_all};
 use fd_io::Gate;
 use fd_retriever::Spot;
 use fd_schema::Place;
@@ -43,7 +43,7 @@ fn push_unfound(
 {
     match spot {
         Some(_) => {}
-        None => others.push(again(alloc, place)?)?,
+        None => others.push(place.again(alloc)?)?,
     }
     Ok(())
 }

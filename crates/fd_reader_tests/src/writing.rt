@@ -6,6 +6,7 @@ ghost use Rattle.fd_reader_tests.specs.Passing.{IsFree, IsReady};
 
 use crate::reading::{Open, opened};
 use fd_archiver::{Archiver, Flush, FlushFault};
+use fd_bytes::NoMemory;
 use fd_disk::{Disk, Folder, Shelf};
 use fd_schema::Place;
 use fd_segment::Room;
@@ -39,12 +40,10 @@ pub(crate) fn place(alloc: Global, key: Key) -> Result<Place, AllocError>
     ensures dataset { IfOk result (λ p. (seen_place p).dataset ≡ codes "a=1") }
     ensures key { IfOk result (λ p. length (file_key (seen_place p)) ≤ 256) }
 {
-    Ok(Place {
-        rule: 0,
-        dataset: String::from_str(alloc, "a=1")?,
-        index: String::from_str(alloc, "i")?,
-        datum: String::from_str(alloc, datum(key))?,
-    })
+    match Place::new(alloc, 0, "a=1", "i", datum(key)) {
+        Ok(place) => Ok(place),
+        Err(NoMemory) => Err(AllocError),
+    }
 }
 
 /// A message that is put: its key, and the byte that it consists of.

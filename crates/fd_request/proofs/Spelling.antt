@@ -1,5 +1,5 @@
 -- Keys of names with values, one pair more.
-use Rattle.std.proofs.Common.{◌≡◌, ℕ, true, List, [], ◌∷◌, ◌++◌, Some, None, refl, sym, subst}
+use Rattle.std.proofs.Common.{◌≡◌, ℕ, true, List, [], ◌∷◌, ◌++◌, None, refl, sym, subst}
 use Rattle.std.proofs.lemmas.List.Elements.{All-nil, All-push}
 use Rattle.fd_spelling.specs.Names.{is_name, is_value}
 use Rattle.fd_key.specs.Pairs.{Pair, text_of}

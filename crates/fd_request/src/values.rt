@@ -1,6 +1,6 @@
 // The values of a keyword.
 ghost use Rattle.std.specs.Prelude.{◌≡◌, ◌<◌, ◌+◌, ◌/◌, IfOk, Some, option_map, length, max, slice_get, string_bytes};
-ghost use Rattle.fd_request.specs.{Ranges.{between, range_of, values_from}, Grammar.{word_texts}, Limits.{longest_text}, Seen.{seen_words, seen_end, Fits}, Values.{seen_range, seen_values}};
+ghost use Rattle.fd_request.specs.{Ranges.{between, range_of, values_from}, Grammar.{word_texts}, Limits.{longest_text}, Seen.{seen_words, seen_end, Fits}, Values.{seen_range, seen_text, seen_values}};
 ghost use Rattle.fd_spelling.specs.Texts.{texts};
 
 use crate::end::{End, distance, end_of, step_of, text_behind};
@@ -16,6 +16,27 @@ pub(crate) enum Values {
     Listed(Vec<String>),
     /// Those of a range.
     Stepped(Range),
+}
+
+/// The text of a value: lent where the value is listed, so that no memory is asked for, and made where it is one of a range.
+#[derive(Debug, Drop)]
+pub(crate) enum ValueText<'a> {
+    /// One that is listed.
+    Listed(&'a str),
+    /// One of a range.
+    Made(String),
+}
+
+impl ValueText<'_> {
+    /// The text.
+    pub(crate) fn as_str(&self) -> &str
+        ensures { result.now ≡ seen_text self.now }
+    {
+        match self {
+            ValueText::Listed(text) => *text,
+            ValueText::Made(text) => text.as_str(),
+        }
+    }
 }
 
 /// The values from one end on, by steps, up to the other, where both are ends of the name.
@@ -112,13 +133,13 @@ impl Values {
     }
 
     /// The value at a place, from 0.
-    pub(crate) fn text(&self, alloc: Global, i: u64) -> Result<String, NoMemory>
+    pub(crate) fn text(&self, alloc: Global, i: u64) -> Result<ValueText<'_>, NoMemory>
         requires { i < length (seen_values self.now) }
-        ensures { IfOk result (λ s. slice_get (seen_values self.now) i ≡ Some (string_bytes s)) }
+        ensures { IfOk result (λ t. slice_get (seen_values self.now) i ≡ Some (seen_text t)) }
     {
         match self {
-            Values::Listed(texts) => Ok(texts[i as usize].clone()?),
-            Values::Stepped(range) => range.text(alloc, i),
+            Values::Listed(texts) => Ok(ValueText::Listed(texts[i as usize].as_str())),
+            Values::Stepped(range) => Ok(ValueText::Made(range.text(alloc, i)?)),
         }
     }
 

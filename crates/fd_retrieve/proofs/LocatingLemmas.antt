@@ -1,5 +1,5 @@
 -- The keys of a request, located dataset by dataset.
-use Rattle.std.proofs.Common.{◌≡◌, ◌≢◌, ◌∙◌, ◌<◌, ◌≤◌, ◌+◌, ◌⊎◌, ◌||◌, inl, inr, ℕ, zero, suc, true, false, cond, List, [], ◌∷◌, ◌++◌, length, map, drop, get_or, All, Option, Some, None, refl, sym, ap, subst, arith, slice_get, if◌then◌else◌}
+use Rattle.std.proofs.Common.{◌≡◌, ◌≢◌, ◌∙◌, ◌<◌, ◌≤◌, ◌+◌, ◌-◌, ◌⊎◌, ◌||◌, inl, inr, ℕ, zero, suc, true, false, cond, List, [], ◌∷◌, ◌++◌, length, map, drop, take, get_or, get_or-drop, get_or-take, All, Option, Some, None, refl, sym, ap, subst, arith, slice_get, if◌then◌else◌}
 use Rattle.std.specs.Prelude.{IfSome, String, Vec, option_map, string_bytes}
 use Rattle.std.specs.BTreeMap.{BTreeMap, Updates, get_by_text, is_at}
 use Rattle.std.specs.Map.{lookup}
@@ -14,9 +14,9 @@ use Rattle.std.proofs.Math.ListN.{set, get_or-append}
 use Rattle.std.proofs.Math.Seq.{get_or-append_seam}
 use Rattle.std.proofs.lemmas.List.{get_or-set_other, get_or-set_same}
 use Rattle.std.proofs.Math.ListN.{length-set}
-use Rattle.std.proofs.Common.{length-append}
+use Rattle.std.proofs.Common.{length-append, length-drop, length-take}
 use Rattle.std.proofs.lemmas.List.Elements.{All-head, All-tail}
-use Rattle.std.proofs.lemmas.Option.{slice_get-map}
+use Rattle.std.proofs.lemmas.Option.{slice_get-get_or, slice_get-map}
 use Rattle.std.proofs.lemmas.Slice.Eq.{bytes_eq-Decides}
 use Rattle.fd_disk.proofs.NameLemmas.{is_or_not}
 use Rattle.fd_entries.specs.declared.batch.Pair.{Pair}
@@ -34,7 +34,7 @@ use Rattle.fd_outcome.specs.Asking.{Answer, answers, is_among}
 use Rattle.fd_ahead.specs.declared.located.Located.{Located}
 use Rattle.fd_answering.specs.Finding.{asked_of_all}
 use Rattle.fd_answering.specs.Located.{AreAt, IsAt}
-use Rattle.fd_retrieve.specs.Located.{AreDealt, AreGroups, AreLocated, AreLocatedBy, AreNumbersOf, ArePlacesOf, IsFilled, IsGroup, IsIn, IsLocated, IsLocatedBy, IsNumberOf, keys_in, located_in}
+use Rattle.fd_retrieve.specs.Located.{AreDealt, AreGroups, AreLocated, AreLocatedBy, AreNumbersOf, ArePlacesOf, AreWithin, IsFilled, IsGroup, IsIn, IsLocated, IsLocatedBy, IsNumberOf, IsRow, keys_in, located_in}
 use Rattle.fd_retrieve.specs.Open.{IsFirstNamed, Open, names_of, table_in, table_of}
 use Rattle.fd_answering.proofs.AnsweringLemmas.{as_long, as_many, numbered, there_is}
 use Rattle.fd_retrieve.proofs.DatasetLemmas.{at_get, closed_table, get_within, split, tells_of}
@@ -351,6 +351,33 @@ places_more ps keys j k p q group after key lt is alike pushed so_far = record {
         (q, subst (λ (n : ℕ). slice_get after n ≡ Some q) (so_far.long ∙ sym here) (subst (λ (l : List Place). slice_get l (length group) ≡ Some q) (sym pushed) (last group q)), alike ∙ ap seen_place place)
   ];
 }
+
+-- a row of keys that are among so many ends among them
+pub row_fits : (count first : ℕ) (keys : List ℕ) → 0 < length keys → AreWithin count keys → IsRow first keys (length keys) → first + length keys ≤ count
+row_fits count first keys some within row =
+    let n = length keys - 1 in
+    let lt : n < length keys = omega (arith, some) in
+    let at = slice_get-get_or keys n 0 lt in
+    let last : get_or keys n 0 < count = within n (get_or keys n 0) at in
+    let is : get_or keys n 0 ≡ first + n = row n (get_or keys n 0) lt at in
+    omega (arith, some, last, is)
+
+-- the places from a row's first key on, as many as it has keys, are those of its keys
+pub row_places : (ps : List Place) (first : ℕ) (keys : List ℕ) (row : List Place) → first + length keys ≤ length ps → IsRow first keys (length keys) → row ≡ take (first + length keys - first) (drop first ps) → ArePlacesOf ps keys (length keys) row
+row_places ps first keys row fits is_row part = record {
+  long = long;
+  each = λ j k p lt at. (
+    get_or ps k p,
+    slice_get-get_or row j p (omega (arith, long, lt)) ∙ ap (λ q. Some q) (ap (λ (l : List Place). get_or l j p) cut ∙ (get_or-take (length keys) (drop first ps) j p lt ∙ (get_or-drop first ps j p ∙ ap (λ n. get_or ps n p) (sym (is_row j k lt at))))),
+    refl,
+  );
+}
+  where
+    cut : row ≡ take (length keys) (drop first ps)
+    cut = part ∙ ap (λ n. take n (drop first ps)) (omega arith)
+
+    long : length row ≡ length keys
+    long = ap length cut ∙ omega (arith, length-take (length keys) (drop first ps), length-drop first ps, fits)
 
 -- where one key more was found is noted
 module _ (n : ℕ) (keys : List ℕ) (found : List (Option Spot)) (j k : ℕ) (s : Option Spot) (first before after : List (Option Located)) (new : Option Located) (key : slice_get keys j ≡ Some k) (spot : slice_get found j ≡ Some s) (own : new ≡ located_in n s) (lt : k < length before) (is : after ≡ set before k new) where

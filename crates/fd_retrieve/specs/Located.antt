@@ -1,5 +1,5 @@
 -- Where the newest bytes of a request's keys stand, among the datasets that are open.
-use Rattle.std.specs.Prelude.{◌≡◌, ◌<◌, ◌≤◌, ℕ, List, [], length, Option, Some, None, Vec, false, IfSome, slice_get, slice_index_or, option_map}
+use Rattle.std.specs.Prelude.{◌≡◌, ◌<◌, ◌≤◌, ◌+◌, ℕ, List, [], length, Option, Some, None, Vec, false, IfSome, slice_get, slice_index_or, option_map}
 use Rattle.std.specs.Option.{option_map_or}
 use Rattle.std.specs.declared.alloc.Global.{Global}
 use Rattle.fd_entries.specs.declared.batch.Pair.{Pair}
@@ -15,6 +15,8 @@ use Rattle.fd_ahead.specs.declared.located.Located.{Located}
 pub use Rattle.fd_ahead.specs.Places.{IsIn}
 use Rattle.fd_retrieve.specs.declared.locating.Lost.{Lost}
 use Rattle.fd_retrieve.specs.declared.locating.Lost.TheVariants as losses
+use Rattle.fd_retrieve.specs.declared.locating.Chosen.{Chosen}
+use Rattle.fd_retrieve.specs.declared.locating.Chosen.TheVariants as choices
 use Rattle.fd_retrieve.specs.Open.{IsFirstNamed, Open, names_of, table_in}
 
 -- These are the newest bytes of the place's key in its dataset.
@@ -74,6 +76,15 @@ pub record AreDealt (os : List Open) (places : List Place) (ns : List (Option �
 pub record ArePlacesOf (places : List Place) (keys : List ℕ) (count : ℕ) (group : List Place) : Type 0 where
   pub long : length group ≡ count
   pub each : (j k : ℕ) (p : Place) → j < count → slice_get keys j ≡ Some k → (q : Place) × (slice_get group j ≡ Some q) × (seen_place q ≡ seen_place (slice_index_or places k p))
+
+-- the places of a group, be they lent or copied
+abbrev pub members : Chosen → List Place
+members (choices.Lent s) = s.now
+members (choices.Copied v) = v.items
+
+-- the first keys, so many, are the first one, the one behind it, and so on
+abbrev pub IsRow : ℕ → List ℕ → ℕ → Type 0
+IsRow first keys count = (j k : ℕ) → j < count → slice_get keys j ≡ Some k → k ≡ first + j
 
 abbrev pub located_in : ℕ → Option Spot → Option Located
 located_in number spot = option_map (λ s. record { number = number; spot = s }) spot

@@ -1,12 +1,12 @@
 // Where the newest fields of a request's keys stand.
-ghost use Rattle.std.specs.{Prelude.{◌≡◌, ◌≤◌, ◌<◌, ◌+◌, ◌++◌, ◌∷◌, [], List, ℕ, Option, Some, None, cond, length, slice_get, slice_index_or, IfOk, IfErr, IfSome, OnOk}, BTreeMap.{get_by_text}, Str.{bytes_eq}};
-ghost use Rattle.fd_retrieve.specs.Located.{AreDealt, AreGroups, AreLocated, AreLocatedBy, AreNumbersOf, ArePlacesOf, AreWithin, IsFilled, IsNumberOf, OnLost, keys_in, located_in};
+ghost use Rattle.std.specs.{Prelude.{◌≡◌, ◌≤◌, ◌<◌, ◌+◌, ◌++◌, ◌∷◌, [], List, ℕ, Option, Some, None, cond, length, slice_get, slice_index_or, IfOk, IfErr, IfSome, IsTrue, OnOk}, BTreeMap.{get_by_text}, Str.{bytes_eq}};
+ghost use Rattle.fd_retrieve.specs.Located.{AreDealt, AreGroups, AreLocated, AreLocatedBy, AreNumbersOf, ArePlacesOf, AreWithin, IsFilled, IsNumberOf, IsRow, OnLost, keys_in, located_in, members};
 ghost use Rattle.fd_answering.specs.Damages.{IsDamagedAt};
 
 use fd_ahead::{Located, Opened};
 use fd_bytes::NoMemory;
 use fd_disk::Sealed;
-use fd_finding::{Finder, again, find_all};
+use fd_finding::{Finder, find_all};
 use fd_io::Gate;
 use fd_retriever::Spot;
 use fd_schema::Place;
@@ -35,6 +35,27 @@ pub enum Lost<F> {
 struct Dealt {
     numbers: Vec<Option<usize>>,
     groups: Vec<Vec<usize>>,
+}
+
+/// The places of the keys of one dataset: lent where each key is one behind that before it, so that nothing is copied.
+#[derive(Drop)]
+enum Chosen<'a> {
+    /// Some of the places, one behind the other.
+    Lent(&'a [Place]),
+    /// A copy of each.
+    Copied(Vec<Place>),
+}
+
+impl Chosen<'_> {
+    /// The places.
+    fn as_slice(&self) -> &[Place]
+        ensures { result.now ≡ members self.now }
+    {
+        match self {
+            Chosen::Lent(places) => *places,
+            Chosen::Copied(places) => places.as_slice(),
+        }
+    }
 }
 
 /// Finds where the newest bytes of each place's key stand, all keys of one dataset at once, by the finder's workers.
@@ -86,7 +107,7 @@ where
         return Err(Lost::NoMemory);
     };
     let dataset = &opened[number];
-    match find_all(finder, dataset.snapshot(), &group) {
+    match find_all(finder, dataset.snapshot(), group.as_slice()) {
         Ok(found) => {
             fill(number, keys, &found, located);
             Ok(())
@@ -148,7 +169,7 @@ fn numbers_of<F: Send, Z: Sealed<F>>(
     let noted = noted_numbers(alloc, opened)?;
     let mut numbers = Vec::new(alloc);
     for i in 0..places.len() {
-        numbers.push(noted_number(&noted, places[i].dataset.as_str()))?;
+        numbers.push(noted_number(&noted, places[i].dataset()))?;
     }
     Ok(numbers)
 }
@@ -241,17 +262,58 @@ fn key_at(keys: &[usize], place: usize, count: usize) -> usize
     keys[place]
 }
 
-/// The places of these keys, in their order.
-fn group_of(alloc: Global, places: &[Place], keys: &[usize]) -> Result<Vec<Place>, NoMemory>
+/// A copy of the places of these keys, in their order.
+fn copies_of(alloc: Global, places: &[Place], keys: &[usize]) -> Result<Vec<Place>, NoMemory>
     requires { AreWithin (length places.now) keys.now }
     ensures { IfOk result (λ v. ArePlacesOf places.now keys.now (length keys.now) v.items) }
 {
     let mut group = Vec::new(alloc);
     for i in 0..keys.len() {
         let key = key_at(keys, i, places.len());
-        group.push(again(alloc, &places[key])?)?;
+        group.push(places[key].again(alloc)?)?;
     }
     Ok(group)
+}
+
+/// Tells that these keys are the first one, the one behind it, and so on.
+fn are_a_row(keys: &[usize], first: usize, count: usize) -> bool
+    requires { AreWithin count keys.now }
+    ensures { IsTrue result → IsRow first keys.now (length keys.now) }
+{
+    for i in 0..keys.len() {
+        let key = key_at(keys, i, count);
+        if key < i || key - i != first {
+            return false;
+        }
+    }
+    true
+}
+
+/// The places of these keys, where each key is one behind that before it.
+fn row_of<'a>(places: &'a [Place], keys: &[usize]) -> Option<&'a [Place]>
+    requires { AreWithin (length places.now) keys.now }
+    ensures { IfSome result (λ s. ArePlacesOf places.now keys.now (length keys.now) s.now) }
+{
+    if keys.is_empty() {
+        return None;
+    }
+    let first = key_at(keys, 0, places.len());
+    if are_a_row(keys, first, places.len()) {
+        Some(&places[first..first + keys.len()])
+    } else {
+        None
+    }
+}
+
+/// The places of these keys, in their order.
+fn group_of<'a>(alloc: Global, places: &'a [Place], keys: &[usize]) -> Result<Chosen<'a>, NoMemory>
+    requires { AreWithin (length places.now) keys.now }
+    ensures { IfOk result (λ g. ArePlacesOf places.now keys.now (length keys.now) (members g)) }
+{
+    match row_of(places, keys) {
+        Some(row) => Ok(Chosen::Lent(row)),
+        None => Ok(Chosen::Copied(copies_of(alloc, places, keys)?)),
+    }
 }
 
 /// Where a key is located of which this was found, the one at a place of these, in the dataset with this number.

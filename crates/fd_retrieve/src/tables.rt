@@ -70,7 +70,7 @@ fn add_table<F: Send, S: Store<F>>(
     ensures home { (n : List ℕ) → S.out store.new n ≡ false }
     ensures later { S.faults store.old ≤ S.faults store.new }
 {
-    let name = place.dataset.as_str();
+    let name = place.dataset();
     if is_known(names, noted, name) {
         return Ok(());
     }

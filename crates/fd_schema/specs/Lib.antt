@@ -1,5 +1,6 @@
 pub mod Plain
 pub mod Rules
+pub mod Cuts
 pub mod Grammar
 pub mod Seen
 pub mod Reading

@@ -65,8 +65,9 @@ GivesSchema text (Ok rules) = schema_of text ≡ Ok rules
 GivesSchema text (Err (faults.At line kind)) = (fault : Fault) × IsFirst text line kind fault
 GivesSchema text (Err faults.NoMemory) = Unit {0}
 
+-- a place is seen as its texts
 abbrev pub seen_place : Place → Texts
-seen_place p = record { rule = p.rule; dataset = string_bytes p.dataset; index = string_bytes p.index; datum = string_bytes p.datum }
+seen_place p = p
 
 -- What a call answered is this place, or there is none. It may also have run out of memory.
 abbrev pub GivesPlace : Result Place PlaceFault → Option Texts → Type 0

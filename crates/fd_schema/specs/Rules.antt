@@ -76,10 +76,10 @@ level_pairs level (i ∷ is) key = (if same_level i.level level then pair_if i.n
 abbrev pub level_text : Level → List Item → List Pair → List ℕ
 level_text level items key = key_text (level_pairs level items key)
 
--- a pair behind the text of the pairs before it
-abbrev pub joined_behind : List ℕ → Pair → List ℕ
-joined_behind [] p = pair_text p
-joined_behind (b ∷ bs) p = (b ∷ bs) ++ 44 ∷ pair_text p
+-- a pair as it stands in the text of its level: the first alone, a later one behind a comma
+abbrev pub pair_behind : Bool → Pair → List ℕ
+pair_behind true p = pair_text p
+pair_behind false p = 44 ∷ pair_text p
 
 -- a rule's number, from 0, and the texts of its three levels
 pub record Texts : Type 0 where

@@ -38,9 +38,7 @@ impl Item for Parcel {
 
     // The buffer of a longer message is used again.
     fn let_go(&mut self, alloc: Global) {
-        self.place.dataset = String::new(alloc);
-        self.place.index = String::new(alloc);
-        self.place.datum = String::new(alloc);
+        self.place.let_go(alloc);
         if self.bytes.as_slice().len() < LEAST_KEPT {
             self.bytes = Field::new(Bytes::new(alloc));
         }

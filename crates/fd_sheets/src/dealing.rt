@@ -37,8 +37,8 @@ pub fn dealt(workers: u32, place: &Place) -> u32
     ensures below { result < workers }
     ensures worker { result ≡ dealt workers (seen_place place.now).dataset (file_key (seen_place place.now)) }
 {
-    let dataset = weighed(workers, 0, place.dataset.as_bytes());
-    let index = weighed(workers, dataset, place.index.as_bytes());
+    let dataset = weighed(workers, 0, place.dataset().as_bytes());
+    let index = weighed(workers, dataset, place.index().as_bytes());
     let line = weighed(workers, index, b"|");
-    weighed(workers, line, place.datum.as_bytes())
+    weighed(workers, line, place.datum().as_bytes())
 }

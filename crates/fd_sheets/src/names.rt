@@ -52,7 +52,7 @@ impl Names {
         ensures { result ≡ true → IsKnown self.now.texts.items sheet.now }
     {
         match &sheet.found {
-            Some(Ok(place)) => self.has(place.dataset.as_bytes()),
+            Some(Ok(place)) => self.has(place.dataset().as_bytes()),
             Some(Err(_)) => false,
             None => false,
         }

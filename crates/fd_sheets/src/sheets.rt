@@ -9,7 +9,7 @@ use crate::buffers::Buffers;
 use crate::opened::{Opened, put_sheet};
 use crate::rounds::Rounds;
 use fd_bytes::NoMemory;
-use fd_key::{Given, KeyFault, key_of};
+use fd_key::{Given, Key, KeyFault, key_into};
 use fd_schema::{Place, PlaceFault, Schema};
 use fd_sections::{Bad, BadAt, Message, Splitter, message};
 use fd_segment::Field;
@@ -242,8 +242,9 @@ impl Intake {
     }
 }
 
-// The place of a field.
+// The place of a field, whose key is put into this one.
 fn placed(
+    key: &mut Key,
     alloc: Global,
     schema: &Schema,
     given: &Given,
@@ -252,12 +253,12 @@ fn placed(
     requires schema { IsSchema schema.now }
     ensures { FoundAs schema.now given.now (sections_of message.now) result }
 {
-    let key = match key_of(alloc, message, given) {
-        Ok(key) => key,
+    match key_into(key, alloc, message, given) {
+        Ok(()) => {}
         Err(KeyFault::NoMemory) => return Err(Unplaced::NoMemory),
         Err(fault) => return Err(Unplaced::Key(fault)),
-    };
-    match schema.place(alloc, &key) {
+    }
+    match schema.place(alloc, key) {
         Ok(place) => Ok(place),
         Err(PlaceFault::NoRule) => match key.text(alloc) {
             Ok(key) => Err(Unplaced::NoRule(key)),
@@ -267,17 +268,33 @@ fn placed(
     }
 }
 
-// Looks for the place of a sheet.
-fn look_up(alloc: Global, schema: &Schema, given: &Given, sheet: &mut Sheet)
+// Looks for the place of a sheet, whose key is put into this one, if there is room for it.
+fn look_up(room: &mut Option<Key>, alloc: Global, schema: &Schema, given: &Given, sheet: &mut Sheet)
     requires schema { IsSchema schema.now }
     requires readable { IsReadable sheet.old }
     ensures { IsLookedUp schema.now given.now sheet.old sheet.new }
 {
     let found = match message(sheet.bytes.as_slice()) {
-        Ok(message) => placed(alloc, schema, given, &message),
+        Ok(message) => match room {
+            Some(key) => placed(key, alloc, schema, given, &message),
+            None => Err(Unplaced::NoMemory),
+        },
         Err(_) => unreachable!(),
     };
     sheet.found = Some(found);
+}
+
+// Looks for the places of a share of the sheets. Their keys are put into one, the one after the other, so that memory for them is asked for
+// once.
+fn look_up_share(alloc: Global, schema: &Schema, given: &Given, sheets: &mut [Sheet])
+    requires schema { IsSchema schema.now }
+    requires readable { All IsReadable sheets.old }
+    ensures { AreLookedUp schema.now given.now sheets.old sheets.new }
+{
+    let mut room = Key::new(alloc).ok();
+    for i in 0..sheets.len() {
+        look_up(&mut room, alloc, schema, given, &mut sheets[i]);
+    }
 }
 
 /// Looks for the places of sheets, by so many threads where there are enough sheets for several.
@@ -299,13 +316,14 @@ pub(crate) fn look_up_all<R: Threads + Sync>(
     } else {
         workers
     };
-    thread::for_each_mut(
+    let share = sheets.len().div_ceil(threads).max(1);
+    thread::for_each_chunk_mut(
         rt,
         sheets,
-        threads,
-        &|_i: usize, sheet: &mut Sheet|
-            requires { IsSchema schema.now × IsReadable sheet.old }
-            ensures { IsLookedUp schema.entry.now given.entry.now sheet.old sheet.new }
-        { look_up(alloc, schema, given, sheet) },
+        share,
+        &|_start: usize, part: &mut [Sheet]|
+            requires { IsSchema schema.now × All IsReadable part.old }
+            ensures { AreLookedUp schema.entry.now given.entry.now part.old part.new }
+        { look_up_share(alloc, schema, given, part) },
     );
 }

@@ -88,10 +88,10 @@ fn place(alloc: Global, text: &str, key: &Key) -> Option<Place> {
 
 /// Tells that the place is that of the first rule.
 fn is_first(place: &Place) -> bool {
-    place.rule == 0
-        && place.dataset.as_str() == "a=y"
-        && place.index.as_str() == "step=1"
-        && place.datum.as_str() == "d=x"
+    place.rule() == 0
+        && place.dataset() == "a=y"
+        && place.index() == "step=1"
+        && place.datum() == "d=x"
 }
 
 /// Tells that the place's key in a file is this one.

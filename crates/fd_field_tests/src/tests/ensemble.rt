@@ -156,7 +156,7 @@ fn has_datum(alloc: Global, schema: &str, octets: &[u8], want: &str) -> Option<b
     let given = Given::read(alloc, "class=od,expver=0001").ok()?;
     let key = key_of(alloc, &field, &given).ok()?;
     match schema.place(alloc, &key) {
-        Ok(place) => Some(place.datum.as_str() == want),
+        Ok(place) => Some(place.datum() == want),
         Err(PlaceFault::NoRule) => Some(want == "NoRule"),
         Err(PlaceFault::NoMemory) => None,
     }

@@ -77,6 +77,40 @@ fn keys_of_messages(rt: HostRuntime) {
     }
 }
 
+/// Tells that the message's key, which is put into this one, has this text behind that front, or is refused with this fault.
+fn is_filled(alloc: Global, key: &mut Key, octets: &[u8], given: &Given, want: &str) -> bool {
+    let Ok(message) = message(octets) else {
+        return false;
+    };
+    match key_into(key, alloc, &message, given) {
+        Ok(()) => is_behind(alloc, key, want),
+        Err(fault) => is_told(alloc, fault, want),
+    }
+}
+
+/// Tells that the keys of all messages can be put into one, the one after the other, and behind the last, which is refused, once more.
+fn is_filled_again(alloc: Global) -> bool {
+    let Ok(given) = Given::none(alloc) else {
+        return false;
+    };
+    let Ok(mut key) = Key::new(alloc) else {
+        return false;
+    };
+    for _ in 0..2 {
+        for (changes, want) in KEYS {
+            if !is_filled(alloc, &mut key, &changed(changes), &given, want) {
+                return false;
+            }
+        }
+    }
+    true
+}
+
+#[test]
+fn a_key_that_is_filled_again(rt: HostRuntime) {
+    assert!(rt; is_filled_again(rt.alloc()));
+}
+
 /// A value of 166 bytes, which makes the key too long: the message's own pairs have 87 bytes, and a comma follows.
 const LONG: &str =
     "x=7777777777777777777777777777777777777777777777777777777777777777777777777777777777777777777777777777777777777777777777777777777777777777777777777777777777777777777777";

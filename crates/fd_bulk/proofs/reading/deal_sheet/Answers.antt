@@ -35,7 +35,7 @@ returns-in-Ok-clause-known g c =
     λ known opened. c.deal.ensures.again (known_open c.args.names.now.texts.items (names_of c.args.library.now.each) c.args.sheet c.in-Some-Ok.place known opened found)
 
 pub returns-in-Ok-clause-notes : goal.returns-in-Ok-clause-notes
-returns-in-Ok-clause-notes g c = notes_of c.args.names.now.texts.items c.note.new.self.texts.items _ _ _ (subst (λ t. HasNoted t c.args.names.now.texts.items c.note.new.self.texts.items) c.as_str.ensures.value c.in-Ok.ensures) c.deal.result c.deal.ensures.opens
+returns-in-Ok-clause-notes g c = notes_of c.args.names.now.texts.items c.note.new.self.texts.items _ _ _ (subst (λ t. HasNoted t c.args.names.now.texts.items c.note.new.self.texts.items) c.dataset.ensures c.in-Ok.ensures) c.deal.result c.deal.ensures.opens
 
 pub returns-in_default-clause-goes : goal.returns-in_default-clause-goes
 returns-in_default-clause-goes g c = λ rules given p q start all waiting few placed going.

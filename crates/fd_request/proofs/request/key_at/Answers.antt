@@ -1,10 +1,9 @@
 use Rattle.std.proofs.Common.{◌≡◌, ◌+◌, ◌/◌, ◌∷◌, [], ◌++◌, List, ℕ, length, Some, ap, sym, ◌∙◌, arith, length-append}
-use Rattle.std.specs.Prelude.{string_bytes}
 use Rattle.fd_spelling.specs.Names.{is_value}
 use Rattle.fd_key.specs.Pairs.{Pair, text_of, with_pair}
 use Rattle.fd_request.specs.Expansion.{expand}
 use Rattle.fd_request.specs.Keywords.{seen_keyword, seen_keywords}
-use Rattle.fd_request.specs.Values.{seen_values}
+use Rattle.fd_request.specs.Values.{seen_text, seen_values}
 use Rattle.fd_request.proofs.Choices.{next_block, some_block, value_place, front_more, rest_less, front_all, differ_more, pair_behind, absent_more, name_absent, value_in_list}
 use Rattle.fd_request.proofs.Spelling.{spelled_more}
 use Rattle.fd_request.proofs.request.key_at.Goals as goal
@@ -22,8 +21,8 @@ text-requires c =
 
 pub set-requires-clause-value : goal.set-requires-clause-value
 set-requires-clause-value c =
-    ap is_value c.as_str-in-loop-keyword.ensures.value
-    ∙ value_in_list (seen_values c.keyword-item.result.values) (c.loop-keyword.rest / (c.loop-keyword.block / c.count-block.result)) (string_bytes c.in_ok-text.text) c.keyword-item.result.values_are.all c.in_ok-text.ensures
+    ap is_value c.as_str-in-loop-keyword.ensures
+    ∙ value_in_list (seen_values c.keyword-item.result.values) (c.loop-keyword.rest / (c.loop-keyword.block / c.count-block.result)) (seen_text c.in_ok-text.text) c.keyword-item.result.values_are.all c.in_ok-text.ensures
 
 pub nonzero_rem-rest : goal.nonzero_rem-rest
 nonzero_rem-rest c =
@@ -38,11 +37,11 @@ loop-keyword-preserved c =
     let key = c.loop-keyword.key in
     let lt = c.loop-keyword-test.true in
     let is = c.keyword-item.is in
-    let text = string_bytes c.in_ok-text.text in
+    let text = seen_text c.in_ok-text.text in
     let block = next_block ks i k c.loop-keyword.block c.count-block.result lt is c.loop-keyword.invariant.block c.count-block.ensures in
     let some = some_block ks (i + 1) (c.loop-keyword.block / c.count-block.result) block in
     let pushed : c.set.new.self ≡ key ++ ((seen_keyword k).name, text) ∷ [] =
-    c.in_ok-set.ensures.ok ∙ ap (λ (n : List ℕ). with_pair key n c.as_str-in-loop-keyword.result.now) c.as_str.ensures.value ∙ ap (with_pair key (seen_keyword k).name) c.as_str-in-loop-keyword.ensures.value
+    c.in_ok-set.ensures.ok ∙ ap (λ (n : List ℕ). with_pair key n c.as_str-in-loop-keyword.result.now) c.as_str.ensures.value ∙ ap (with_pair key (seen_keyword k).name) c.as_str-in-loop-keyword.ensures
     ∙ pair_behind ks i k key text lt is c.loop-keyword.invariant.differ c.loop-keyword.invariant.absent in
     record {
       size = omega (arith, ap length pushed, length-append key (((seen_keyword k).name, text) ∷ []), c.loop-keyword.invariant.size);

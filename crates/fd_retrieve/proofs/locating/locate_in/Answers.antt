@@ -1,7 +1,7 @@
 use Rattle.std.proofs.Common.{◌∙◌, ◌<◌, length, ap, sym, subst, arith, All}
 use Rattle.std.specs.Prelude.{IfSome}
 use Rattle.fd_finding.specs.Spots.{IsWithin}
-use Rattle.fd_retrieve.specs.Located.{AreWithin, IsFilled}
+use Rattle.fd_retrieve.specs.Located.{AreWithin, IsFilled, members}
 use Rattle.fd_retrieve.proofs.DamageLemmas.{damaged_in}
 use Rattle.fd_retrieve.proofs.DatasetLemmas.{at_get}
 use Rattle.fd_retrieve.proofs.LocatingLemmas.{found_answers, group_at, located_more}
@@ -16,7 +16,7 @@ group_of-requires g c =
     (group_at c.args.opened.now c.args.places.now d.numbers.items d.groups.items c.as_slice.result.now c.args.number c.keys_of-keys.result.now c.requires.dealt c.as_slice.ensures.value c.keys_of-keys.ensures).within
 
 pub fill-requires-clause-long : goal.fill-requires-clause-long
-fill-requires-clause-long g c = ap length c.deref-in-Ok-find_all.ensures.value ∙ (c.in-Ok-find_all.ensures.count ∙ (ap length c.deref.ensures.value ∙ c.in-Ok.ensures.long))
+fill-requires-clause-long g c = ap length c.deref.ensures.value ∙ (c.in-Ok-find_all.ensures.count ∙ (ap length c.as_slice-2.ensures ∙ c.in-Ok.ensures.long))
 
 pub fill-requires-clause-within : goal.fill-requires-clause-within
 fill-requires-clause-within g c =
@@ -33,10 +33,10 @@ returns-in-Ok-find_all-clause-located g c = λ by.
     let lt : c.args.number < length c.args.opened.now = omega (arith, c.requires.number) in
     let at = at_get c.args.opened.now c.args.number o lt c.index-opened-number.is in
     let group = group_at c.args.opened.now c.args.places.now d.numbers.items d.groups.items c.as_slice.result.now c.args.number keys c.requires.dealt c.as_slice.ensures.value c.keys_of-keys.ensures in
-    located_more c.args.opened.now c.args.places.now d.numbers.items c.args.number o c.in-Ok.group.items keys c.in-Ok-find_all.found.items c.args.located.now c.fill.new.located c.requires.dealt.numbers at group c.in-Ok.ensures
-    (found_answers o c.snapshot.result.now c.in-Ok.group.items c.deref.result.now c.in-Ok-find_all.found.items c.snapshot.ensures c.deref.ensures.value c.in-Ok-find_all.ensures.answer)
+    located_more c.args.opened.now c.args.places.now d.numbers.items c.args.number o (members c.in-Ok.group) keys c.in-Ok-find_all.found.items c.args.located.now c.fill.new.located c.requires.dealt.numbers at group c.in-Ok.ensures
+    (found_answers o c.snapshot.result.now (members c.in-Ok.group) c.as_slice-2.result.now c.in-Ok-find_all.found.items c.snapshot.ensures c.as_slice-2.ensures c.in-Ok-find_all.ensures.answer)
     (subst (λ ss. All (λ s. IfSome s (IsWithin ss)) c.in-Ok-find_all.found.items) c.snapshot.ensures c.in-Ok-find_all.ensures.within)
-    (subst (λ xs. IsFilled c.args.number keys xs (length keys) c.args.located.now c.fill.new.located) c.deref-in-Ok-find_all.ensures.value c.fill.ensures)
+    (subst (λ xs. IsFilled c.args.number keys xs (length keys) c.args.located.now c.fill.new.located) c.deref.ensures.value c.fill.ensures)
     by
 
 pub returns-in-Err-Damaged-clause-damaged : goal.returns-in-Err-Damaged-clause-damaged

@@ -1,5 +1,5 @@
 use Rattle.fd_retrieve.proofs.LocatingLemmas.{places_more}
-use Rattle.fd_retrieve.proofs.locating.group_of.Goals as goal
+use Rattle.fd_retrieve.proofs.locating.copies_of.Goals as goal
 
 pub loop-i-preserved : goal.loop-i-preserved
 loop-i-preserved c =

@@ -6,7 +6,7 @@ use Rattle.fd_key.specs.Given.{are_reserved}
 use Rattle.fd_key.specs.Fields.{levels_of}
 use Rattle.fd_key.specs.Keys.{date_of, time_of, param_in, levtype_of, step_of, number_of, stat_of}
 use Rattle.fd_key.proofs.KeyLaws.{added_in_order, own_are_reserved}
-use Rattle.fd_key.proofs.of_message.own_pairs.Goals as goal
+use Rattle.fd_key.proofs.of_message.put_own.Goals as goal
 
 pub returns-clause-pairs : goal.returns-clause-pairs
 returns-clause-pairs c =
@@ -15,7 +15,7 @@ returns-clause-pairs c =
     let b = p.base in
     c.in_ok-put_stat.ensures.pairs
     ∙ ap (λ ps. with_pair_if ps (codes "stat") (stat_of p.interval)) (c.in_ok-put_number_of.ensures.pairs
-    ∙ ap (λ ps. with_pair_if ps (codes "number") (number_of p.ensemble)) c.in_ok-key.ensures.pairs)
+    ∙ ap (λ ps. with_pair_if ps (codes "number") (number_of p.ensemble)) c.in_ok-put_base.ensures.pairs)
     ∙ added_in_order (decimal i.centre) (date_of i) (time_of i) (decimal i.data_type) (param_in c.args.discipline b) (levtype_of b) (levels_of b) (step_of b) (number_of p.ensemble) (stat_of p.interval)
 
 pub returns-clause-own : goal.returns-clause-own
