@@ -1,4 +1,4 @@
-ghost use Rattle.std.specs.{Prelude.{◌≡◌, ◌<◌, ◌≤◌, ◌+◌, ◌-◌, ◌^◌, ◌++◌, ◌∷◌, [], length, true, IsTrue, IfOk, OnOk, OnErr, Some, None, slice_get, string_bytes}, Option.{option_copied}};
+ghost use Rattle.std.specs.{Prelude.{◌≡◌, ◌<◌, ◌≤◌, ◌+◌, ◌-◌, ◌^◌, ◌++◌, ◌∷◌, [], length, nat_le, true, IsTrue, IfOk, OnOk, OnErr, Some, None, slice_get, string_bytes}, Option.{option_copied}};
 ghost use Rattle.fd_spelling.specs.Names.{is_name, is_value};
 ghost use Rattle.fd_key.specs.{Pairs.{with_pair, text_of, key_text, pair_text}, Given.{are_reserved}, Values.{value_text}};
 
@@ -187,6 +187,22 @@ impl Key {
             push_pair(&mut out, name, text)?;
         }
         Ok(out)
+    }
+
+    /// Tells that this text has at most so many bytes.
+    pub fn text_fits(&self, most: u32) -> bool
+        ensures { result ≡ nat_le (length (key_text self.now)) most }
+    {
+        let mut room = most as usize + 1;
+        for i in 0..self.len() {
+            let (name, text) = self.pair(i);
+            let both = name.len().saturating_add(text.len());
+            if room < 2 || room - 2 < both {
+                return false;
+            }
+            room -= both + 2;
+        }
+        true
     }
 
     /// The length of that text.
