@@ -1,6 +1,6 @@
 -- A spelled value is spelled as itself.
-use Rattle.std.proofs.Common.{◌≡◌, ◌<◌, ◌≤◌, ◌^◌, ◌∙◌, ℕ, Bool, true, false, cond, List, [], ◌∷◌, ◌++◌, length, eqb, ltb, leb, Option, Some, None, refl, sym, ap, arith}
-use Rattle.std.specs.Prelude.{◌&&◌, option_map, codes, Result, Ok, Err, IfOk, String, string_bytes}
+use Rattle.std.proofs.Common.{◌≡◌, ◌<◌, ◌≤◌, ◌^◌, ◌∙◌, ℕ, Bool, true, false, cond, List, [], ◌∷◌, ◌++◌, length, eqb, ltb, leb, Option, Some, None, refl, sym, subst, ap, arith}
+use Rattle.std.specs.Prelude.{◌&&◌, if◌then◌else◌, option_map, codes, Result, Ok, Err, IfOk, String, string_bytes}
 use Rattle.std.specs.declared.alloc.Global.{Global}
 use Rattle.fd_spelling.specs.declared.fault.ValueFault.{ValueFault}
 use Rattle.std.specs.Char.{to_ascii_lowercase}
@@ -138,3 +138,11 @@ spelled_again name text value h =
 pub if_spelled : (name text : List ℕ) (result : Result (String Global) ValueFault) → GivesText result (canonical name text) → IfOk result (λ s. canonical name (string_bytes s) ≡ Some (string_bytes s))
 if_spelled name text (Ok s) h = (spelled_again name text (string_bytes s) h).again
 if_spelled name text (Err e) h = tt
+
+-- what is spelled of a name and a text that are in lower case is spelled of them
+pub spelled_low : (name text : List ℕ) (result : Result (String Global) ValueFault) → is_value name ≡ true → is_value text ≡ true
+    → GivesText result (if is_name name && is_text_of (meaning_of name) text then spelling (meaning_of name) text else None) → GivesText result (canonical name text)
+unfolding canonical
+spelled_low name text result n t h =
+    subst (λ (x : List ℕ). GivesText result (if is_name x && is_text_of (meaning_of x) (lower text) then spelling (meaning_of x) (lower text) else None)) (sym (value_stays name n))
+    (subst (λ (y : List ℕ). GivesText result (if is_name name && is_text_of (meaning_of name) y then spelling (meaning_of name) y else None)) (sym (value_stays text t)) h)

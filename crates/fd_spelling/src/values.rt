@@ -1,5 +1,5 @@
-ghost use Rattle.std.specs.{Prelude.{◌≡◌, ◌≤◌, ◌++◌, IfOk, OnOk, IsTrue, IfSome, Some, length, string_bytes, option_map}, Fmt.{decimal}};
-ghost use Rattle.fd_spelling.specs.{Numerals.{number_up_to, cut}, Names.{lower, is_name, is_value}, Canonical.{GivesText, GivesPair, canonical, pair_of, param_text, param_of, param_numbers, spelling, is_text_of}};
+ghost use Rattle.std.specs.{Prelude.{◌≡◌, ◌≤◌, ◌++◌, ◌&&◌, IfOk, OnOk, IsTrue, IfSome, Some, None, length, string_bytes, option_map, if◌then◌else◌}, Fmt.{decimal}};
+ghost use Rattle.fd_spelling.specs.{Numerals.{number_up_to, cut}, Names.{lower, is_name, is_value, meaning_of}, Canonical.{GivesText, GivesPair, canonical, pair_of, param_text, param_of, param_numbers, spelling, is_text_of}};
 
 use crate::civil::{date_spelling, time_spelling};
 use crate::fault::ValueFault;
@@ -123,6 +123,19 @@ fn is_text_of(meaning: Meaning, text: &[u8]) -> bool
     }
 }
 
+/// The one spelling of a text in lower case as a value of a name in lower case.
+fn spelling_of(alloc: Global, name: &str, text: &str) -> Result<String, ValueFault>
+    ensures text { GivesText result (if is_name name.now && is_text_of (meaning_of name.now) text.now then spelling (meaning_of name.now) text.now else None) }
+    ensures name { OnOk result (IsTrue (is_name name.now)) }
+    ensures value { IfOk result (λ s. IsTrue (is_value (string_bytes s))) }
+{
+    let meaning = meaning_of(name);
+    if !is_name(name.as_bytes()) || !is_text_of(meaning, text.as_bytes()) {
+        return Err(ValueFault::BadValue);
+    }
+    spelling(alloc, meaning, text)
+}
+
 /// The one spelling of the text as a value of the name; upper-case letters are read as lower-case ones in both.
 /// `BadValue` exactly where the text is no value of the name. A spelled value is spelled as itself.
 #[tactic(auto, unfolding(crate::specs::Canonical::canonical))]
@@ -132,13 +145,12 @@ pub fn canonical(alloc: Global, name: &str, text: &str) -> Result<String, ValueF
     ensures name { OnOk result (IsTrue (is_name (lower name.now))) }
     ensures value { IfOk result (λ s. IsTrue (is_value (string_bytes s))) }
 {
+    if is_value(name.as_bytes()) && is_value(text.as_bytes()) {
+        return spelling_of(alloc, name, text);
+    }
     let name = lower(alloc, name)?;
     let text = lower(alloc, text)?;
-    let meaning = meaning_of(name.as_str());
-    if !is_name(name.as_bytes()) || !is_text_of(meaning, text.as_bytes()) {
-        return Err(ValueFault::BadValue);
-    }
-    spelling(alloc, meaning, text.as_str())
+    spelling_of(alloc, name.as_str(), text.as_str())
 }
 
 /// A word `name=value` of the command line: the name in lower case, and the value in its one spelling. `BadValue` exactly
