@@ -1,4 +1,4 @@
-ghost use Rattle.std.specs.Prelude.{◌≡◌, ◌<◌, ◌≤◌, ◌+◌, [], Some, Ok, Err, IfOk, IfErr, true, length, slice_get};
+ghost use Rattle.std.specs.Prelude.{◌≡◌, ◌<◌, ◌≤◌, ◌+◌, [], Some, Ok, Err, IfOk, IfErr, OnOk, true, length, slice_get};
 ghost use Rattle.fd_request.specs.{Expansion.{expand}, Grammar.{wrong, TooLong, keywords_of}, Limits.{request_of, within_size}, Keywords.{seen_keywords, differ_after}, Reading.{GivesKeywords}, Requests.{IsPlace, IsFaultOf}, Spelled.{IsSpelled}};
 
 use crate::fault::{RequestFault, RequestKind};
@@ -117,20 +117,38 @@ impl Request {
         ensures key { IfOk result (λ k. slice_get (expand self.now) i ≡ Some k) }
         ensures spelled { IfOk result IsSpelled }
     {
-        key_at(alloc, &self.keywords, self.count, i)
+        let mut key = Key::new(alloc)?;
+        self.key_into(&mut key, alloc, i)?;
+        Ok(key)
+    }
+
+    /// The same, which is put into a key in place of its pairs, so that the room for these is used again. After `NoMemory` the
+    /// key has any pairs.
+    pub fn key_into(&self, key: &mut Key, alloc: Global, i: u32) -> Result<(), NoMemory>
+        requires { i < length (expand self.now) }
+        ensures key { OnOk result (slice_get (expand self.now) i ≡ Some key.new) }
+        ensures spelled { OnOk result (IsSpelled key.new) }
+    {
+        put_key(key, alloc, &self.keywords, self.count, i)
     }
 }
 
-/// The key with a number, by division.
-fn key_at(alloc: Global, keywords: &[Keyword], count: u32, number: u32) -> Result<Key, NoMemory>
+/// Puts the key with a number in place of the pairs of this one, by division.
+fn put_key(
+    key: &mut Key,
+    alloc: Global,
+    keywords: &[Keyword],
+    count: u32,
+    number: u32,
+) -> Result<(), NoMemory>
     requires count { count ≡ length (expand (seen_keywords keywords.now)) }
     requires differ { differ_after [] (seen_keywords keywords.now) ≡ true }
     requires few { length keywords.now ≤ 65537 }
     requires within { number < count }
-    ensures key { IfOk result (λ k. slice_get (expand (seen_keywords keywords.now)) number ≡ Some k) }
-    ensures spelled { IfOk result IsSpelled }
+    ensures key { OnOk result (slice_get (expand (seen_keywords keywords.now)) number ≡ Some key.new) }
+    ensures spelled { OnOk result (IsSpelled key.new) }
 {
-    let mut key = Key::new(alloc)?;
+    key.clear();
     let mut block = u64::from(count);
     let mut rest = u64::from(number);
     for keyword in keywords {
@@ -139,5 +157,5 @@ fn key_at(alloc: Global, keywords: &[Keyword], count: u32, number: u32) -> Resul
         key.set(alloc, keyword.name.as_str(), text.as_str())?;
         rest %= block;
     }
-    Ok(key)
+    Ok(())
 }

@@ -6,7 +6,7 @@ use Rattle.fd_request.specs.Keywords.{seen_keyword, seen_keywords}
 use Rattle.fd_request.specs.Values.{seen_text, seen_values}
 use Rattle.fd_request.proofs.Choices.{next_block, some_block, value_place, front_more, rest_less, front_all, differ_more, pair_behind, absent_more, name_absent, value_in_list}
 use Rattle.fd_request.proofs.Spelling.{spelled_more}
-use Rattle.fd_request.proofs.request.key_at.Goals as goal
+use Rattle.fd_request.proofs.request.put_key.Goals as goal
 
 pub nonzero_div-rest : goal.nonzero_div-rest
 nonzero_div-rest c =

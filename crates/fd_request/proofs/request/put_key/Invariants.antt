@@ -5,7 +5,7 @@ use Rattle.fd_request.specs.Expansion.{expand}
 use Rattle.fd_request.specs.Keywords.{seen_keywords}
 use Rattle.fd_request.specs.Spelled.{IsSpelled}
 use Rattle.fd_request.proofs.Choices.{left, Absent, Differ}
-use Rattle.fd_request.proofs.request.key_at.Given as goal
+use Rattle.fd_request.proofs.request.put_key.Given as goal
 
 abbrev pub invariant-loop-keyword : goal.invariant-loop-keyword
 invariant-loop-keyword l = record {
