@@ -1,5 +1,5 @@
 -- What is found for the keys of a request, by threads that each look for some of them.
-use Rattle.std.specs.Prelude.{◌≡◌, ◌<◌, ℕ, List, Option, Some, None, Result, length, slice_get, slice_index_or, string_bytes, IfOk, IfErr}
+use Rattle.std.specs.Prelude.{◌≡◌, ◌<◌, ◌+◌, ℕ, List, Option, Some, None, Result, length, slice_get, slice_index_or, string_bytes, IfOk, IfErr}
 use Rattle.fd_key.specs.Pairs.{Pair, key_text}
 use Rattle.fd_schema.specs.declared.place.Place.{Place}
 use Rattle.fd_schema.specs.Reading.{seen_place}
@@ -21,3 +21,7 @@ pub record IsSought (rules : List Rule) (ks : List (List Pair)) (number : ℕ) (
 pub record AreSought (rules : List Rule) (ks : List (List Pair)) (seats : List (Result Place Unplaced)) : Type 0 where
   pub long : length seats ≡ length ks
   pub each : (i : ℕ) (d : Result Place Unplaced) → i < length ks → IsSought rules ks i (slice_index_or seats i d)
+
+-- these were found for a share of the keys, from this number on
+abbrev pub AreSoughtFrom : List Rule → List (List Pair) → ℕ → List (Result Place Unplaced) → List (Result Place Unplaced) → Type 0
+AreSoughtFrom rules ks start before after = (i : ℕ) (d : Result Place Unplaced) → i < length before → IsSought rules ks (start + i) (slice_index_or after i d)

@@ -1,15 +1,16 @@
 // The keys that a request asks for, and where they belong.
-ghost use Rattle.std.specs.Prelude.{◌≡◌, ◌⊎◌, ◌≤◌, ◌<◌, [], List, ℕ, Some, Ok, length, map, slice_get, ◌^◌, IfOk, IfErr, IfSome};
+ghost use Rattle.std.specs.Prelude.{◌≡◌, ◌⊎◌, ◌≤◌, ◌<◌, ◌+◌, [], List, ℕ, Some, Ok, length, map, slice_get, ◌^◌, IfOk, IfErr, IfSome};
 ghost use Rattle.fd_key.specs.Pairs.{Pair};
 ghost use Rattle.fd_schema.specs.{Reading.{seen_place}, Rules.{place_from}};
 ghost use Rattle.fd_request.specs.Expansion.{expand};
 ghost use Rattle.fd_outcome.specs.Asking.{placed, request_in};
 ghost use Rattle.fd_answering.specs.Finding.{asked_of_all};
 ghost use Rattle.fd_telling.specs.Stops.{HasReadCause, LacksRule, OnRequest};
-ghost use Rattle.fd_retrieve.specs.Seats.{AreSought, IsSought, IsUnplaced};
+ghost use Rattle.fd_retrieve.specs.Seats.{AreSought, AreSoughtFrom, IsSought, IsUnplaced};
 
 use fd_bytes::NoMemory;
 use fd_io::Source;
+use fd_key::Key;
 use fd_outcome::{Unread, read_front};
 use fd_request::{Request, RequestFault};
 use fd_schema::{Place, PlaceFault, Schema};
@@ -110,7 +111,7 @@ fn seats_of<R: Threads + Sync>(
     Ok(seats)
 }
 
-/// Looks for the place of each key of the request, by so many threads.
+/// Looks for the place of each key of the request, by so many threads that each take a share of the keys.
 fn seek_all<R: Threads + Sync>(
     rt: &R,
     alloc: Global,
@@ -124,26 +125,50 @@ fn seek_all<R: Threads + Sync>(
     requires few { length (expand request.now) < 2 ^ 32 }
     ensures { AreSought schema.now (expand request.now) seats.new }
 {
-    thread::for_each_mut(
+    let share = seats.len().div_ceil(threads as usize).max(1);
+    thread::for_each_chunk_mut(
         rt,
         seats,
-        threads as usize,
-        &|i: usize, seat: &mut Seat|
-            requires { (i < length (expand request.now)) × (length (expand request.now) < 2 ^ 32) }
-            ensures { IsSought schema.entry.now (expand request.entry.now) i seat.new }
-        { *seat = place_of(alloc, schema, request, i as u32) },
+        share,
+        &|start: usize, part: &mut [Seat]|
+            requires { (start + length part.old ≤ length (expand request.now)) × (length (expand request.now) < 2 ^ 32) }
+            ensures { AreSoughtFrom schema.entry.now (expand request.entry.now) start part.old part.new }
+        { seek_share(alloc, schema, request, start, part) },
     );
 }
 
-/// The place of the key with this number.
-fn place_of(alloc: Global, schema: &Schema, request: &Request, number: u32) -> Seat
+/// Looks for the places of a share of the keys, which starts at this number. They are put into one key, the one after the other, so
+/// that memory for them is asked for once.
+fn seek_share(alloc: Global, schema: &Schema, request: &Request, start: usize, seats: &mut [Seat])
+    requires within { start + length seats.old ≤ length (expand request.now) }
+    requires few { length (expand request.now) < 2 ^ 32 }
+    ensures { AreSoughtFrom schema.now (expand request.now) start seats.old seats.new }
+{
+    let mut room = Key::new(alloc).ok();
+    for i in 0..seats.len() {
+        seats[i] = place_of(&mut room, alloc, schema, request, (start + i) as u32);
+    }
+}
+
+/// The place of the key with this number, which is put into this one, if there is room for it.
+fn place_of(
+    room: &mut Option<Key>,
+    alloc: Global,
+    schema: &Schema,
+    request: &Request,
+    number: u32,
+) -> Seat
     requires { number < length (expand request.now) }
     ensures { IsSought schema.now (expand request.now) number result }
 {
-    let Ok(key) = request.key(alloc, number) else {
+    let Some(key) = room else {
         return Err(Unplaced::NoMemory);
     };
-    match schema.place(alloc, &key) {
+    match request.key_into(key, alloc, number) {
+        Ok(()) => {}
+        Err(_) => return Err(Unplaced::NoMemory),
+    }
+    match schema.place(alloc, key) {
         Ok(place) => Ok(place),
         Err(PlaceFault::NoRule) => match key.text(alloc) {
             Ok(text) => Err(Unplaced::NoRule(text)),
