@@ -69,8 +69,9 @@ fn lay_under<F>(
     Ok(())
 }
 
-/// Puts the place of the key with this number and its places under the layers behind the others.
+/// Puts the place of the key with this number, which is put into this one, and its places under the layers behind the others.
 fn lay_key<F>(
+    key: &mut Key,
     alloc: Global,
     schema: &Schema,
     request: &Request,
@@ -83,19 +84,20 @@ fn lay_key<F>(
     ensures laid { OnOk result ((key : List Pair) → slice_get (expand request.now) number ≡ Some key → (a : Laid) × (laid_key schema.now layers.now key (place_from 0 schema.now key) ≡ Ok a) × (map seen_place places.new.items ≡ map seen_place places.old.items ++ places_under a)) }
     ensures refused { IfErr result (λ e. (key : List Pair) → slice_get (expand request.now) number ≡ Some key → IsOfPlaces e (IsRefused (laid_key schema.now layers.now key (place_from 0 schema.now key)))) }
 {
-    let Ok(key) = request.key(alloc, number) else {
-        return Err(Stop::NoMemory);
-    };
-    let place = match schema.place(alloc, &key) {
+    match request.key_into(key, alloc, number) {
+        Ok(()) => {}
+        Err(_) => return Err(Stop::NoMemory),
+    }
+    let place = match schema.place(alloc, key) {
         Ok(place) => place,
-        Err(PlaceFault::NoRule) => return Err(no_rule(alloc, &key)),
+        Err(PlaceFault::NoRule) => return Err(no_rule(alloc, key)),
         Err(PlaceFault::NoMemory) => return Err(Stop::NoMemory),
     };
     match places.push(place) {
         Ok(()) => {}
         Err(_) => return Err(Stop::NoMemory),
     }
-    match lay_under(alloc, schema, &key, layers, places) {
+    match lay_under(alloc, schema, key, layers, places) {
         Ok(()) => Ok(()),
         Err(stop) => Err(stop),
     }
@@ -112,7 +114,8 @@ fn no_rule<F>(alloc: Global, key: &Key) -> Stop<F>
 }
 
 /// The places of a request's keys, in its order: of each key its own, and then those under the layers, the nearest first. The
-/// first key that lacks one is refused.
+/// first key that lacks one is refused. The keys are put into one, the one after the other, so that memory for them is asked
+/// for once.
 pub(crate) fn places_over<F>(
     alloc: Global,
     schema: &Schema,
@@ -125,8 +128,12 @@ pub(crate) fn places_over<F>(
     ensures refused { IfErr result (λ e. IsOfPlaces e (IsRefused (all_laid schema.now layers.now (expand request.now)))) }
 {
     let mut places = Vec::new(alloc);
+    let mut key = match Key::new(alloc) {
+        Ok(key) => key,
+        Err(_) => return Err(Stop::NoMemory),
+    };
     for i in 0..request.count() {
-        match lay_key(alloc, schema, request, i, layers, &mut places) {
+        match lay_key(&mut key, alloc, schema, request, i, layers, &mut places) {
             Ok(()) => {}
             Err(stop) => return Err(stop),
         }

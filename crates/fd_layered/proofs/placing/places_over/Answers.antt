@@ -19,21 +19,21 @@ loop-i-preserved g c =
     let inv = c.loop-i.invariant in
     let within : c.loop-i.i < length ks = omega (arith, c.count-i-end.ensures, c.loop-i-test.true) in
     let key = there_is ks c.loop-i.i within in
-    let one = c.in-Ok.ensures.laid key.0 key.1 in (
+    let one = c.in-Ok-lay_key.ensures.laid key.0 key.1 in (
       inv.0 ++ one.0 ∷ [],
       length-append inv.0 (one.0 ∷ []) ∙ (let l = inv.1 in omega (arith, l)),
       laid_more c.args.schema.now c.args.layers.now ks inv.0 key.0 one.0 inv.2 (subst (λ k. slice_get ks k ≡ Some key.0) (sym inv.1) key.1) one.1,
       one.2 ∙ ap (λ l. l ++ places_under one.0) inv.3 ∙ sym (places_more inv.0 one.0),
     )
 
-pub returns-in-Err-clause-refused : goal.returns-in-Err-clause-refused
-returns-in-Err-clause-refused g c =
+pub returns-in-Err-lay_key-clause-refused : goal.returns-in-Err-lay_key-clause-refused
+returns-in-Err-lay_key-clause-refused g c =
     let ks = expand c.args.request.now in
     let inv = c.loop-i.invariant in
     let within : c.loop-i.i < length ks = omega (arith, c.count-i-end.ensures, c.loop-i-test.true) in
     let key = there_is ks c.loop-i.i within in
-    stopping.places_more c.in-Err.stop (IsRefused (laid_key c.args.schema.now c.args.layers.now key.0 (place_from 0 c.args.schema.now key.0))) (IsRefused (all_laid c.args.schema.now c.args.layers.now ks))
-    (λ cause e. laid_stop c.args.schema.now c.args.layers.now ks inv.0 key.0 cause inv.2 (subst (λ k. slice_get ks k ≡ Some key.0) (sym inv.1) key.1) e) (c.in-Err.ensures.refused key.0 key.1)
+    stopping.places_more c.in-Err-lay_key.stop (IsRefused (laid_key c.args.schema.now c.args.layers.now key.0 (place_from 0 c.args.schema.now key.0))) (IsRefused (all_laid c.args.schema.now c.args.layers.now ks))
+    (λ cause e. laid_stop c.args.schema.now c.args.layers.now ks inv.0 key.0 cause inv.2 (subst (λ k. slice_get ks k ≡ Some key.0) (sym inv.1) key.1) e) (c.in-Err-lay_key.ensures.refused key.0 key.1)
 
 pub returns-clause-chains : goal.returns-clause-chains
 returns-clause-chains g c =
