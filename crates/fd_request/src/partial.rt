@@ -32,10 +32,8 @@ impl Partial {
     pub fn read(alloc: Global, text: &[u8]) -> Result<Partial, RequestFault>
         ensures { GivesKeywords result (partial_of text.now) }
     {
-        match keywords_within(alloc, b"list", text) {
-            Ok(keywords) => Ok(Partial { keywords }),
-            Err(fault) => Err(fault),
-        }
+        let keywords = keywords_within(alloc, b"list", text)?;
+        Ok(Partial { keywords })
     }
 
     /// Tells that a key is one of those asked for: it has each name, with one of the values that are listed for the name. A

@@ -93,10 +93,7 @@ impl Request {
     pub fn read(alloc: Global, text: &[u8]) -> Result<Request, RequestFault>
         ensures { GivesKeywords result (request_of text.now) }
     {
-        let keywords = match keywords_within(alloc, b"retrieve", text) {
-            Ok(keywords) => keywords,
-            Err(fault) => return Err(fault),
-        };
+        let keywords = keywords_within(alloc, b"retrieve", text)?;
         match count_of(alloc, text.len(), &keywords) {
             Ok(count) => Ok(Request { keywords, count }),
             Err(refusal) => Err(refused(text.len(), refusal)),
