@@ -14,7 +14,7 @@ use Rattle.fd_streams.specs.declared.picking.Last.{Last}
 use Rattle.fd_streams.specs.declared.feeding.Stop.{Stop}
 use Rattle.fd_outcome.specs.declared.refusal.Refusal.{Refusal}
 use Rattle.fd_outcome.specs.declared.refusal.Refusal.TheVariants as refusals
-use Rattle.fd_streams.specs.Found.{GoesOn, IsLast, Stopped, StoppedAs, Took, IsConsidered}
+use Rattle.fd_streams.specs.Found.{GoesOn, IsFilled, IsLast, Stopped, StoppedAs, Took, IsConsidered}
 use Rattle.fd_outcome.specs.Inputs.{refused}
 use Rattle.fd_outcome.specs.Picking.{found_after, unless, keyless, this_or, last_wanted, has_wanted, is_wanted}
 
@@ -80,8 +80,8 @@ waits wanted p q old e goes =
     record { measure = t.1; goes_on = record { messages = []; splits = t.0; keyed = refl; finds = λ before last. last } }
 
 -- what a message's key is, where no pairs are given
-pub keyed : (m : Sections) (given : List Pair) (r k : Result (List Pair) KeyFault) → given ≡ [] → r ≡ k → key_of m given ≡ r → key_of m [] ≡ k
-keyed m given r k e f is = ap (key_of m) (sym e) ∙ is ∙ f
+pub keyed : (m : Sections) (given pairs : List Pair) (r k : Result (Unit {0}) KeyFault) → given ≡ [] → r ≡ k → IsFilled pairs r (key_of m given) → IsFilled pairs k (key_of m [])
+keyed m given pairs r k e f is = subst (λ (x : Result (Unit {0}) KeyFault). IsFilled pairs x (key_of m [])) f (subst (λ (g : List Pair). IsFilled pairs r (key_of m g)) e is)
 
 -- the next message has no key
 pub keyless_stops : (wanted : List Pair) (past : Bool) (p : Progress) (m : Sections) (fault : KeyFault) (n : ℕ) → answer p (first p.rest) ≡ Ok (Some m) → key_of m [] ≡ Err fault → n ≡ p.given → (before : Option Sections) (more : List ℕ) → found_after wanted past p.given before (stream (p.rest ++ more)) ≡ Err (refusals.Key (n + 1) fault)

@@ -5,6 +5,7 @@ use Rattle.fd_sections.specs.Message.{Sections, message_octets}
 use Rattle.fd_sections.specs.Progress.{Progress}
 use Rattle.fd_sections.specs.Stream.{stream}
 use Rattle.fd_sections.specs.Joining.{IsWaiting, SplitsOn}
+use Rattle.fd_key.specs.declared.fault.KeyFault.{KeyFault}
 use Rattle.fd_key.specs.Pairs.{Pair}
 use Rattle.fd_outcome.specs.declared.refusal.Refusal.{Refusal}
 use Rattle.fd_streams.specs.declared.feeding.Stop.{Stop}
@@ -73,6 +74,11 @@ pub record Took (wanted : List Pair) (some : Bool) (p q : Progress) (old new : L
 pub record TookAll (wanted : List Pair) (p q : Progress) (old new : Last) : Type 0 where
   pub waits : IsWaiting q
   pub goes_on : GoesOn wanted p q old new
+
+-- a key has the pairs that a message has, or that message has none for this reason
+abbrev pub IsFilled : List Pair → Result (Unit {0}) KeyFault → Result (List Pair) KeyFault → Type 0
+IsFilled pairs (Ok done) read = read ≡ Ok pairs
+IsFilled pairs (Err fault) read = read ≡ Err fault
 
 -- the octets are kept where the test passed
 abbrev pub IsConsidered : Bool → List ℕ → Last → Last → Type 0

@@ -2,13 +2,13 @@
 ghost use Rattle.std.specs.Prelude.{◌≡◌, [], IfOk, IfSome, IfErr, OnOk, Some, false};
 ghost use Rattle.fd_key.specs.{Pairs.{has_all}, Keys.{key_of}};
 ghost use Rattle.fd_outcome.specs.Picking.{found};
-ghost use Rattle.fd_streams.specs.Found.{Answers, HasInputCause, Stopped, Took, TookAll, is_fault};
+ghost use Rattle.fd_streams.specs.Found.{Answers, HasInputCause, IsFilled, Stopped, Took, TookAll, is_fault};
 ghost use Rattle.fd_sections.specs.Parts.{sections_of};
 
 use crate::feeding::{Stop, feed_piece};
 use fd_bytes::NoMemory;
 use fd_io::Source;
-use fd_key::{Given, Key, KeyFault, key_of};
+use fd_key::{Given, Key, KeyFault, key_into};
 use fd_outcome::{Refusal, new_buffer, refusal_of};
 use fd_sections::{Message, Splitter};
 use fd_words::Wanted;
@@ -37,16 +37,17 @@ impl Last {
     }
 }
 
-/// The key of a message, or why it has none. Want of memory stands apart.
-fn key_or_refusal(
+/// Puts the key of a message into this one, or tells why the message has none. Want of memory stands apart.
+fn fill_key(
+    key: &mut Key,
     alloc: Global,
     message: &Message<'_>,
     given: &Given,
-) -> Result<Result<Key, KeyFault>, NoMemory>
-    ensures { IfOk result (λ r. key_of (sections_of message.now) given.now ≡ r) }
+) -> Result<Result<(), KeyFault>, NoMemory>
+    ensures { IfOk result (λ r. IsFilled key.new r (key_of (sections_of message.now) given.now)) }
 {
-    match key_of(alloc, message, given) {
-        Ok(key) => Ok(Ok(key)),
+    match key_into(key, alloc, message, given) {
+        Ok(()) => Ok(Ok(())),
         Err(KeyFault::NoMemory) => Err(NoMemory),
         Err(KeyFault::Product(number)) => Ok(Err(KeyFault::Product(number))),
         Err(KeyFault::ProductLength { said }) => Ok(Err(KeyFault::ProductLength { said })),
@@ -55,11 +56,12 @@ fn key_or_refusal(
     }
 }
 
-/// Goes over one message, if one is whole, and tells whether one was.
+/// Goes over one message, if one is whole, and tells whether one was. Its key is put into this one.
 fn take_message<X>(
     alloc: Global,
     wanted: &Wanted,
     given: &Given,
+    key: &mut Key,
     splitter: &mut Splitter,
     last: &mut Last,
 ) -> Result<bool, Stop<X>>
@@ -71,9 +73,9 @@ fn take_message<X>(
     let number = splitter.given() + 1;
     match splitter.next() {
         Ok(None) => Ok(false),
-        Ok(Some(message)) => match key_or_refusal(alloc, &message, given)? {
-            Ok(key) => {
-                last.consider(wanted, &key, message.bytes())?;
+        Ok(Some(message)) => match fill_key(key, alloc, &message, given)? {
+            Ok(()) => {
+                last.consider(wanted, key, message.bytes())?;
                 Ok(true)
             }
             Err(fault) => Err(Stop::Refused(Refusal::Key { number, fault })),
@@ -82,11 +84,12 @@ fn take_message<X>(
     }
 }
 
-/// Goes over the messages that are whole.
+/// Goes over the messages that are whole. Their keys are put into this one, the one after the other.
 fn take_messages<X>(
     alloc: Global,
     wanted: &Wanted,
     given: &Given,
+    key: &mut Key,
     splitter: &mut Splitter,
     last: &mut Last,
 ) -> Result<(), Stop<X>>
@@ -95,11 +98,12 @@ fn take_messages<X>(
     ensures err { IfErr result (λ e. Stopped wanted.now e splitter.old last.old) }
     ensures no_fault { IfErr result (λ e. is_fault e ≡ false) }
 {
-    while take_message(alloc, wanted, given, splitter, last)? {}
+    while take_message(alloc, wanted, given, key, splitter, last)? {}
     Ok(())
 }
 
-/// The last message of the input whose key has all the pairs, where the input is read to its end.
+/// The last message of the input whose key has all the pairs, where the input is read to its end. The keys of the messages are put into
+/// one, so that memory for them is asked for once.
 pub fn last_wanted<X: Drop, I: Source<X>>(
     alloc: Global,
     wanted: &Wanted,
@@ -116,6 +120,7 @@ pub fn last_wanted<X: Drop, I: Source<X>>(
         found: false,
         octets: Vec::new(alloc),
     };
+    let mut key = Key::new(alloc)?;
     let mut buffer = new_buffer(alloc)?;
     for _ in 0..u64::MAX {
         match feed_piece(input, &mut buffer, &mut splitter) {
@@ -126,7 +131,7 @@ pub fn last_wanted<X: Drop, I: Source<X>>(
             },
             Err(stop) => return Err(stop),
         }
-        match take_messages(alloc, wanted, given, &mut splitter, &mut last) {
+        match take_messages(alloc, wanted, given, &mut key, &mut splitter, &mut last) {
             Ok(()) => {}
             Err(stop) => return Err(stop),
         }

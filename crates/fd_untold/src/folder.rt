@@ -1,6 +1,7 @@
 // One dataset.
 ghost use Rattle.std.specs.Prelude.{◌≡◌, ◌≤◌, None, true, false, string_bytes};
 ghost use Rattle.fd_disk.specs.{Folders.{with_table}, Renewals.{StandsStill}};
+ghost use Rattle.fd_untold.specs.Told.{disk_unsynced, folder_faults, folder_last_writer, folder_name, folder_out, folder_unsynced};
 
 use crate::fault::{copied, counted, told};
 use crate::shelf::path_of;
@@ -94,15 +95,15 @@ impl<P: Place> Folder<SystemFault> for UntoldFolder<P> {
 
     /// What a failed sync may have lost of the table is lost for whoever it is handed out to again.
     fn give_table(&mut self, table: UntoldDisk<P::Device>)
-        requires out { self.old.table_out ≡ true }
-        requires table_name { string_bytes table.name ≡ string_bytes self.old.name }
+        requires out { folder_out self.old ≡ true }
+        requires table_name { string_bytes table.name ≡ folder_name self.old }
         ensures has { None ≡ with_table None None }
-        ensures back { self.new.table_out ≡ false }
-        ensures last_writer { self.new.last_writer ≡ self.old.last_writer }
-        ensures name { string_bytes self.new.name ≡ string_bytes self.old.name }
+        ensures back { folder_out self.new ≡ false }
+        ensures last_writer { folder_last_writer self.new ≡ folder_last_writer self.old }
+        ensures name { folder_name self.new ≡ folder_name self.old }
         ensures time { StandsStill 0 0 (λ t left. ⊥) (λ t left. ⊥) }
-        ensures faults { self.old.faults ≤ self.new.faults }
-        ensures unsynced { self.new.unsynced ≡ table.file.unsynced }
+        ensures faults { folder_faults self.old ≤ folder_faults self.new }
+        ensures unsynced { folder_unsynced self.new ≡ disk_unsynced table }
     {
         self.take_back(table.file.unsynced);
     }
