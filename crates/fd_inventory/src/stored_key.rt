@@ -148,7 +148,7 @@ fn ending(
     if !add_text(alloc, &mut pairs, datum)? {
         return Ok(None);
     }
-    if pairs.text(alloc)?.len() > 255 {
+    if !pairs.text_fits(255) {
         return Ok(None);
     }
     Ok(Some(StoredKey {
