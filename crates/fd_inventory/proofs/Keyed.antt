@@ -25,7 +25,7 @@ use Rattle.fd_inventory.specs.Keys.{IsFirstOf, IsLead, ending, leading, texts}
 use Rattle.fd_inventory.specs.declared.stored_key.Lead.{Lead}
 use Rattle.fd_inventory.proofs.Copying.{alone_push}
 
-some_same : {A : Type 0} (x y : A) → (let o : Option A = Some x in o ≡ Some y) → x ≡ y
+pub some_same : {A : Type 0} (x y : A) → (let o : Option A = Some x in o ≡ Some y) → x ≡ y
 some_same x y e = cc e
 
 -- ---- pairs that a text is

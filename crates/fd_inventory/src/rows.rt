@@ -1,8 +1,8 @@
 // The rows of a dataset: for each of its keys that are asked for, where its newest field stands.
-ghost use Rattle.std.specs.Prelude.{◌≡◌, ◌≤◌, ◌+◌, ◌++◌, ◌∷◌, true, List, Some, IfOk, IfErr, IfSome, OnOk, length};
+ghost use Rattle.std.specs.{Prelude.{◌≡◌, ◌≤◌, ◌+◌, ◌++◌, ◌∷◌, true, List, Some, IfOk, IfErr, IfSome, OnOk, length}, List.Sorted.{IsStrictlySortedBy}, Map.{keys_of}};
 ghost use Rattle.fd_entries.specs.declared.batch.Pair.{Pair};
 ghost use Rattle.fd_segment.specs.{Causes.{IsBadIndex, OnDamaged}, Held.{IsIndexOf}};
-ghost use Rattle.fd_inventory.specs.{Shown.{AddsRow, AreLengths, AreRows, IsNewestUnless}, Indexes.{IsAmongBad}, Keys.{IsLead}, Recorded.{ByRecords}};
+ghost use Rattle.fd_inventory.specs.{Shown.{AreLengths, AreRows, IsNewestUnless, texts_order, with_entry}, Indexes.{IsAmongBad}, Keys.{IsLead}, Recorded.{ByRecords}};
 ghost use Rattle.fd_outcome.specs.Rows.{Row, Stored, matches, put_matching, rows, rows_from, stored};
 
 use crate::stored_key::{Lead, StoredKey, stored_key};
@@ -29,13 +29,10 @@ pub type Rows = BTreeMap<(String, String), Newest>;
 
 /// Adds a row, unless there is one of its texts.
 fn add_row(rows: &mut Rows, index: String, datum: String, newest: Newest) -> Result<(), NoMemory>
-    ensures { OnOk result (AddsRow rows.old.entries rows.new.entries index datum newest) }
+    ensures entries { OnOk result (rows.new.entries ≡ with_entry rows.old.entries (index, datum) newest) }
+    ensures ordered { OnOk result (IsStrictlySortedBy texts_order (keys_of rows.new.entries)) }
 {
-    let texts = (index, datum);
-    if rows.contains_key(&texts) {
-        return Ok(());
-    }
-    rows.insert(texts, newest)?;
+    rows.entry((index, datum))?.or_insert(newest);
     Ok(())
 }
 
