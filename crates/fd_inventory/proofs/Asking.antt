@@ -1,5 +1,7 @@
 -- Keys that are asked for, and rows of them.
-use Rattle.std.proofs.Common.{◌≡◌, ◌∙◌, ℕ, Bool, true, false, true≢false, cond, List, [], length, Option, Some, None, refl, sym, ap, subst, unwrap_or}
+use Rattle.std.proofs.Common.{◌≡◌, ◌∙◌, ℕ, Bool, true, false, true≢false, cond, List, [], length, Option, Some, None, refl, sym, ap, subst, string_bytes, unwrap_or}
+use Rattle.std.specs.Prelude.{String}
+use Rattle.std.specs.declared.alloc.Global.{Global}
 use Rattle.std.proofs.lemmas.List.Sums.{AllPass-from_list_all, list_all-from_AllPass}
 use Rattle.std.proofs.lemmas.Map.Views.{Contains-from_any, list_any-from_Contains}
 use Rattle.std.proofs.lemmas.Slice.Eq.{bytes_eq-Decides}
@@ -10,8 +12,7 @@ use Rattle.fd_key.specs.Pairs.{text_of}
 use Rattle.fd_request.specs.Expansion.{Keyword}
 use Rattle.fd_request.specs.Matching.{Admits, Matches}
 use Rattle.fd_inventory.specs.declared.rows.Newest.{Newest}
-use Rattle.fd_inventory.specs.declared.stored_key.StoredKey.{StoredKey}
-use Rattle.fd_inventory.specs.Keys.{IsStored}
+use Rattle.fd_inventory.specs.Keys.{IsKey}
 use Rattle.fd_inventory.specs.Shown.{AddsRow, AreRows, IsNewestUnless, Kept, has_row}
 use Rattle.fd_outcome.specs.Rows.{Row, Stored, is_one_of, matches, put, put_matching, row_of, row_order}
 
@@ -32,19 +33,20 @@ back : (keywords : List Keyword) (key : List keys.Pair) → matches keywords key
 back keywords key h = λ i d lt. one_back key _ (AllPass-from_list_all (λ k. is_one_of k.values (text_of key k.name)) keywords h i d lt)
 
 -- a key that isn't asked for adds no row
-pub adds_unasked : (keywords : List Keyword) (t : List (List Pair)) (key : List ℕ) (o : Option Stored) (k : StoredKey) (rs : List Row) → IsStored o k → (Matches keywords k.key → ⊥) → put_matching keywords t key o rs ≡ rs
-adds_unasked keywords t key o k rs is un =
-    ap (λ x. put_matching keywords t key x rs) is.is ∙ by (matches keywords is.key.pairs) refl
+pub adds_unasked : (keywords : List Keyword) (t : List (List Pair)) (key : List ℕ) (o : Option Stored) (x y : List ℕ) (ps : List keys.Pair) (rs : List Row) → IsKey o x y ps → (Matches keywords ps → ⊥) → put_matching keywords t key o rs ≡ rs
+adds_unasked keywords t key o x y ps rs is un =
+    ap (λ z. put_matching keywords t key z rs) is.is ∙ by (matches keywords is.key.pairs) refl
   where
     by : (b : Bool) → matches keywords is.key.pairs ≡ b → cond b (put row_order (row_of t key is.key) rs) rs ≡ rs
     by true e = absurd (un (subst (Matches keywords) (sym is.pairs) (back keywords is.key.pairs e)))
     by false e = refl
 
 -- one that is asked for adds its row
-pub adds_asked : (keywords : List Keyword) (t : List (List Pair)) (key : List ℕ) (o : Option Stored) (k : StoredKey) (newest : Newest) (es new : List Kept) (rs : List Row) → IsStored o k → Matches keywords k.key
+pub adds_asked : (keywords : List Keyword) (t : List (List Pair)) (key : List ℕ) (o : Option Stored) (index datum : String Global) (ps : List keys.Pair) (newest : Newest) (es new : List Kept) (rs : List Row)
+    → IsKey o (string_bytes index) (string_bytes datum) ps → Matches keywords ps
     → ((s : Stored) → o ≡ Some s → matches keywords s.pairs ≡ true → IsNewestUnless t rs key s newest.len newest.number)
-    → AddsRow es new k.index k.datum newest → AreRows es rs → AreRows new (put_matching keywords t key o rs)
-adds_asked keywords t key o k newest es new rs is all newness adds rows =
+    → AddsRow es new index datum newest → AreRows es rs → AreRows new (put_matching keywords t key o rs)
+adds_asked keywords t key o index datum ps newest es new rs is all newness adds rows =
     let s = is.key in
     let wanted : matches keywords s.pairs ≡ true = asked keywords s.pairs (subst (Matches keywords) is.pairs all) in
     let r = row_of t key s in

@@ -6,9 +6,13 @@ use Rattle.std.specs.List.{Contains}
 use Rattle.fd_entries.specs.declared.batch.Listing.{Listing}
 use Rattle.fd_entries.specs.declared.batch.Pair.{Pair}
 use Rattle.fd_index.specs.Records.{Record}
+use Rattle.fd_segment.specs.declared.fault.LensFault.{LensFault}
+use Rattle.fd_segment.specs.declared.fault.LensFault.TheVariants as lenses
+use Rattle.fd_segment.specs.Causes.{IsBadIndex, OnDamaged}
+use Rattle.fd_segment.specs.Held.{Standing}
 use Rattle.fd_request.specs.Expansion.{Keyword}
 use Rattle.fd_inventory.specs.Shown.{AreLengths, AreRows, IsNewestUnless, Kept}
-use Rattle.fd_inventory.specs.Indexes.{Tells}
+use Rattle.fd_inventory.specs.Indexes.{IsAmongBad, Tells}
 use Rattle.fd_outcome.specs.Rows.{Row, Stored, matches, put_matching, rows_from, rows_of_batch, stored}
 use Rattle.fd_inventory.proofs.Newness.{is_newest}
 
@@ -141,3 +145,9 @@ one_batch dataset keywords t n m b rs old new next at few lengths adds rows =
 -- an element at a place is in the list
 pub is_among : {A : Type 0} (xs : List A) (n : ℕ) (x : A) → slice_get xs n ≡ Some x → Contains xs x
 is_among xs n x h = (n, slice_get_within xs n x h, get_or_from_slice_get xs n x x h)
+
+-- damage of the index of a segment at a place
+pub among_bad : {F : Type 0} (e : LensFault F) (ss : List Standing) (n : ℕ) (s : Standing) → slice_get ss n ≡ Some s → OnDamaged e (IsBadIndex s.files.entry s.files.index) → OnDamaged e (IsAmongBad ss)
+among_bad (lenses.Fault f) ss n s at bad = tt
+among_bad (lenses.Damaged d) ss n s at bad = (s, is_among ss n s at, bad)
+among_bad lenses.NoMemory ss n s at bad = tt

@@ -21,11 +21,11 @@ use Rattle.fd_request.specs.Keywords.{differ_after}
 use Rattle.fd_cubes.specs.Cubes.{alone}
 use Rattle.fd_outcome.specs.Rows.{Row, Stored, if_new, if_pair, if_short, is_spelled, matches, put, put_by, put_matching, row_of, row_order, rows, rows_from, rows_of_batch, stored, stored_at, with_piece, with_pieces, with_text}
 use Rattle.fd_inventory.specs.Found.{AreSpelled, HasKey, HaveKeys, IsNamed, IsSpelled}
-use Rattle.fd_inventory.specs.Keys.{IsFirstOf, IsLead, ending, leading, texts}
+use Rattle.fd_inventory.specs.Keys.{IsFirstOf, IsLead, behind, ending, leading, texts}
 use Rattle.fd_inventory.specs.declared.stored_key.Lead.{Lead}
 use Rattle.fd_inventory.proofs.Copying.{alone_push}
 
-some_same : {A : Type 0} (x y : A) → (let o : Option A = Some x in o ≡ Some y) → x ≡ y
+pub some_same : {A : Type 0} (x y : A) → (let o : Option A = Some x in o ≡ Some y) → x ≡ y
 some_same x y e = cc e
 
 -- ---- pairs that a text is
@@ -205,6 +205,12 @@ lead_first dataset datum l is short few = by l.pairs is.is is.few
     by : (o : Option (List keys.Pair)) → o ≡ leading dataset (string_bytes l.index) → IfSome o (λ k. length k ≤ length dataset + length (string_bytes l.index) + 2) → IfSome o (IsFirstOf datum)
     by None e f = tt
     by (Some k) e f = record { spelled = leading_spelled dataset (string_bytes l.index) k (sym e); room = omega (arith, f, short, few) }
+
+-- A key in the files is that of the lead of its index text and of its datum text.
+pub read_behind : (dataset key index datum : List ℕ) (l : Lead) → texts key ≡ Some (index, datum) → IsLead dataset l → string_bytes l.index ≡ index → stored dataset key ≡ behind l.pairs index datum
+read_behind dataset key index datum l both is at =
+    told dataset key ∙ ap (λ (o : Option (List ℕ × List ℕ)). o >>= λ p. stored_at dataset p.0 p.1) both ∙ led dataset index datum
+    ∙ ap (λ (i : List ℕ). behind (leading dataset i) index datum) (sym at) ∙ ap (λ (o : Option (List keys.Pair)). behind o index datum) (sym is.is)
 
 -- ---- rows
 

@@ -14,3 +14,4 @@ mod Placing
 mod Printed
 pub mod Recording
 pub mod Upserting
+mod Wholes

@@ -1,5 +1,5 @@
 -- Rows in their order: one that is put among them, and one that is there.
-use Rattle.std.proofs.Common.{◌≡◌, ◌∙◌, ℕ, Bool, true, false, true≢false, ◌&&◌, ◌||◌, cond, List, [], ◌∷◌, map, Option, Some, None, is_some, Ordering, Less, Equal, Greater, refl, sym, ap, subst, bytes_eq, string_bytes}
+use Rattle.std.proofs.Common.{◌≡◌, ◌∙◌, ℕ, Bool, true, false, true≢false, ◌&&◌, ◌||◌, cond, List, [], ◌∷◌, map, Option, Some, None, is_some, Ordering, Less, Equal, Greater, refl, sym, ap, subst, bytes_eq, string_bytes, unwrap_or}
 use Rattle.std.specs.List.{list_any}
 use Rattle.std.specs.List.Sorted.{IsStrictlySortedBy}
 use Rattle.std.specs.Ordering.{nat_cmp, is_eq, match_ordering, ordering_then}
@@ -12,8 +12,9 @@ use Rattle.std.proofs.lemmas.Map.Entries.{none_below_head}
 use Rattle.std.proofs.lemmas.Map.Keys.{sorted_tail}
 use Rattle.std.proofs.lemmas.Map.Text.{is_eq-slice_cmp}
 use Rattle.fd_inventory.specs.declared.rows.Newest.{Newest}
-use Rattle.fd_inventory.specs.Shown.{AddsRow, AreRows, Kept, Shown, Texts, has_row, kept, shown, shown_order, texts_order}
+use Rattle.fd_inventory.specs.Shown.{AddsRow, AreRows, Kept, Shown, Texts, has_row, kept, shown, shown_order, texts_order, with_entry}
 use Rattle.fd_outcome.specs.Rows.{Row, put, put_by, row_order}
+use Rattle.fd_inventory.proofs.Keyed.{some_same}
 
 texts_total : IsTotalOrder texts_order
 texts_total = then_total (on_texts (λ (x : Texts). string_bytes x.0)) (on_texts (λ (x : Texts). string_bytes x.1))
@@ -50,6 +51,18 @@ shows_there k v w (e ∷ es) sorted there = by (texts_order k e.0) refl there (s
         → put_by o (kept (k, v)) (kept e) (map kept es) (put shown_order (kept (k, v)) (map kept es)) ≡ kept e ∷ map kept es
     by Less is h more = absurd (true≢false (sym (ap is_some h) ∙ ap is_some (lookup-none (is_at (texts_order k)) es (none_below_head texts_total k e es sorted is).1)))
     by Equal is h more = refl
+    by Greater is h more = ap (λ zs. kept e ∷ zs) (more h)
+
+-- one that is there, and is written as it was
+shows_again : (k : Texts) (w : Newest) (es : List Kept) → IsStrictlySortedBy texts_order (keys_of es) → lookup (is_at (texts_order k)) es ≡ Some w → map kept (insert_entry texts_order es k w) ≡ map kept es
+shows_again k w [] sorted there = absurd (true≢false (sym (ap is_some there)))
+shows_again k w (e ∷ es) sorted there = by (texts_order k e.0) refl there (shows_again k w es (sorted_tail texts_order e.0 (keys_of es) sorted))
+  where
+    by : (o : Ordering) → texts_order k e.0 ≡ o → cond (is_eq o) (Some e.1) (lookup (is_at (texts_order k)) es) ≡ Some w
+        → (lookup (is_at (texts_order k)) es ≡ Some w → map kept (insert_entry texts_order es k w) ≡ map kept es)
+        → map kept (match_ordering o ((k, w) ∷ e ∷ es) ((e.0, w) ∷ es) (e ∷ insert_entry texts_order es k w)) ≡ kept e ∷ map kept es
+    by Less is h more = absurd (true≢false (sym (ap is_some h) ∙ ap is_some (lookup-none (is_at (texts_order k)) es (none_below_head texts_total k e es sorted is).1)))
+    by Equal is h more = ap (λ (n : Newest). kept (e.0, n) ∷ map kept es) (sym (some_same e.1 w h))
     by Greater is h more = ap (λ zs. kept e ∷ zs) (more h)
 
 -- ---- a row of some texts, and an entry of them
@@ -90,7 +103,7 @@ absent k es rs rows none = row_shown rs (string_bytes k.0) (string_bytes k.1) �
 -- ---- a row that is put among rows
 
 -- Its entry was inserted, as there was none of its texts.
-pub adds_new : (k : Texts) (v : Newest) (es new : List Kept) → lookup (is_at (texts_order k)) es ≡ None → new ≡ insert_entry texts_order es k v → IsStrictlySortedBy texts_order (keys_of new) → AddsRow es new k.0 k.1 v
+adds_new : (k : Texts) (v : Newest) (es new : List Kept) → lookup (is_at (texts_order k)) es ≡ None → new ≡ insert_entry texts_order es k v → IsStrictlySortedBy texts_order (keys_of new) → AddsRow es new k.0 k.1 v
 adds_new k v es new none is sorted rs r index datum numbers rows =
     let here : has_row rs r.key.index r.key.datum ≡ false = subst (λ x. has_row rs x r.key.datum ≡ false) (sym index) (subst (λ x. has_row rs (string_bytes k.0) x ≡ false) (sym datum) (absent k es rs rows none)) in
     let own = numbers here in
@@ -100,21 +113,22 @@ adds_new k v es new none is sorted rs r index datum numbers rows =
       ordered = sorted;
     }
 
-some_of : {A : Type 0} (o : Option A) → is_some o ≡ true → (x : A) × (o ≡ Some x)
-some_of None h = absurd (true≢false (sym h))
-some_of (Some x) h = (x, refl)
-
--- Nothing was done, as there was one.
-pub adds_none : (k : Texts) (v : Newest) (es : List Kept) → is_some (lookup (is_at (texts_order k)) es) ≡ true → AddsRow es es k.0 k.1 v
-adds_none k v es there rs r index datum numbers rows =
-    let found = some_of (lookup (is_at (texts_order k)) es) there in
-    let w : Newest = record found.0 { len = r.len; number = r.number } in
-    let same : kept (k, w) ≡ shown r = λ i. record { index = sym index i; datum = sym datum i; len = r.len; number = r.number } in
+-- Nothing was changed, as there was one.
+adds_none : (k : Texts) (v w : Newest) (es : List Kept) → lookup (is_at (texts_order k)) es ≡ Some w → AddsRow es es k.0 k.1 v
+adds_none k v w es there rs r index datum numbers rows =
+    let own : Newest = record w { len = r.len; number = r.number } in
+    let same : kept (k, own) ≡ shown r = λ i. record { index = sym index i; datum = sym datum i; len = r.len; number = r.number } in
     record {
-      same = sym (shows_there k w found.0 es rows.ordered found.1) ∙ ap (λ x. put shown_order x (map kept es)) same ∙ ap (put shown_order (shown r)) rows.same ∙ sym (shows_put r rs);
+      same = sym (shows_there k own w es rows.ordered there) ∙ ap (λ x. put shown_order x (map kept es)) same ∙ ap (put shown_order (shown r)) rows.same ∙ sym (shows_put r rs);
       ordered = rows.ordered;
     }
 
-pub none_of : {A : Type 0} (o : Option A) → is_some o ≡ false → o ≡ None
-none_of None h = refl
-none_of (Some x) h = absurd (true≢false h)
+pub adds : (k : Texts) (v : Newest) (es new : List Kept) → new ≡ with_entry es k v → IsStrictlySortedBy texts_order (keys_of new) → AddsRow es new k.0 k.1 v
+adds k v es new is sorted = by (lookup (is_at (texts_order k)) es) refl is
+  where
+    by : (o : Option Newest) → lookup (is_at (texts_order k)) es ≡ o → new ≡ insert_entry texts_order es k (unwrap_or o v) → AddsRow es new k.0 k.1 v
+    by None none is = adds_new k v es new none is sorted
+    by (Some w) there is = λ rs r index datum numbers rows. record {
+      same = ap (map kept) is ∙ shows_again k w es rows.ordered there ∙ (adds_none k v w es there rs r index datum numbers rows).same;
+      ordered = sorted;
+    }

@@ -1,5 +1,5 @@
 -- Rows as they are kept, in the order of their texts.
-use Rattle.std.specs.Prelude.{◌≡◌, ◌&&◌, ℕ, Bool, false, List, length, map, string_bytes, Some}
+use Rattle.std.specs.Prelude.{◌≡◌, ◌&&◌, ℕ, Bool, false, List, length, map, string_bytes, Some, unwrap_or}
 use Rattle.std.specs.List.{AllZip, list_any}
 use Rattle.std.specs.Str.{bytes_eq}
 use Rattle.std.specs.Prelude.{String}
@@ -8,7 +8,8 @@ use Rattle.std.specs.declared.cmp.Ordering.{Ordering}
 use Rattle.std.specs.Ordering.{nat_cmp, ordering_then}
 use Rattle.std.specs.Cmp.Lexicographic.{slice_cmp}
 use Rattle.std.specs.List.Sorted.{IsStrictlySortedBy}
-use Rattle.std.specs.Map.{keys_of}
+use Rattle.std.specs.BTreeMap.{insert_entry, is_at}
+use Rattle.std.specs.Map.{keys_of, lookup}
 use Rattle.fd_entries.specs.declared.batch.Pair.{Pair}
 use Rattle.fd_entries.specs.Batches.{newest}
 use Rattle.fd_index.specs.Records.{Record}
@@ -58,6 +59,10 @@ IsNewestUnless t rs key s len number =
 -- each record has its pair's key, and the length of the pair's bytes
 abbrev pub AreLengths : List Record → List Pair → Type 0
 AreLengths rs b = AllZip (λ r p. (r.key ≡ p.key) × (r.len ≡ length p.bytes)) rs b
+
+-- the entries with one more, unless there is one of its texts
+abbrev pub with_entry : List Kept → Texts → Newest → List Kept
+with_entry es k v = insert_entry texts_order es k (unwrap_or (lookup (is_at (texts_order k)) es) v)
 
 -- A map after a row was added to it, unless there was one of its texts.
 abbrev pub AddsRow : List Kept → List Kept → String Global → String Global → Newest → Type 0

@@ -1,8 +1,8 @@
 // The keys that stand in the files of a dataset.
-ghost use Rattle.std.specs.Prelude.{◌≡◌, ◌<◌, ◌≤◌, ◌+◌, ◌-◌, ◌^◌, Some, None, IfOk, IfSome, IsTrue, MatchOption, length, option_map, string_bytes, if◌then◌else◌};
+ghost use Rattle.std.specs.Prelude.{◌≡◌, ◌<◌, ◌≤◌, ◌+◌, ◌-◌, ◌^◌, ℕ, List, Some, None, IfOk, IfSome, IsTrue, OnOk, MatchOption, length, option_map, string_bytes, if◌then◌else◌};
 ghost use Rattle.fd_spelling.specs.{Names.{is_name, is_value}, Numerals.{cut}};
 ghost use Rattle.fd_outcome.specs.Rows.{if_pair, stored, stored_at, with_piece, with_text};
-ghost use Rattle.fd_inventory.specs.{Found.{AreSpelled}, Keys.{IsFirstOf, IsLead, IsStored, behind, ending, leading, texts}};
+ghost use Rattle.fd_inventory.specs.{Found.{AreSpelled}, Keys.{HasLead, IsFirstOf, IsKey, IsLead, IsStored, ending, leading, texts, whole, whole_behind}};
 
 use fd_bytes::NoMemory;
 use fd_key::{Key, ValueFault, canonical, is_name};
@@ -25,6 +25,25 @@ pub struct StoredKey {
 pub(crate) struct Lead {
     index: String,
     pairs: Option<Key>,
+}
+
+/// What is kept from one key in the files of a dataset to the next: the lead of the last one, and a key that is filled with the
+/// pairs of each.
+#[derive(Drop)]
+pub(crate) struct Reader {
+    lead: Option<Lead>,
+    /// The pairs of the key that was read last, where it is one that a request may ask for.
+    pub(crate) room: Key,
+}
+
+impl Reader {
+    /// One that has read no key.
+    pub(crate) fn new(alloc: Global) -> Result<Reader, NoMemory>
+        ensures { IfOk result (λ r. (dataset : List ℕ) → HasLead dataset r) }
+    {
+        let room = Key::new(alloc)?;
+        Ok(Reader { lead: None, room })
+    }
 }
 
 /// What stands before the first `=`, and what stands behind it.
@@ -103,17 +122,17 @@ pub(crate) fn add_text(alloc: Global, pairs: &mut Key, text: &str) -> Result<boo
     Ok(true)
 }
 
-/// The same pairs in a key of their own.
-fn copied(alloc: Global, key: &Key) -> Result<Key, NoMemory>
-    requires { AreSpelled key.now }
-    ensures { IfOk result (λ k. k ≡ key.now) }
+/// Fills a key with these pairs, in place of its own.
+fn fill(alloc: Global, room: &mut Key, pairs: &Key) -> Result<(), NoMemory>
+    requires { AreSpelled pairs.now }
+    ensures { OnOk result (room.new ≡ pairs.now) }
 {
-    let mut copy = Key::new(alloc)?;
-    for i in 0..key.len() {
-        let (name, text) = key.pair(i);
-        copy.set(alloc, name, text)?;
+    room.clear();
+    for i in 0..pairs.len() {
+        let (name, text) = pairs.pair(i);
+        room.set(alloc, name, text)?;
     }
-    Ok(copy)
+    Ok(())
 }
 
 /// The pairs of a dataset's text and of an index text, if they are pairs, which stand before those of each datum text of that index.
@@ -133,8 +152,23 @@ fn leading(alloc: Global, dataset: &str, index: &str) -> Result<Option<Key>, NoM
     Ok(Some(pairs))
 }
 
+/// Adds the pairs of a datum text, and tells whether they are a stored key's with those that were there: no name comes twice,
+/// and they have at most 255 bytes together.
+#[tactic(auto, unfolding(crate::specs::Keys::whole))]
+fn complete(alloc: Global, pairs: &mut Key, datum: &str) -> Result<bool, NoMemory>
+    requires { length pairs.old + length datum.now < 2 ^ 32 - 1 }
+    ensures { IfOk result (λ is_one. whole pairs.old datum.now ≡ (if is_one then Some pairs.new else None)) }
+{
+    if !add_text(alloc, pairs, datum)? {
+        return Ok(false);
+    }
+    if !pairs.text_fits(255) {
+        return Ok(false);
+    }
+    Ok(true)
+}
+
 /// The stored key of these pairs and of those of a datum text behind them.
-#[tactic(auto, unfolding(crate::specs::Keys::ending))]
 fn ending(
     alloc: Global,
     pairs: Key,
@@ -144,18 +178,13 @@ fn ending(
     requires { length pairs + length datum.now < 2 ^ 32 - 1 }
     ensures { IfOk result (λ o. MatchOption o (ending pairs index.now datum.now ≡ None) (IsStored (ending pairs index.now datum.now))) }
 {
-    let mut pairs = pairs;
-    if !add_text(alloc, &mut pairs, datum)? {
+    let mut key = pairs;
+    if !complete(alloc, &mut key, datum)? {
         return Ok(None);
     }
-    if pairs.text(alloc)?.len() > 255 {
-        return Ok(None);
-    }
-    Ok(Some(StoredKey {
-        index: String::from_str(alloc, index)?,
-        datum: String::from_str(alloc, datum)?,
-        key: pairs,
-    }))
+    let index = String::from_str(alloc, index)?;
+    let datum = String::from_str(alloc, datum)?;
+    Ok(Some(StoredKey { index, datum, key }))
 }
 
 /// The stored key of an index text and a datum text, or none where they are no pairs in their one spelling, none of whose names, nor
@@ -175,19 +204,18 @@ pub(crate) fn stored_at(
     }
 }
 
-/// The stored key of a lead's pairs, if there are any, and of those of a datum text behind them.
-fn behind(
-    alloc: Global,
-    pairs: &Option<Key>,
-    index: &str,
-    datum: &str,
-) -> Result<Option<StoredKey>, NoMemory>
+/// Fills a key with a lead's pairs, if there are any, and with those of a datum text behind them, and tells whether they are a
+/// stored key's.
+fn behind(alloc: Global, room: &mut Key, pairs: &Option<Key>, datum: &str) -> Result<bool, NoMemory>
     requires { IfSome pairs.now (IsFirstOf datum.now) }
-    ensures { IfOk result (λ o. MatchOption o (behind pairs.now index.now datum.now ≡ None) (IsStored (behind pairs.now index.now datum.now))) }
+    ensures { IfOk result (λ is_one. whole_behind pairs.now datum.now ≡ (if is_one then Some room.new else None)) }
 {
     match pairs {
-        Some(pairs) => ending(alloc, copied(alloc, pairs)?, index, datum),
-        None => Ok(None),
+        Some(pairs) => {
+            fill(alloc, room, pairs)?;
+            complete(alloc, room, datum)
+        }
+        None => Ok(false),
     }
 }
 
@@ -219,24 +247,33 @@ fn lead_of(alloc: Global, dataset: &str, index: &str, last: Option<Lead>) -> Res
     Ok(Lead { index, pairs })
 }
 
-/// What a key in the files of a dataset is, or none where it is no index text, vertical line and datum text of pairs in
-/// their one spelling, none of whose names, nor of the dataset's, comes twice, with at most 255 bytes together. With it comes the
-/// lead of its index, by which the next key of that index is found without looking through these texts again.
-pub(crate) fn stored_key(
+/// The index text and the datum text of a key in the files of a dataset, or none where it is no index text, vertical line and
+/// datum text of pairs in their one spelling, none of whose names, nor of the dataset's, comes twice, with at most 255 bytes
+/// together. The reader comes back with its pairs, and with the lead of its index, by which the next key of that index is read
+/// without looking through these texts again.
+pub(crate) fn read_key<'a>(
     alloc: Global,
     dataset: &str,
-    key: &[u8],
-    last: Option<Lead>,
-) -> Result<(Option<StoredKey>, Option<Lead>), NoMemory>
+    key: &'a [u8],
+    reader: Reader,
+) -> Result<(Option<(&'a str, &'a str)>, Reader), NoMemory>
     requires short { length dataset.now ≤ 255 }
-    requires last { IfSome last (IsLead dataset.now) }
-    ensures key { IfOk result (λ r. MatchOption r.0 (stored dataset.now key.now ≡ None) (IsStored (stored dataset.now key.now))) }
-    ensures last { IfOk result (λ r. IfSome r.1 (IsLead dataset.now)) }
+    requires lead { HasLead dataset.now reader }
+    ensures key { IfOk result (λ r. MatchOption r.0 (stored dataset.now key.now ≡ None) (λ p. IsKey (stored dataset.now key.now) p.0.now p.1.now r.1.room)) }
+    ensures lead { IfOk result (λ r. HasLead dataset.now r.1) }
 {
     let Some((index, datum)) = texts(key) else {
-        return Ok((None, last));
+        return Ok((None, reader));
     };
-    let lead = lead_of(alloc, dataset, index, last)?;
-    let stored = behind(alloc, &lead.pairs, index, datum)?;
-    Ok((stored, Some(lead)))
+    let Reader { lead, mut room } = reader;
+    let lead = lead_of(alloc, dataset, index, lead)?;
+    let is_one = behind(alloc, &mut room, &lead.pairs, datum)?;
+    let reader = Reader {
+        lead: Some(lead),
+        room,
+    };
+    if !is_one {
+        return Ok((None, reader));
+    }
+    Ok((Some((index, datum)), reader))
 }

@@ -1,11 +1,10 @@
-use Rattle.std.proofs.Common.{◌≡◌, ◌∙◌, Option, List, None, IfOk, MatchOption, sym, ap, subst}
+use Rattle.std.proofs.Common.{◌≡◌, ◌∙◌, Bool, Option, List, Some, None, IfOk, cond, sym, ap, subst}
 use Rattle.fd_key.specs.Pairs.{Pair}
-use Rattle.fd_outcome.specs.Rows.{Stored}
-use Rattle.fd_inventory.specs.Keys.{IsStored, behind, ending}
+use Rattle.fd_inventory.specs.Keys.{whole, whole_behind}
 use Rattle.fd_inventory.proofs.stored_key.behind.Goals as goal
 
-pub returns-in_ok-copied-in-Some : goal.returns-in_ok-copied-in-Some
-returns-in_ok-copied-in-Some c =
-    let same : behind c.args.pairs.now c.args.index.now c.args.datum.now ≡ ending c.in_ok-copied-in-Some.field-0 c.args.index.now c.args.datum.now =
-    ap (λ (o : Option (List Pair)). behind o c.args.index.now c.args.datum.now) c.in-Some.is ∙ ap (λ (k : List Pair). ending k c.args.index.now c.args.datum.now) (sym c.in_ok-copied-in-Some.ensures) in
-    subst (λ (o : Option Stored). IfOk c.ending.result (λ r. MatchOption r (o ≡ None) (IsStored o))) (sym same) c.ending.ensures
+pub returns-in_ok-fill-in-Some : goal.returns-in_ok-fill-in-Some
+returns-in_ok-fill-in-Some c =
+    let same : whole_behind c.args.pairs.now c.args.datum.now ≡ whole c.fill.new.room c.args.datum.now =
+    ap (λ (o : Option (List Pair)). whole_behind o c.args.datum.now) c.in-Some.is ∙ ap (λ (k : List Pair). whole k c.args.datum.now) (sym c.in_ok-fill-in-Some.ensures) in
+    subst (λ (o : Option (List Pair)). IfOk c.complete.result (λ (b : Bool). o ≡ cond b (Some c.complete.new.pairs) None)) (sym same) c.complete.ensures
