@@ -1,6 +1,6 @@
 #!/usr/bin/env python3
-"""The files of a dataset that its table doesn't list: what a killed process or a stopped purge left, and the empty ones of writers' next
-batches. Nothing may run on the dataset meanwhile.
+"""The files of a dataset that its table doesn't list: what a killed process, a flush that failed or a stopped purge left. Nothing may run on
+the dataset meanwhile.
 
 orphans.py STORE/DATASET           prints their names, one a line
 orphans.py --remove STORE/DATASET  removes them too
@@ -42,4 +42,5 @@ def main(words):
                 os.remove(os.path.join(folder, name))
 
 
-main(sys.argv[1:])
+if __name__ == "__main__":
+    main(sys.argv[1:])

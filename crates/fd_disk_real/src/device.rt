@@ -1,7 +1,7 @@
 // A file of the host.
 use crate::{HostPath, RealSealed};
 use fd_disk::FileName;
-use fd_host::{Budget, Names, Permit, Seen, filled, open, open_to_write};
+use fd_host::{Budget, Making, Names, Permit, Seen, filled, open, open_to_write};
 use fd_unsynced::Device;
 use fd_untold::Sealing;
 use std::fs::File;
@@ -16,9 +16,9 @@ pub(crate) enum Naming {
     /// It is firm.
     Firm,
     /// By a sync of this folder.
-    Alone(File),
-    /// With those of a shelf's other files, by its number, which is 0 until it is made.
-    Among(Arc<Names>, u64),
+    Alone(File, Arc<Names>),
+    /// With those of a shelf's other files, once it is made.
+    Among(Arc<Making>),
 }
 
 /// A file of the host by its path.
@@ -45,18 +45,33 @@ impl HostDevice {
             None => Err(Error::from(ErrorKind::Other)),
         }
     }
+
+    // The file stands in its folder.
+    fn is_made(&self) -> bool {
+        match &self.naming {
+            Naming::Firm | Naming::Alone(..) => true,
+            Naming::Among(making) => making.is_made(),
+        }
+    }
+
+    // Makes the file, unless it is made.
+    fn make(&self) -> io::Result<()> {
+        match &self.naming {
+            Naming::Firm | Naming::Alone(..) => Ok(()),
+            Naming::Among(making) => making.make(self.host),
+        }
+    }
+
+    // A descriptor for reads, writes and syncs of the file, which is made before, unless it is made.
+    fn descriptor(&self) -> io::Result<File> {
+        self.make()?;
+        open_to_write(self.host, self.path.as_str())
+    }
 }
 
 impl Device for HostDevice {
-    fn create(&mut self) -> io::Result<()> {
-        if let Naming::Among(names, number) = &mut self.naming {
-            *number = names.create(self.host, self.path.as_str())?;
-        }
-        Ok(())
-    }
-
     fn open(&mut self) -> io::Result<()> {
-        match open_to_write(self.host, self.path.as_str()) {
+        match self.descriptor() {
             Ok(file) => {
                 self.file = Some(file);
                 Ok(())
@@ -87,6 +102,9 @@ impl Device for HostDevice {
     }
 
     fn read_anew(&self, at: u64, into: &mut [u8]) -> io::Result<usize> {
+        if !self.is_made() {
+            return Ok(0);
+        }
         let file = open(self.host, self.path.as_str())?;
         filled(&file, at, into)
     }
@@ -110,15 +128,16 @@ impl Device for HostDevice {
     }
 
     fn sync_anew(&self) -> io::Result<()> {
+        self.make()?;
         open(self.host, self.path.as_str())?.sync_all()
     }
 
     fn sync_name(&mut self) -> io::Result<()> {
         match &self.naming {
             Naming::Firm => Ok(()),
-            Naming::Among(names, number) => names.sync(*number),
-            Naming::Alone(folder) => {
-                folder.sync_all()?;
+            Naming::Among(making) => making.sync(),
+            Naming::Alone(folder, names) => {
+                names.sync(folder)?;
                 self.naming = Naming::Firm;
                 Ok(())
             }

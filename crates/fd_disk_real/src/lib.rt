@@ -22,7 +22,7 @@ pub type RealFault = SystemFault;
 /// A file that is written and read. Each call goes to the system.
 pub type RealDisk = UntoldDisk<HostDevice>;
 
-/// One writer's files in one dataset. They stand in the folder from the time when they are made.
+/// One writer's files in one dataset. They stand in the folder from the first write or sync of one of a batch on.
 pub type RealShelf = UntoldShelf<HostFiles>;
 
 /// One dataset: a folder that is made when its table is founded or a shelf is asked for. From then on this process is the

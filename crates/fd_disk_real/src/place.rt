@@ -4,9 +4,9 @@ ghost use Rattle.std.specs.Prelude.{◌≡◌, IfOk, None, string_bytes};
 use crate::device::Naming;
 use crate::{HostDevice, HostPath, RealDisk, RealFault, RealGathered, RealSealed};
 use fd_bytes::NoMemory;
-use fd_disk::{Disk, FileName};
-use fd_host::{Budget, FILES, Names, Opened, TABLES, length_of};
-use fd_untold::{Files, Ground, Place};
+use fd_disk::{Disk, FileKind, FileName};
+use fd_host::{Budget, FILES, Making, Names, Opened, TABLES, length_of};
+use fd_untold::{Files, Ground, Place, path_of};
 use std::alloc::{AllocError, Global};
 use std::io;
 use std::sync::Arc;
@@ -17,6 +17,40 @@ pub struct HostFiles {
     host: HostRuntime,
     names: Arc<Names>,
     budget: Arc<Budget>,
+    /// The number of the batch whose fields were asked for last, and when they are made.
+    last: Option<(u32, Arc<Making>)>,
+}
+
+impl HostFiles {
+    // When this file is made: the index of a batch that is asked for right behind its fields with them.
+    fn making(
+        &mut self,
+        alloc: Global,
+        folder: &str,
+        file: FileName,
+    ) -> Result<Arc<Making>, NoMemory> {
+        if let Some((seq, making)) = &self.last {
+            if file.kind == FileKind::Index && file.seq == *seq && making.join() {
+                return Ok(Arc::try_clone(making)?);
+            }
+        }
+        let path = path_of(alloc, folder, file)?;
+        let index = path_of(
+            alloc,
+            folder,
+            FileName {
+                writer: file.writer,
+                seq: file.seq,
+                kind: FileKind::Index,
+            },
+        )?;
+        let making = Making::new(&self.names, &self.budget, path, index)?;
+        let making = Arc::new(alloc, making)?;
+        if file.kind == FileKind::Fields {
+            self.last = Some((file.seq, Arc::try_clone(&making)?));
+        }
+        Ok(making)
+    }
 }
 
 impl Files for HostFiles {
@@ -26,14 +60,18 @@ impl Files for HostFiles {
 
     type Gathered = RealGathered;
 
-    fn device(&self, alloc: Global, path: String) -> Result<HostDevice, AllocError> {
-        let _ = alloc;
+    fn device(
+        &mut self,
+        alloc: Global,
+        folder: &str,
+        file: FileName,
+    ) -> Result<HostDevice, NoMemory> {
         Ok(HostDevice {
             host: self.host,
-            path,
+            path: path_of(alloc, folder, file)?,
             file: None,
             leave: None,
-            naming: Naming::Among(Arc::try_clone(&self.names)?, 0),
+            naming: Naming::Among(self.making(alloc, folder, file)?),
             budget: Arc::try_clone(&self.budget)?,
             most: FILES,
             seen: None,
@@ -126,17 +164,21 @@ impl Place for HostPlace {
             is_new,
         } = opened;
         table.file = Some(file);
-        table.naming = Naming::Alone(folder);
+        table.naming = match folder {
+            Some(folder) => Naming::Alone(folder, Arc::try_clone(self.place.names())?),
+            None => Naming::Firm,
+        };
         table.seen = Some(seen);
         Ok(Some(is_new))
     }
 
     fn files(&self, alloc: Global) -> io::Result<HostFiles> {
-        let names = Names::new(alloc, self.host, &self.budget, self.place.path())?;
+        let _ = alloc;
         Ok(HostFiles {
             host: self.host,
-            names: Arc::new(alloc, names)?,
+            names: Arc::try_clone(self.place.names())?,
             budget: Arc::try_clone(&self.budget)?,
+            last: None,
         })
     }
 

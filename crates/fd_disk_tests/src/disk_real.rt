@@ -257,6 +257,28 @@ fn keeps_sealed_files(rt: HostRuntime) {
     assert!(rt; reads == Some([Some((3, *b"RIB\0\0\0\0\0")), None]));
 }
 
+/// Tells that the file of the fields of a batch stands in the folder.
+fn stands(rt: HostRuntime) -> bool {
+    matches!(fs::exists(&rt, "class=ld/7-1.fields"), Ok(true))
+}
+
+/// Tells whether that file stands before its first sync, and whether behind it.
+fn stands_since<F: Send + Drop, D: Folder<F>>(rt: HostRuntime, folder: &mut D) -> Option<[bool; 2]>
+where
+    requires writer { D.last_writer folder.old ≡ 0 }
+{
+    let mut file = file_in(rt.alloc(), folder)?;
+    let stood = stands(rt);
+    file.sync().ok()?;
+    Some([stood, stands(rt)])
+}
+
+#[test]
+fn makes_files_late(rt: HostRuntime) {
+    let stand = of_one!(rt, "class=ld", stands_since);
+    assert!(rt; stand == Some([false, true]));
+}
+
 /// The bytes of a field of 200,000 octets.
 fn many_bytes(alloc: Global) -> Option<Vec<u8>> {
     let mut all = Vec::new(alloc);

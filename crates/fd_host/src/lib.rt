@@ -7,6 +7,7 @@ mod budget;
 mod files;
 mod folders;
 mod locks;
+mod making;
 mod names;
 mod place;
 mod seen;
@@ -17,6 +18,7 @@ pub use files::{
 };
 pub use folders::{gather, make_folders};
 pub use locks::{Locks, exclusive};
+pub use making::Making;
 pub use names::Names;
 pub use place::{Opened, Place};
 pub use seen::Seen;

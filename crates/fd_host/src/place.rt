@@ -2,6 +2,7 @@
 use crate::files::{Target, if_there, length_of, open, plant, remove, replace};
 use crate::folders::{make_firm, make_folder, stands};
 use crate::locks::{Lock, Locks};
+use crate::names::Names;
 use crate::seen::{Seen, renew};
 use std::alloc::{AllocError, Global};
 use std::fs::File;
@@ -17,11 +18,12 @@ pub struct Place {
     path: String,
     table: String,
     unfinished: String,
+    names: Arc<Names>,
     locks: Arc<Locks>,
     lock: Option<Lock>,
     /// What was read of the table since it was opened.
     seen: Arc<Seen>,
-    /// The table was made or renewed since the lock was got, and not closed.
+    /// The table was made or renewed since the lock was got, and not closed: it is firm with its name until it is written.
     is_renewed: bool,
 }
 
@@ -30,11 +32,11 @@ pub struct Place {
 pub struct Opened {
     /// A descriptor of the table.
     pub file: File,
-    /// One of its folder.
-    pub folder: File,
+    /// One of its folder, unless the table is new.
+    pub folder: Option<File>,
     /// What is read of the table is noted there.
     pub seen: Arc<Seen>,
-    /// A new file was put in its place before.
+    /// This process made the file, and nothing was written to it since: it is firm, and so is its name.
     pub is_new: bool,
 }
 
@@ -53,6 +55,7 @@ impl Place {
             root: String::from_str(alloc, root)?,
             table: format!(in alloc; "{}/toc", path.as_str())?,
             unfinished: format!(in alloc; "{}/toc.new", path.as_str())?,
+            names: Arc::new(alloc, Names::new(alloc, path.as_str())?)?,
             path,
             locks: Arc::try_clone(locks)?,
             lock: None,
@@ -69,6 +72,11 @@ impl Place {
     /// The path of the table.
     pub fn table(&self) -> &str {
         self.table.as_str()
+    }
+
+    /// The names in the folder, for all who sync them.
+    pub fn names(&self) -> &Arc<Names> {
+        &self.names
     }
 
     /// Makes the folder and its name firm, locks it, and then makes the table in it: where there is a table, the folder's name is
@@ -91,16 +99,22 @@ impl Place {
     /// Opens the table, where there is one. Who has the lock puts a new file of the same bytes in its place before.
     pub fn open(&mut self, alloc: Global) -> io::Result<Option<Opened>> {
         self.seen = Arc::new(alloc, Seen::nothing())?;
-        let is_new = self.is_to_renew()?;
-        if is_new {
+        let is_to_renew = self.is_to_renew()?;
+        if is_to_renew {
             self.copy()?;
         }
         let Some(file) = if_there(open(self.host, self.table.as_str()))? else {
             return Ok(None);
         };
+        let is_new = is_to_renew || self.is_renewed;
+        let folder = if is_new {
+            None
+        } else {
+            Some(open(self.host, self.path.as_str())?)
+        };
         Ok(Some(Opened {
             file,
-            folder: open(self.host, self.path.as_str())?,
+            folder,
             seen: Arc::try_clone(&self.seen)?,
             is_new,
         }))

@@ -5,10 +5,7 @@ use std::io;
 
 /// A file of a system, whether or not it is there, with a descriptor of it where one is open, and how its name is made firm.
 pub trait Device: Drop {
-    /// Makes it an empty file.
-    fn create(&mut self) -> io::Result<()>;
-
-    /// Opens it for reads, writes and syncs, in place of what was open.
+    /// Opens it for reads, writes and syncs, in place of what was open. A file of a shelf is made before, unless it is made.
     fn open(&mut self) -> io::Result<()>;
 
     /// Takes the leave to keep a descriptor between calls, where one is left.
@@ -24,7 +21,7 @@ pub trait Device: Drop {
     fn read(&self, at: u64, into: &mut [u8]) -> io::Result<usize>
         ensures { IfOk result (λ n. n ≤ length into.old) };
 
-    /// The same by a descriptor of its own.
+    /// The same by a descriptor of its own. A file that isn't made has no bytes.
     fn read_anew(&self, at: u64, into: &mut [u8]) -> io::Result<usize>
         ensures { IfOk result (λ n. n ≤ length into.old) };
 
@@ -40,7 +37,7 @@ pub trait Device: Drop {
     /// Makes the bytes firm of the file that is open.
     fn sync(&self) -> io::Result<()>;
 
-    /// The same by a descriptor of its own.
+    /// The same by a descriptor of its own. A file of a shelf is made before, unless it is made.
     fn sync_anew(&self) -> io::Result<()>;
 
     /// Makes the name firm.

@@ -11,6 +11,8 @@ use std::io::{Error, ErrorKind};
 enum Way {
     /// None is open, and nothing was written since the file was found or made.
     Closed,
+    /// One for reads of a table that is firm with its name, up to the first sync.
+    New,
     /// One for reads, up to the first sync that answers well.
     Found,
     /// The one through which all was written since the last sync.
@@ -34,32 +36,31 @@ pub struct Writing<D: Device> {
 }
 
 impl<D: Device> Writing<D> {
-    /// A table that is open. Of a new file no sync has failed.
+    /// A table that is open. Of a new file, which is firm with its name, no sync has failed, and none is made before it is
+    /// written.
     pub fn found(device: D, is_new: bool, unsynced: Unsynced) -> Writing<D>
         ensures { result.unsynced ≡ unsynced }
     {
         Writing {
             device,
-            way: Way::Found,
+            way: if is_new { Way::New } else { Way::Found },
             firm: None,
             is_broken: unsynced.is_lost() && !is_new,
             unsynced,
         }
     }
 
-    /// Makes it an empty file of a shelf.
-    pub fn create(device: D) -> io::Result<Writing<D>>
-        ensures { IfOk result (λ f. f.unsynced ≡ all_firm) }
+    /// An empty file of a shelf, which is made by the first write or sync.
+    pub fn empty(device: D) -> Writing<D>
+        ensures { result.unsynced ≡ all_firm }
     {
-        let mut device = device;
-        device.create()?;
-        Ok(Writing {
+        Writing {
             device,
             way: Way::Closed,
             firm: None,
             is_broken: false,
             unsynced: Unsynced::made(),
-        })
+        }
     }
 
     /// Fills the front of the slice with what the file has from the place on.
@@ -80,7 +81,7 @@ impl<D: Device> Writing<D> {
     fn is_open(&self) -> bool {
         match self.way {
             Way::Kept => true,
-            Way::Found => !self.device.is_renewed(),
+            Way::New | Way::Found => !self.device.is_renewed(),
             Way::Closed | Way::Through(_) => false,
         }
     }
@@ -136,7 +137,7 @@ impl<D: Device> Writing<D> {
         ensures broken { self.new.is_broken ≡ self.old.is_broken }
     {
         match self.way {
-            Way::Closed | Way::Found => {
+            Way::Closed | Way::New | Way::Found => {
                 self.way = Way::Closed;
                 if !self.is_broken {
                     self.firm = Some(self.device.len()?);
@@ -158,7 +159,7 @@ impl<D: Device> Writing<D> {
         self.device.close();
         let were_well = match self.way {
             Way::Through(were_well) => were_well,
-            Way::Closed | Way::Found | Way::Kept => true,
+            Way::Closed | Way::New | Way::Found | Way::Kept => true,
         };
         self.way = Way::Through(were_well && synced.is_ok());
         written?;
@@ -203,7 +204,7 @@ impl<D: Device> Writing<D> {
                 return Ok(());
             }
             Way::Found | Way::Closed => self.sync_found()?,
-            Way::Through(true) => {}
+            Way::New | Way::Through(true) => {}
             Way::Through(false) => {
                 self.way = Way::Through(true);
                 return Err(Error::from(ErrorKind::Other));

@@ -143,7 +143,9 @@ impl<P: Place> Folder<SystemFault> for UntoldFolder<P> {
         file: FileName,
     ) -> Result<Option<P::Sealed>, Down<SystemFault>> {
         let name = copied(alloc, self.name.as_str())?;
-        let path = path_of(alloc, self.place.path(), file)?;
+        let Ok(path) = path_of(alloc, self.place.path(), file) else {
+            return Err(Down::NoMemory);
+        };
         match self.place.length_of(path.as_str()) {
             Ok(Some(len)) => Ok(Some(self.place.sealed(path, name, file, len))),
             Ok(None) => Ok(None),

@@ -19,6 +19,6 @@ pub use disk::UntoldDisk;
 pub use fault::SystemFault;
 pub use folder::UntoldFolder;
 pub use path::{Path, PathReader, room_of};
-pub use shelf::UntoldShelf;
+pub use shelf::{UntoldShelf, path_of};
 pub use store::UntoldStore;
 pub use system::{Files, Ground, Place, Root, Sealing, System};

@@ -43,7 +43,9 @@ impl<P: Place> Renew<SystemFault> for UntoldFolder<P> {
 
     /// Faults as those of `renew`.
     fn remove(&mut self, alloc: Global, file: FileName) -> Result<(), Down<SystemFault>> {
-        let path = path_of(alloc, self.place.path(), file)?;
+        let Ok(path) = path_of(alloc, self.place.path(), file) else {
+            return Err(Down::NoMemory);
+        };
         match self.without(alloc, path.as_str()) {
             Ok(()) => Ok(()),
             Err(error) => Err(Down::Fault(counted(&mut self.faults, error))),

@@ -1,18 +1,15 @@
 // One writer's files in one dataset.
-ghost use Rattle.std.specs.Prelude.{◌≡◌, IfErr};
-
-use crate::fault::{copied, counted};
+use crate::fault::copied;
 use crate::{Files, SystemFault, UntoldDisk};
 use fd_bytes::NoMemory;
 use fd_disk::{Down, FileKind, FileName, Shelf};
 use fd_unsynced::Writing;
 use std::alloc::Global;
-use std::io::{Error, ErrorKind};
 
 /// How many bytes of small writes to a file of fields are gathered.
-const GATHERED: usize = 8192;
+const GATHERED: usize = 65_536;
 
-/// One writer's files in one dataset. They stand in the folder from the time when they are made.
+/// One writer's files in one dataset. They stand in the folder from the first write or sync of one of a batch on.
 #[derive(Drop)]
 pub struct UntoldShelf<N> {
     pub(crate) name: String,
@@ -39,7 +36,7 @@ impl<N: Files> Shelf<SystemFault> for UntoldShelf<N> {
 
     ghost faults = { λ s. s.faults };
 
-    /// Want of memory is a fault where the file is made by then.
+    /// It is made by the first write or sync, so nothing fails here but want of memory.
     fn create(
         &mut self,
         alloc: Global,
@@ -52,20 +49,16 @@ impl<N: Files> Shelf<SystemFault> for UntoldShelf<N> {
             kind,
         };
         let name = copied(alloc, self.name.as_str())?;
-        let path = path_of(alloc, self.folder.as_str(), made)?;
-        let Ok(device) = self.files.device(alloc, path) else {
+        let Ok(device) = self.files.device(alloc, self.folder.as_str(), made) else {
             return Err(Down::NoMemory);
         };
-        let disk = match Writing::create(device) {
-            Ok(file) => UntoldDisk {
-                name,
-                made: Some(made),
-                file,
-                extent: 0,
-                is_synced: false,
-                faults: 0,
-            },
-            Err(error) => return Err(Down::Fault(counted(&mut self.faults, error))),
+        let disk = UntoldDisk {
+            name,
+            made: Some(made),
+            file: Writing::empty(device),
+            extent: 0,
+            is_synced: false,
+            faults: 0,
         };
         let room = match kind {
             FileKind::Fields => GATHERED,
@@ -73,10 +66,7 @@ impl<N: Files> Shelf<SystemFault> for UntoldShelf<N> {
         };
         match self.files.gathered(alloc, disk, room) {
             Ok(file) => Ok(file),
-            Err(_) => {
-                let error = Error::from(ErrorKind::OutOfMemory);
-                Err(Down::Fault(counted(&mut self.faults, error)))
-            }
+            Err(_) => Err(Down::NoMemory),
         }
     }
 
@@ -97,19 +87,13 @@ impl<N: Files> Shelf<SystemFault> for UntoldShelf<N> {
 }
 
 /// The path of a file: `FOLDER/WRITER-SEQ.fields` or `FOLDER/WRITER-SEQ.index`.
-pub(crate) fn path_of(
-    alloc: Global,
-    folder: &str,
-    file: FileName,
-) -> Result<String, Down<SystemFault>>
-    ensures { IfErr result (λ e. e ≡ Down.NoMemory) }
-{
+pub fn path_of(alloc: Global, folder: &str, file: FileName) -> Result<String, NoMemory> {
     let kind = match file.kind {
         FileKind::Fields => "fields",
         FileKind::Index => "index",
     };
     match format!(in alloc; "{folder}/{}-{}.{kind}", file.writer, file.seq) {
         Ok(path) => Ok(path),
-        Err(_) => Err(Down::NoMemory),
+        Err(_) => Err(NoMemory),
     }
 }

@@ -33,8 +33,14 @@ pub trait Files: Send + Drop {
     /// A file that gathers small writes.
     type Gathered: Disk<SystemFault, Sealed = Self::Sealed>;
 
-    /// The file of this path, which isn't made yet.
-    fn device(&self, alloc: Global, path: String) -> Result<Self::Device, AllocError>;
+    /// The file of this name in this folder, which isn't made yet. The index of a batch that is asked for right behind its
+    /// fields is made with them.
+    fn device(
+        &mut self,
+        alloc: Global,
+        folder: &str,
+        file: FileName,
+    ) -> Result<Self::Device, NoMemory>;
 
     /// Gathers up to so many bytes for this file. The room is made now.
     fn gathered(
