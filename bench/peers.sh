@@ -155,13 +155,13 @@ static int by_key(const void *left, const void *right) {
 
 static int of_key(const void *key, const void *record) { return strcmp(key, ((const struct record *)record)->key); }
 
-/* Both files of the next batch. */
+/* Both files of the next batch, which its first message makes, so that one sync of the folder serves both. */
 static int begun(const struct dataset *of) {
     close(made(of, "index", of->batches + 1, O_WRONLY | O_CREAT | O_TRUNC));
     return made(of, "fields", of->batches + 1, O_WRONLY | O_CREAT | O_TRUNC);
 }
 
-/* A new dataset is founded: five syncs. */
+/* A new dataset is founded: three syncs. */
 static void found(const char *store, struct dataset *it) {
     static char head[HEAD];
     char table[LINE + 64], unfinished[LINE + 64];
@@ -177,21 +177,16 @@ static void found(const char *store, struct dataset *it) {
     firm(file);
     if (rename(unfinished, table)) die(table);
     firm(it->names);
-    firm(file);
-    firm(it->names);
     close(file);
     it->records = malloc(BATCH * sizeof *it->records);
-    it->fields = begun(it);
 }
 
-/* The batch is listed: five syncs. The next one's files are made before, so that one sync of the folder serves these too. */
+/* The batch is listed: five syncs. */
 static void listed(struct dataset *it) {
     char entry[ENTRY] = {0};
     long batch = ++it->batches;
-    int fields = it->fields;
-    it->fields = begun(it);
-    firm(fields);
-    close(fields);
+    firm(it->fields);
+    close(it->fields);
     firm(it->names);
     qsort(it->records, it->count, sizeof *it->records, by_key);
     int index = made(it, "index", batch, O_WRONLY), table = made(it, "toc", 0, O_WRONLY);
@@ -253,6 +248,7 @@ static int archive(const char *store, FILE *keys, FILE *stream, size_t size) {
         *record = (struct record){.batch = it->batches + 1, .at = it->count * size, .size = size};
         if (strlen(line + length + 1) >= sizeof record->key) die(line);
         strcpy(record->key, line + length + 1);
+        if (!it->count) it->fields = begun(it);
         put(it->fields, message, size, record->at);
         if (++it->count == BATCH) listed(it);
     }
