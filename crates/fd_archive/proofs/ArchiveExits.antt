@@ -10,18 +10,19 @@ use Rattle.fd_key.specs.Pairs as keys
 use Rattle.fd_schema.specs.Rules.{Rule}
 use Rattle.fd_words.specs.declared.command.Command.{Command}
 use Rattle.fd_words.specs.declared.command.Command.TheVariants.{Archive}
-use Rattle.fd_outcome.specs.declared.refusal.Refusal.{Refusal}
-use Rattle.fd_outcome.specs.declared.status.Status.{Status}
-use Rattle.fd_outcome.specs.declared.status.Status.TheVariants.{Done, Missed, Words, Refused, InputFault, OutputFault, DiskFault, NoMemory, Damaged, Limit}
-use Rattle.fd_outcome.specs.Archiving.{Stored, datasets_in, pairs_for, taken}
-use Rattle.fd_outcome.specs.Asking.{count_distinct, rules_of, stored_rules}
-use Rattle.fd_outcome.specs.Causes as causes
-use Rattle.fd_outcome.specs.Causes.{Cause, damaged_line, table_full, telling}
+use Rattle.fd_split.specs.declared.refusal.Refusal.{Refusal}
+use Rattle.fd_stored.specs.declared.status.Status.{Status}
+use Rattle.fd_stored.specs.declared.status.Status.TheVariants.{Done, Missed, Words, Refused, InputFault, OutputFault, DiskFault, NoMemory, Damaged, Limit}
+use Rattle.fd_stored.specs.Archiving.{Stored, datasets_in, pairs_for, taken}
+use Rattle.fd_outcome.specs.Asking.{rules_of, stored_rules}
+use Rattle.fd_stored.specs.Distinct.{count_distinct}
+use Rattle.fd_stored.specs.Causes as causes
+use Rattle.fd_stored.specs.Causes.{Cause, damaged_line, table_full, telling}
 use Rattle.fd_outcome.specs.Ends.{AmongTaken, Calm, Ends, Opens, Leaves, LeavesBy, LeavesStored, ReadsOut, disk_failed, input_failed, no_memory, troubles}
 use Rattle.fd_outcome.specs.Objects.{Failed, Failures, IsCalm, Object, failures, object}
 use Rattle.fd_outcome.specs.Outcome.{Outcome, archive_ends, archived, nothing_early, outcome}
 use Rattle.fd_outcome.specs.Ran.{Ran}
-use Rattle.fd_outcome.specs.Store.{AreNames, Grows, GrowsBy, IsFull, Stands}
+use Rattle.fd_stored.specs.Store.{AreNames, Grows, GrowsBy, IsFull, Stands}
 use Rattle.fd_outcome.specs.Told.{Told, ToldOrNoMemory}
 use Rattle.fd_outcome.proofs.Endings.{CanStop, CanTell, ends_early, ends_told, reached_nothing, takes_nothing}
 use Rattle.fd_outcome.proofs.Exits.{apart, by_cause, cause_calm, cause_told, either_of, is_disk_fault, is_input_fault, is_output_fault, is_whole, is_words, neither, never_whole, rose_of}
@@ -35,13 +36,13 @@ use Rattle.fd_bulk.specs.declared.bulk.Bulk.{Bulk}
 use Rattle.fd_bulk.specs.declared.bulk.BulkFault.{BulkFault}
 use Rattle.fd_bulk.specs.declared.bulk.BulkFault.TheVariants as faults
 use Rattle.fd_bulk.specs.Archived.{HasRead, IsCause, IsFront, IsRead, IsWholeTaken, OnDisk, OnInput}
-use Rattle.fd_outcome.specs.Fields.{refusal_at}
+use Rattle.fd_split.specs.Fields.{refusal_at}
 use Rattle.fd_sections.specs.declared.bad.Bad.{Bad}
 use Rattle.fd_sections.specs.declared.bad.Bad.TheVariants as bads
 use Rattle.fd_sections.specs.declared.refusal.BadAt.{BadAt}
 use Rattle.fd_sections.specs.Stream.{Bad_end}
-use Rattle.fd_outcome.specs.Inputs as inputs
-use Rattle.fd_outcome.specs.declared.refusal.Refusal.TheVariants as refusals
+use Rattle.fd_split.specs.Inputs as inputs
+use Rattle.fd_split.specs.declared.refusal.Refusal.TheVariants as refusals
 use Rattle.fd_archive.specs.Kept.{InputKept, RefusedKept, UnreadKept, WholeKept}
 use Rattle.fd_archive.specs.Telling.{IsRefusalOf, ToldFault, ToldRefusal}
 use Rattle.fd_archive.proofs.Growing.{grows_front, grows_of}

@@ -17,7 +17,7 @@ use Rattle.fd_dataset.specs.Listed.{entries_of}
 use Rattle.fd_recovery.specs.Recovered.{all_of, batches_listed, files_of, held, held_by}
 use Rattle.fd_library.specs.Open.{Seated}
 use Rattle.fd_library.specs.Stores.{GivenBack, held_by_pass}
-use Rattle.fd_outcome.specs.Store.{Adds, HasOnly}
+use Rattle.fd_stored.specs.Store.{Adds, HasOnly}
 use Rattle.fd_bulk.specs.Adding.{IsHeldBy, IsOnlyOf}
 use Rattle.fd_archive.proofs.Crashed.{IsTableAfter}
 use Rattle.fd_archive.proofs.Tables.{all_both, all_long, whole_prefix}

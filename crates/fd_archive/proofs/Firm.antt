@@ -16,8 +16,8 @@ use Rattle.fd_dataset.specs.Listed.{entries_of}
 use Rattle.fd_recovery.specs.Recovered.{batches_listed, held, held_by}
 use Rattle.fd_library.specs.Open.{OpenDataset, Seated, among, names_of}
 use Rattle.fd_library.specs.Stores.{GivenBack, GivesBack, HasSeenAll, IsGivenBack, IsSettled, ListsOrDoubted, held_by_pass, held_in, held_of, held_with}
-use Rattle.fd_outcome.specs.Archiving.{Stored, datasets_in, pairs_for}
-use Rattle.fd_outcome.specs.Store.{AddsAll}
+use Rattle.fd_stored.specs.Archiving.{Stored, datasets_in, pairs_for}
+use Rattle.fd_stored.specs.Store.{AddsAll}
 use Rattle.fd_bulk.specs.Archived.{GrowsAll}
 use Rattle.fd_archive.specs.Crashing.{IsAfterCrash, IsFirm}
 use Rattle.fd_archive.proofs.Crashed.{IsTableAfter, files_after, tables_after}

@@ -14,8 +14,8 @@ use Rattle.fd_library.specs.Open.{OpenDataset, Seated, among, names_of}
 use Rattle.fd_library.specs.Stores.{GivenBack, GivesBack, HasSeenAll, IsGivenBack, IsSettled, KeepsFolder, held_in, held_of, held_with}
 use Rattle.fd_key.specs.Pairs.{Pair}
 use Rattle.fd_schema.specs.Rules.{Rule}
-use Rattle.fd_outcome.specs.Archiving.{Stored, pairs_for, taken}
-use Rattle.fd_outcome.specs.Store.{Adds, AddsAll, Grows, GrowsBy, IsFull, entries_in, if_listed}
+use Rattle.fd_stored.specs.Archiving.{Stored, pairs_for, taken}
+use Rattle.fd_stored.specs.Store.{Adds, AddsAll, Grows, GrowsBy, IsFull, entries_in, if_listed}
 use Rattle.fd_outcome.proofs.Leaving.{grows_none}
 use Rattle.fd_bulk.specs.Adding.{IsHeldBy}
 use Rattle.fd_bulk.specs.Archived as bulks

@@ -5,8 +5,8 @@ use Rattle.std.specs.Str.{bytes_eq}
 use Rattle.std.proofs.lemmas.List.Elements.{Contains-append_left}
 use Rattle.fd_disk.specs.Folders.{Holdings, folder_at}
 use Rattle.fd_entries.specs.declared.batch.Pair.{Pair}
-use Rattle.fd_outcome.specs.Store.{Adds, Grows, GrowsBy, Sorted, table_at}
-use Rattle.fd_outcome.specs.Archiving.{Stored, pairs_for}
+use Rattle.fd_stored.specs.Store.{Adds, Grows, GrowsBy, Sorted, table_at}
+use Rattle.fd_stored.specs.Archiving.{Stored, pairs_for}
 use Rattle.fd_archive.specs.Crashing.{GrowsFirmly, IsAfterCrash, IsUntouched}
 
 if_both : (p : Pair) (xs ys zs : List Pair) → zs ≡ xs ++ ys → (b : Bool) → (if b then p ∷ zs else zs) ≡ (if b then p ∷ xs else xs) ++ ys

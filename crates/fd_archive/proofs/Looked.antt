@@ -10,8 +10,8 @@ use Rattle.fd_disk.specs.Images.{IsImage, firm_file, synced}
 use Rattle.fd_entries.specs.declared.batch.Pair.{Pair}
 use Rattle.fd_entries.specs.Table.{listed}
 use Rattle.fd_recovery.specs.Recovered.{batches_listed, held, held_by}
-use Rattle.fd_outcome.specs.Archiving.{Stored, pairs_for}
-use Rattle.fd_outcome.specs.Store.{Adds, AddsAll, Grows, GrowsBy, IsLookedAt, IsLookedThrough, Sorted, table_at}
+use Rattle.fd_stored.specs.Archiving.{Stored, pairs_for}
+use Rattle.fd_stored.specs.Store.{Adds, AddsAll, Grows, GrowsBy, IsLookedAt, IsLookedThrough, Sorted, table_at}
 use Rattle.fd_archive.specs.Crashing.{GrowsFirmly, IsAfterCrash, IsFirm, IsUntouched}
 use Rattle.fd_archive.proofs.Crashed.{IsTableAfter, after_crash, files_after, tables_after}
 

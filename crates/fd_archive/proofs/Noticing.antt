@@ -6,16 +6,16 @@ use Rattle.fd_disk.specs.Folders.{Holdings}
 use Rattle.fd_key.specs.Pairs as keys
 use Rattle.fd_schema.specs.Rules.{Rule}
 use Rattle.fd_words.specs.declared.command.Command.TheVariants.{Archive}
-use Rattle.fd_outcome.specs.declared.refusal.Refusal.{Refusal}
-use Rattle.fd_outcome.specs.declared.status.Status.{Status}
-use Rattle.fd_outcome.specs.declared.status.Status.TheVariants.{Damaged, Limit, NoMemory}
-use Rattle.fd_outcome.specs.Archiving.{datasets_in, taken}
+use Rattle.fd_split.specs.declared.refusal.Refusal.{Refusal}
+use Rattle.fd_stored.specs.declared.status.Status.{Status}
+use Rattle.fd_stored.specs.declared.status.Status.TheVariants.{Damaged, Limit, NoMemory}
+use Rattle.fd_stored.specs.Archiving.{datasets_in, taken}
 use Rattle.fd_outcome.specs.Asking.{rules_of}
 use Rattle.fd_outcome.specs.Ends.{AmongTaken, no_memory}
 use Rattle.fd_outcome.specs.Noticing.{Noticed, Notices, ReadsFitly}
 use Rattle.fd_outcome.specs.Objects.{Object, object}
-use Rattle.fd_outcome.specs.Refusals.{refusal_status}
-use Rattle.fd_outcome.specs.Store.{AreNames}
+use Rattle.fd_stored.specs.Refusals.{refusal_status}
+use Rattle.fd_stored.specs.Store.{AreNames}
 use Rattle.fd_outcome.specs.Told.{Told, ToldOrNoMemory}
 use Rattle.fd_telling.specs.Stops.{ToldSome}
 use Rattle.fd_outcome.proofs.Exits.{by_refusal, is_whole, never_whole}

@@ -6,24 +6,24 @@ use Rattle.fd_disk.specs.Folders.{Holdings, WhereTold}
 use Rattle.fd_listing.specs.Lines.{line}
 use Rattle.fd_key.specs.Pairs as keys
 use Rattle.fd_schema.specs.Rules.{Rule}
-use Rattle.fd_outcome.specs.declared.refusal.Refusal.{Refusal}
-use Rattle.fd_outcome.specs.declared.refusal.Refusal.TheVariants as refusals
-use Rattle.fd_outcome.specs.declared.status.Status.{Status}
-use Rattle.fd_outcome.specs.declared.status.Status.TheVariants.{Done, InputFault, DiskFault, NoMemory, Damaged, Limit, OutputFault}
-use Rattle.fd_outcome.specs.declared.status.Status.TheVariants as statuses
-use Rattle.fd_outcome.specs.Archiving.{Stored, pairs_for, taken}
+use Rattle.fd_split.specs.declared.refusal.Refusal.{Refusal}
+use Rattle.fd_split.specs.declared.refusal.Refusal.TheVariants as refusals
+use Rattle.fd_stored.specs.declared.status.Status.{Status}
+use Rattle.fd_stored.specs.declared.status.Status.TheVariants.{Done, InputFault, DiskFault, NoMemory, Damaged, Limit, OutputFault}
+use Rattle.fd_stored.specs.declared.status.Status.TheVariants as statuses
+use Rattle.fd_stored.specs.Archiving.{Stored, pairs_for, taken}
 use Rattle.fd_schema.specs.Grammar as schemas
 use Rattle.fd_schema.specs.Reading.{IsFirst}
 use Rattle.fd_schema.specs.declared.fault.SchemaKind.{SchemaKind}
 use Rattle.fd_outcome.specs.Asking.{rules_of, stored_rules}
-use Rattle.fd_outcome.specs.Causes as causes
-use Rattle.fd_outcome.specs.Causes.{Cause, damaged_line, table_full, telling}
+use Rattle.fd_stored.specs.Causes as causes
+use Rattle.fd_stored.specs.Causes.{Cause, damaged_line, table_full, telling}
 use Rattle.fd_outcome.specs.Ends.{disk_failed, input_failed, no_memory}
 use Rattle.fd_outcome.specs.Objects.{object}
 use Rattle.fd_words.specs.declared.command.Command.{Command}
 use Rattle.fd_words.specs.declared.command.Command.TheVariants as commands
-use Rattle.fd_outcome.specs.Refusals.{refusal_line, refusal_status}
-use Rattle.fd_outcome.specs.Store.{Grows, GrowsBy}
+use Rattle.fd_stored.specs.Refusals.{refusal_line, refusal_status}
+use Rattle.fd_stored.specs.Store.{Grows, GrowsBy}
 use Rattle.fd_outcome.specs.Told.{Told, ToldOrNoMemory}
 use Rattle.fd_bulk.specs.declared.bulk.Bulk.{Bulk}
 use Rattle.fd_bulk.specs.declared.bulk.BulkFault.{BulkFault}

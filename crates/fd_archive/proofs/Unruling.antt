@@ -6,12 +6,12 @@ use Rattle.fd_io.specs.Streams.{Takes}
 use Rattle.fd_disk.specs.Folders.{Holdings, WhereTold}
 use Rattle.fd_key.specs.Pairs as keys
 use Rattle.fd_words.specs.declared.command.Command.TheVariants.{Archive}
-use Rattle.fd_outcome.specs.declared.status.Status.{Status}
-use Rattle.fd_outcome.specs.declared.status.Status.TheVariants.{DiskFault, NoMemory}
+use Rattle.fd_stored.specs.declared.status.Status.{Status}
+use Rattle.fd_stored.specs.declared.status.Status.TheVariants.{DiskFault, NoMemory}
 use Rattle.fd_outcome.specs.declared.stored.Unruled.{Unruled}
 use Rattle.fd_outcome.specs.declared.stored.Unruled.TheVariants as unruled
 use Rattle.fd_outcome.specs.Asking.{rules_of}
-use Rattle.fd_outcome.specs.Causes.{table_full}
+use Rattle.fd_stored.specs.Causes.{table_full}
 use Rattle.fd_outcome.specs.Ends.{disk_failed, no_memory}
 use Rattle.fd_outcome.specs.Objects.{object}
 use Rattle.fd_outcome.specs.Ran.{Ran}

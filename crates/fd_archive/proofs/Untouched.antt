@@ -9,7 +9,7 @@ use Rattle.fd_entries.specs.declared.batch.Pair.{Pair}
 use Rattle.fd_entries.specs.Table.{listed}
 use Rattle.fd_recovery.specs.Recovered.{batches_listed, held, held_by}
 use Rattle.fd_library.specs.Stores.{KeepsFolder, KeepsTable}
-use Rattle.fd_outcome.specs.Store.{Adds}
+use Rattle.fd_stored.specs.Store.{Adds}
 use Rattle.fd_bulk.proofs.Ended.{none_added}
 use Rattle.fd_archive.specs.Crashing.{IsUntouched}
 use Rattle.fd_archive.proofs.Crashed.{IsTableAfter}

@@ -6,17 +6,17 @@ use Rattle.fd_entries.specs.declared.batch.Pair.{Pair}
 use Rattle.fd_key.specs.Pairs as keys
 use Rattle.fd_schema.specs.Rules.{Rule}
 pub use Rattle.fd_recovery.specs.Crashing.{AreFirm, IsAfterCrash, IsFirmTable, IsFolderAfter}
-use Rattle.fd_outcome.specs.Causes.{Cause, table_full}
+use Rattle.fd_stored.specs.Causes.{Cause, table_full}
 use Rattle.fd_outcome.specs.Asking.{rules_of}
 use Rattle.fd_outcome.specs.Objects.{Object}
 use Rattle.fd_outcome.specs.Outcome.{generated_messages}
 use Rattle.fd_outcome.specs.Trying.{trial_given, trial_rules}
 use Rattle.fd_words.specs.declared.command.Command.{Command}
 use Rattle.fd_words.specs.declared.command.Command.TheVariants as commands
-use Rattle.fd_outcome.specs.Archiving.{Stored, datasets_in, pairs_for, taken, taken_of}
-use Rattle.fd_outcome.specs.Store.{Adds, AddsAll, Grows, Sorted, table_at}
-use Rattle.fd_outcome.specs.declared.status.Status.{Status}
-use Rattle.fd_outcome.specs.declared.status.Status.TheVariants.{Done, Missed, Words, Refused, InputFault, OutputFault, DiskFault, NoMemory, Damaged, Limit}
+use Rattle.fd_stored.specs.Archiving.{Stored, datasets_in, pairs_for, taken, taken_of}
+use Rattle.fd_stored.specs.Store.{Adds, AddsAll, Grows, Sorted, table_at}
+use Rattle.fd_stored.specs.declared.status.Status.{Status}
+use Rattle.fd_stored.specs.declared.status.Status.TheVariants.{Done, Missed, Words, Refused, InputFault, OutputFault, DiskFault, NoMemory, Damaged, Limit}
 
 -- These messages are whole in each store that a crash may leave: each dataset of them that was sound has all its pairs.
 pub record IsFirm (workers : ℕ) (all : List Stored) (h i : Holdings) : Type 0 where

@@ -4,10 +4,10 @@ use Rattle.fd_disk.specs.Folders.{Holdings, WhereTold, folder_at}
 use Rattle.fd_recovery.specs.Recovered.{IsUndamaged}
 use Rattle.fd_key.specs.Pairs.{Pair}
 use Rattle.fd_schema.specs.Rules.{Rule}
-use Rattle.fd_outcome.specs.Asking.{count_distinct}
-use Rattle.fd_outcome.specs.Archiving.{Stored, datasets_in, pairs_for, taken}
-use Rattle.fd_outcome.specs.Causes.{BadFile, BadTable, Cause}
-use Rattle.fd_outcome.specs.Store.{Grows, GrowsBy, IsFull, Stands}
+use Rattle.fd_stored.specs.Distinct.{count_distinct}
+use Rattle.fd_stored.specs.Archiving.{Stored, datasets_in, pairs_for, taken}
+use Rattle.fd_stored.specs.Causes.{BadFile, BadTable, Cause}
+use Rattle.fd_stored.specs.Store.{Grows, GrowsBy, IsFull, Stands}
 use Rattle.fd_bulk.specs.declared.bulk.Bulk.{Bulk}
 use Rattle.fd_bulk.specs.declared.bulk.BulkFault.{BulkFault}
 use Rattle.fd_bulk.specs.declared.bulk.BulkFault.TheVariants as faults

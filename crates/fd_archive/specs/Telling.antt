@@ -3,16 +3,16 @@ use Rattle.std.specs.Prelude.{◌≡◌, ◌+◌, ◌++◌, ℕ, Bool, List, cod
 use Rattle.fd_listing.specs.Lines.{line}
 use Rattle.fd_sections.specs.declared.refusal.BadAt.{BadAt}
 use Rattle.fd_sections.specs.Stream.{Bad_end}
-use Rattle.fd_outcome.specs.Causes as causes
-use Rattle.fd_outcome.specs.Causes.{damaged_line, table_full, telling}
+use Rattle.fd_stored.specs.Causes as causes
+use Rattle.fd_stored.specs.Causes.{damaged_line, table_full, telling}
 use Rattle.fd_outcome.specs.Ends.{disk_failed, input_failed, no_memory}
-use Rattle.fd_outcome.specs.Inputs.{refused}
-use Rattle.fd_outcome.specs.Refusals.{refusal_line, refusal_status}
+use Rattle.fd_split.specs.Inputs.{refused}
+use Rattle.fd_stored.specs.Refusals.{refusal_line, refusal_status}
 use Rattle.fd_outcome.specs.Told.{Told, ToldOrNoMemory}
-use Rattle.fd_outcome.specs.declared.refusal.Refusal.{Refusal}
-use Rattle.fd_outcome.specs.declared.refusal.Refusal.TheVariants as refusals
-use Rattle.fd_outcome.specs.declared.status.Status.{Status}
-use Rattle.fd_outcome.specs.declared.status.Status.TheVariants as statuses
+use Rattle.fd_split.specs.declared.refusal.Refusal.{Refusal}
+use Rattle.fd_split.specs.declared.refusal.Refusal.TheVariants as refusals
+use Rattle.fd_stored.specs.declared.status.Status.{Status}
+use Rattle.fd_stored.specs.declared.status.Status.TheVariants as statuses
 use Rattle.fd_bulk.specs.declared.bulk.BulkFault.{BulkFault}
 use Rattle.fd_bulk.specs.declared.bulk.BulkFault.TheVariants as faults
 

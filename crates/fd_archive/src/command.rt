@@ -3,7 +3,8 @@ ghost use Rattle.std.specs.Prelude.{◌≡◌, ◌≤◌, false, List, ℕ, Ok, 
 ghost use Rattle.fd_disk.specs.Folders.{WhereTold};
 ghost use Rattle.fd_schema.specs.Grammar.{IsSchema};
 ghost use Rattle.fd_words.specs.declared.command.Command.TheVariants.{Archive};
-ghost use Rattle.fd_outcome.specs.{Asking.{rules_of}, Noticing.{Notices, ReadsFitly, SparesDamaged}, Ran.{Ran}};
+ghost use Rattle.fd_outcome.specs.{Asking.{rules_of}, Noticing.{Notices, ReadsFitly}, Ran.{Ran}};
+ghost use Rattle.fd_stored.specs.Sparing.{SparesDamaged};
 ghost use Rattle.fd_objects.specs.Objects.{Over, since};
 ghost use Rattle.fd_archive.specs.Crashing.{OutlastsCrash};
 
@@ -11,7 +12,8 @@ use crate::storing::Setup;
 use crate::telling::{tell_counts, tell_fault};
 use fd_key::Given;
 use fd_objects::{Objects, World};
-use fd_outcome::{Status, stored_schema};
+use fd_outcome::stored_schema;
+use fd_stored::Status;
 use fd_telling::tell_unruled;
 use fd_words::Root;
 use std::sync::Wait;

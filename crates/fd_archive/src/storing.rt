@@ -2,7 +2,7 @@
 ghost use Rattle.std.specs.Prelude.{◌≡◌, ◌≤◌, ℕ, List, [], Some, IfSome, OnOk, false, is_some};
 ghost use Rattle.fd_disk.specs.Folders.{WhereTold};
 ghost use Rattle.fd_schema.specs.Grammar.{IsSchema};
-ghost use Rattle.fd_outcome.specs.Noticing.{SparesDamaged};
+ghost use Rattle.fd_stored.specs.Sparing.{SparesDamaged};
 ghost use Rattle.fd_bulk.specs.Archived.{HasReasons};
 ghost use Rattle.fd_archive.specs.Kept.{InputKept};
 

@@ -7,9 +7,10 @@ ghost use Rattle.fd_archive.specs.Telling.{ToldFault};
 use fd_bulk::{Bulk, BulkFault};
 use fd_io::Sink;
 use fd_outcome::{
-    Refusal, Status, refusal_of, tell, tell_disk_failed, tell_input_failed, tell_no_memory,
-    tell_refusal, tell_text,
+    tell, tell_disk_failed, tell_input_failed, tell_no_memory, tell_refusal, tell_text,
 };
+use fd_split::{Refusal, refusal_of};
+use fd_stored::Status;
 use fd_telling::{Broken, tell_broken};
 use std::alloc::Global;
 

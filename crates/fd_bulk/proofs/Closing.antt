@@ -18,10 +18,10 @@ use Rattle.fd_recovery.specs.Recovered.{IsUndamaged}
 use Rattle.fd_library.specs.Calls.{Changes}
 use Rattle.fd_library.specs.Open.{AreDistinct, OpenDataset, OpenDatasets, among, names_of}
 use Rattle.fd_library.specs.Stores.{held_in, held_of, held_with}
-use Rattle.fd_outcome.specs.Archiving.{Stored, pairs_for}
+use Rattle.fd_stored.specs.Archiving.{Stored, pairs_for}
 use Rattle.fd_shares.specs.declared.round.Desk.{Desk}
 use Rattle.fd_shares.specs.declared.round.Job.{Job}
-use Rattle.fd_outcome.specs.Store.{Adds, AddsAll}
+use Rattle.fd_stored.specs.Store.{Adds, AddsAll}
 use Rattle.fd_bulk.specs.Archived.{Grows, GrowsAll, IsBack, IsSure}
 use Rattle.fd_bulk.specs.Columns.{ColumnWorks}
 use Rattle.fd_bulk.specs.Crewing.{Crewed, Finished, HasBegun, HasFull, HoldsRest, SeeFull, Stopping, desks_at}

@@ -11,7 +11,7 @@ use Rattle.fd_dataset.specs.Listed.{entries_of}
 use Rattle.fd_recovery.specs.Recovered.{batches_listed}
 use Rattle.fd_archiver.specs.Writing.{Writing}
 use Rattle.fd_shares.specs.declared.round.Desk.{Desk}
-use Rattle.fd_outcome.specs.Store.{Adds, AddsAll}
+use Rattle.fd_stored.specs.Store.{Adds, AddsAll}
 use Rattle.fd_bulk.specs.Columns.{AreHome, ColumnWorks, amounts, numbers}
 use Rattle.fd_shares.specs.Dealing.{dealt_to}
 use Rattle.fd_bulk.specs.Gathering.{AreLanes, Lane, receipts_of, writers_in}

@@ -5,7 +5,7 @@ use Rattle.fd_disk.specs.Folders.{Contents, Holdings}
 use Rattle.fd_turn.specs.declared.board.Pass.{Pass}
 use Rattle.fd_archiver.specs.Writing.{Writing}
 use Rattle.fd_library.specs.Open.{OpenDatasets}
-use Rattle.fd_outcome.specs.Archiving.{Stored}
+use Rattle.fd_stored.specs.Archiving.{Stored}
 use Rattle.fd_bulk.specs.declared.bulk.BulkFault.{BulkFault}
 use Rattle.fd_bulk.specs.declared.bulk.BulkFault.TheVariants as faults
 use Rattle.fd_shares.specs.declared.round.Job.{Job}

@@ -20,10 +20,10 @@ use Rattle.fd_recovery.specs.Recovered.{batches_listed, files_of}
 use Rattle.fd_archiver.specs.Writing.{Writing}
 use Rattle.fd_library.specs.Open.{OpenDataset, Seated, seat_of}
 use Rattle.fd_library.specs.Stores.{held_by_pass, held_in}
-use Rattle.fd_outcome.specs.Archiving.{Stored, pairs_for}
+use Rattle.fd_stored.specs.Archiving.{Stored, pairs_for}
 use Rattle.fd_shares.specs.declared.round.Desk.{Desk}
 use Rattle.fd_shares.specs.declared.round.Job.{Job}
-use Rattle.fd_outcome.specs.Store.{Adds, AddsAll}
+use Rattle.fd_stored.specs.Store.{Adds, AddsAll}
 use Rattle.fd_bulk.specs.Adding.{IsHeldBy, IsOnlyOf}
 use Rattle.fd_bulk.specs.Archived.{IsBack, IsSure}
 use Rattle.fd_bulk.specs.Columns.{ColumnWorks, amounts, numbers}

@@ -14,8 +14,8 @@ use Rattle.fd_archiver.specs.declared.fault.FlushFault.{FlushFault}
 use Rattle.fd_archiver.specs.Writing.{Writing}
 use Rattle.fd_library.specs.Open.{AreDistinct, AreSeated, OpenDataset, OpenDatasets, among, names_of}
 use Rattle.fd_library.specs.Stores.{held_with}
-use Rattle.fd_outcome.specs.Causes.{Cause}
-use Rattle.fd_outcome.specs.Archiving.{Stored, Taken, datasets_in, taken, pairs_for}
+use Rattle.fd_stored.specs.Causes.{Cause}
+use Rattle.fd_stored.specs.Archiving.{Stored, Taken, datasets_in, taken, pairs_for}
 use Rattle.fd_bulk.specs.declared.bulk.Bulk.{Bulk}
 use Rattle.fd_bulk.specs.declared.bulk.BulkFault.{BulkFault}
 use Rattle.fd_bulk.specs.declared.bulk.BulkFault.TheVariants as faults

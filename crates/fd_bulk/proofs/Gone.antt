@@ -4,9 +4,9 @@ use Rattle.fd_disk.specs.declared.folders.FileName.{FileName}
 use Rattle.fd_disk.specs.Folders.{Contents, Holdings, folder_at}
 use Rattle.fd_sections.specs.declared.refusal.BadAt.{BadAt}
 use Rattle.fd_sections.specs.Message.{Sections, message_octets}
-use Rattle.fd_outcome.specs.declared.refusal.Refusal.TheVariants as refusals
-use Rattle.fd_outcome.specs.Fields.{numbered, refusal_at}
-use Rattle.fd_outcome.specs.Positions.{FieldsOn, Position, RefusesNext, weight}
+use Rattle.fd_split.specs.declared.refusal.Refusal.TheVariants as refusals
+use Rattle.fd_split.specs.Fields.{numbered, refusal_at}
+use Rattle.fd_split.specs.Positions.{FieldsOn, Position, RefusesNext, weight}
 use Rattle.fd_key.specs.Keys.{key_of}
 use Rattle.fd_key.specs.Pairs.{Pair}
 use Rattle.fd_schema.specs.Rules.{Rule, Texts, place_from}
@@ -14,9 +14,9 @@ use Rattle.fd_turn.specs.declared.board.Pass.{Pass}
 use Rattle.fd_archiver.specs.declared.fault.FlushFault.{FlushFault}
 use Rattle.fd_archiver.specs.Writing.{Writing}
 use Rattle.fd_library.specs.Open.{OpenDatasets, names_of}
-use Rattle.fd_outcome.specs.Causes.{BadFile, BadTable}
-use Rattle.fd_outcome.specs.Store.{Stands}
-use Rattle.fd_outcome.specs.Archiving.{Stored, datasets_in, is_too_many, stored_at}
+use Rattle.fd_stored.specs.Causes.{BadFile, BadTable}
+use Rattle.fd_stored.specs.Store.{Stands}
+use Rattle.fd_stored.specs.Archiving.{Stored, datasets_in, is_too_many, stored_at}
 use Rattle.fd_sheets.specs.Sheets.{Passes}
 use Rattle.fd_bulk.specs.declared.bulk.BulkFault.{BulkFault}
 use Rattle.fd_bulk.specs.declared.bulk.BulkFault.TheVariants as faults
@@ -231,7 +231,7 @@ module _ {D H X Y F : Type 0} (has : D → Option Contents) (kept : H → Option
       halts_round faults.InputLimit c = absurd c.1
       halts_round faults.NoMemory c = inr (record { lost = 0; crewed = c.0; none = none }, tt)
 
-      halts_ends : {Z : Type 0} (fault : BulkFault Z) → RanAs has kept start before 0 (all ++ waits) (Err fault) l qs ks → (t : Rattle.fd_outcome.specs.Archiving.Taken) → Rattle.fd_bulk.specs.Inputs.EndsTaken fault t
+      halts_ends : {Z : Type 0} (fault : BulkFault Z) → RanAs has kept start before 0 (all ++ waits) (Err fault) l qs ks → (t : Rattle.fd_stored.specs.Archiving.Taken) → Rattle.fd_bulk.specs.Inputs.EndsTaken fault t
       halts_ends (faults.Input f) c t = absurd c.1
       halts_ends (faults.Message at) c t = absurd c.1
       halts_ends (faults.NoMap k field) c t = absurd c.1

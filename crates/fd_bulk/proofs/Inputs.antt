@@ -11,19 +11,19 @@ use Rattle.fd_sections.specs.Joining.{IsWaiting}
 use Rattle.fd_sections.proofs.Frames.{ends_framed}
 use Rattle.fd_key.specs.Pairs.{Pair}
 use Rattle.fd_schema.specs.Rules.{Rule}
-use Rattle.fd_outcome.specs.declared.refusal.Refusal.TheVariants.{Cut, Input}
+use Rattle.fd_split.specs.declared.refusal.Refusal.TheVariants.{Cut, Input}
 use Rattle.fd_bulk.specs.declared.bulk.BulkFault.{BulkFault}
 use Rattle.fd_bulk.specs.declared.bulk.BulkFault.TheVariants as faults
-use Rattle.fd_outcome.specs.Limits.{input_limit}
-use Rattle.fd_outcome.specs.Causes.{Cause, InStream}
-use Rattle.fd_outcome.specs.Fields.{behind_fields, fields_after}
-use Rattle.fd_outcome.specs.Positions.{Position, at_message, fed_at}
-use Rattle.fd_outcome.specs.Inputs.{refused}
-use Rattle.fd_outcome.specs.Archiving.{Stored, Taken, datasets_in, ended, in_stream, taken, taken_after, taken_of, taken_of_fields}
+use Rattle.fd_split.specs.Limits.{input_limit}
+use Rattle.fd_stored.specs.Causes.{Cause, InStream}
+use Rattle.fd_split.specs.Fields.{behind_fields, fields_after}
+use Rattle.fd_split.specs.Positions.{Position, at_message, fed_at}
+use Rattle.fd_split.specs.Inputs.{refused}
+use Rattle.fd_stored.specs.Archiving.{Stored, Taken, datasets_in, ended, in_stream, taken, taken_after, taken_of, taken_of_fields}
 use Rattle.fd_bulk.specs.Archived.{IsWholeTaken}
 use Rattle.fd_bulk.specs.Inputs.{EndsAfter, EndedOn}
 use Rattle.fd_bulk.specs.Taking.{Seen, StoredOn, behind, taken_from}
-use Rattle.fd_outcome.proofs.FrameLaws.{all_of, begins_with, front_of}
+use Rattle.fd_split.proofs.FrameLaws.{all_of, begins_with, front_of}
 use Rattle.fd_bulk.proofs.Takings.{behind_both, piece_later}
 
 -- ---- how it went on

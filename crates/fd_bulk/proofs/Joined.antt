@@ -14,7 +14,7 @@ use Rattle.fd_recovery.specs.Recovered.{IsUndamaged}
 use Rattle.fd_library.specs.Answers.{IsOpened}
 use Rattle.fd_library.specs.Open.{IsWhole, OpenDataset, Seated, seat_of}
 use Rattle.fd_library.specs.Stores.{held_by_pass, held_in, held_of}
-use Rattle.fd_outcome.specs.Archiving.{Stored, pairs_for}
+use Rattle.fd_stored.specs.Archiving.{Stored, pairs_for}
 use Rattle.fd_shares.specs.declared.round.Desk.{Desk}
 use Rattle.fd_shares.specs.declared.round.Job.{Job}
 use Rattle.fd_shares.specs.declared.round.Parcel.{Parcel}

@@ -11,7 +11,7 @@ use Rattle.fd_turn.specs.Views.{View, donor, recipient}
 use Rattle.fd_archiver.specs.Writing.{Writing}
 use Rattle.fd_library.specs.Calls.{AsksWriter, Changes, IsNewWriter}
 use Rattle.fd_library.specs.Open.{AreOpen, OpenDataset, OpenDatasets, names_of}
-use Rattle.fd_outcome.specs.Archiving.{Stored}
+use Rattle.fd_stored.specs.Archiving.{Stored}
 use Rattle.fd_shares.specs.declared.round.Desk.{Desk}
 use Rattle.fd_shares.specs.declared.round.Job.{Job}
 use Rattle.fd_shares.specs.declared.round.Parcel.{Parcel}

@@ -6,7 +6,7 @@ use Rattle.std.specs.Str.{bytes_eq}
 use Rattle.fd_schema.specs.Reading.{seen_place}
 use Rattle.fd_schema.specs.declared.place.Place.{Place}
 use Rattle.fd_library.specs.Open.{among}
-use Rattle.fd_outcome.specs.Asking.{is_among}
+use Rattle.fd_stored.specs.Distinct.{is_among}
 use Rattle.fd_sheets.specs.declared.sheets.Sheet.{Sheet}
 use Rattle.fd_sheets.specs.declared.sheets.Unplaced.{Unplaced}
 use Rattle.fd_sheets.specs.Names.{HasNoted, IsKnown}

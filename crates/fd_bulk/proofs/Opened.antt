@@ -15,8 +15,8 @@ use Rattle.fd_library.specs.Answers.{HoldsAs}
 use Rattle.fd_library.specs.Calls.{Changes, Opens}
 use Rattle.fd_library.specs.Open.{AreOpen, IsWhole, OpenDataset, OpenDatasets, among, names_of, seat_of}
 use Rattle.fd_library.specs.Stores.{held_in, held_of}
-use Rattle.fd_outcome.specs.Archiving.{Stored, datasets_in, pairs_for}
-use Rattle.fd_outcome.specs.Asking.{is_among}
+use Rattle.fd_stored.specs.Archiving.{Stored, datasets_in, pairs_for}
+use Rattle.fd_stored.specs.Distinct.{is_among}
 use Rattle.fd_shares.specs.declared.round.Job.{Job}
 use Rattle.fd_shares.specs.declared.round.Parcel.{Parcel}
 use Rattle.fd_bulk.specs.Crewing.{AllBegun, AreUntouched, Closes, Crewed, Deals, HasBegun, HoldsRest, OpenedAs, Running, Waits, desks_at}

@@ -5,7 +5,7 @@ use Rattle.fd_turn.specs.declared.board.Pass.{Pass}
 use Rattle.fd_archiver.specs.Writing.{Writing}
 use Rattle.fd_library.specs.Calls.{Changes, Opens}
 use Rattle.fd_library.specs.Open.{AreOpen, OpenDataset, OpenDatasets, among, names_of}
-use Rattle.fd_outcome.specs.Archiving.{is_too_many}
+use Rattle.fd_stored.specs.Archiving.{is_too_many}
 use Rattle.fd_shares.specs.declared.round.Desk.{Desk}
 use Rattle.fd_shares.specs.declared.round.Job.{Job}
 use Rattle.fd_bulk.specs.Crewing.{AreMet}

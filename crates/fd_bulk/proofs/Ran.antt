@@ -12,7 +12,7 @@ use Rattle.fd_archiver.specs.declared.fault.FlushFault.{FlushFault}
 use Rattle.fd_archiver.specs.declared.fault.FlushFault.TheVariants as flushes
 use Rattle.fd_archiver.specs.Writing.{Writing}
 use Rattle.fd_library.specs.Open.{AreDistinct, OpenDataset, OpenDatasets, among, names_of}
-use Rattle.fd_outcome.specs.Archiving.{Stored, pairs_for}
+use Rattle.fd_stored.specs.Archiving.{Stored, pairs_for}
 use Rattle.std.specs.Str.{bytes_eq}
 use Rattle.fd_bulk.specs.declared.bulk.BulkFault.{BulkFault}
 use Rattle.fd_shares.specs.declared.round.Halt.{Halt}

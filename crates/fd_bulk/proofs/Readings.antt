@@ -15,15 +15,15 @@ use Rattle.fd_turn.specs.declared.board.Pass.{Pass}
 use Rattle.fd_archiver.specs.declared.fault.FlushFault.{FlushFault}
 use Rattle.fd_archiver.specs.Writing.{Writing}
 use Rattle.fd_library.specs.Open.{OpenDatasets}
-use Rattle.fd_outcome.specs.Limits.{input_limit}
-use Rattle.fd_outcome.specs.Archiving.{Stored, Taken, datasets_in, taken}
-use Rattle.fd_outcome.proofs.InputLemmas.{gives_nothing}
+use Rattle.fd_split.specs.Limits.{input_limit}
+use Rattle.fd_stored.specs.Archiving.{Stored, Taken, datasets_in, taken}
+use Rattle.fd_split.proofs.InputLemmas.{gives_nothing}
 use Rattle.fd_bulk.specs.declared.bulk.BulkFault.{BulkFault}
 use Rattle.fd_bulk.specs.declared.bulk.BulkFault.TheVariants as faults
 use Rattle.fd_bulk.specs.declared.reading.Counts.{Counts}
 use Rattle.fd_shares.specs.declared.round.Job.{Job}
 use Rattle.fd_shares.specs.declared.round.Parcel.{Parcel}
-use Rattle.fd_outcome.specs.Positions.{IsIdle, Position, at_message, fed_at, weight}
+use Rattle.fd_split.specs.Positions.{IsIdle, Position, at_message, fed_at, weight}
 use Rattle.fd_sections.specs.Message.{Sections}
 use Rattle.fd_bulk.specs.Archived.{HasRead, IsWholeTaken}
 use Rattle.fd_bulk.specs.Crewing.{Closes, Deals, octets_of}

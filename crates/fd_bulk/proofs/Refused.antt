@@ -20,9 +20,9 @@ use Rattle.fd_recovery.specs.Recovered.{WithTable}
 use Rattle.fd_library.specs.Answers as libraries
 use Rattle.fd_library.specs.Open.{OpenDatasets, among, names_of}
 use Rattle.fd_library.specs.Stores.{LooksInto, held_with}
-use Rattle.fd_outcome.specs.Archiving.{Stored, datasets_in, is_too_many}
-use Rattle.fd_outcome.specs.Causes.{BadFile, BadTable}
-use Rattle.fd_outcome.specs.Store.{Stands}
+use Rattle.fd_stored.specs.Archiving.{Stored, datasets_in, is_too_many}
+use Rattle.fd_stored.specs.Causes.{BadFile, BadTable}
+use Rattle.fd_stored.specs.Store.{Stands}
 use Rattle.fd_bulk.specs.declared.bulk.BulkFault.{BulkFault}
 use Rattle.fd_bulk.specs.declared.bulk.BulkFault.TheVariants as faults
 use Rattle.fd_shares.specs.declared.round.Job.{Job}

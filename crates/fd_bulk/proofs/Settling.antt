@@ -12,7 +12,7 @@ use Rattle.fd_turn.specs.Passes.{BoardId}
 use Rattle.fd_archiver.specs.declared.fault.FlushFault.{FlushFault}
 use Rattle.fd_archiver.specs.Writing.{Writing}
 use Rattle.fd_library.specs.Open.{OpenDatasets, names_of}
-use Rattle.fd_outcome.specs.Archiving.{Stored, Taken, taken}
+use Rattle.fd_stored.specs.Archiving.{Stored, Taken, taken}
 use Rattle.fd_bulk.specs.declared.bulk.BulkFault.{BulkFault}
 use Rattle.fd_bulk.specs.declared.bulk.BulkFault.TheVariants as faults
 use Rattle.fd_bulk.specs.declared.reading.Counts.{Counts}

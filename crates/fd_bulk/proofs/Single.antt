@@ -9,12 +9,12 @@ use Rattle.fd_sections.specs.Stream.{End, Whole, Cut, Bad_end, announced, from_m
 use Rattle.fd_sections.specs.Frames.{FirstFrame, Unframed, Begun, Rejects, Frame, Frames, first_frame, frame_at, frames, frames_of_at_most, framing}
 use Rattle.fd_split.specs.Reading.{NoMap, NoMessage, Wrong, reading_fields}
 use Rattle.fd_split.proofs.Never.{never_multi}
-use Rattle.fd_outcome.specs.declared.refusal.Refusal.{Refusal}
-use Rattle.fd_outcome.specs.declared.refusal.Refusal.TheVariants as refusals
-use Rattle.fd_outcome.specs.Inputs.{refused}
-use Rattle.fd_outcome.specs.Fields.{FieldList, fields_after, refusal_at, split_before, split_frames}
-use Rattle.fd_outcome.specs.Positions.{Position, RefusesNext, fields_from}
-use Rattle.fd_outcome.proofs.Positions.{refused_at}
+use Rattle.fd_split.specs.declared.refusal.Refusal.{Refusal}
+use Rattle.fd_split.specs.declared.refusal.Refusal.TheVariants as refusals
+use Rattle.fd_split.specs.Inputs.{refused}
+use Rattle.fd_split.specs.Fields.{FieldList, fields_after, refusal_at, split_before, split_frames}
+use Rattle.fd_split.specs.Positions.{Position, RefusesNext, fields_from}
+use Rattle.fd_split.proofs.Positions.{refused_at}
 
 -- ---- what is told of a message
 

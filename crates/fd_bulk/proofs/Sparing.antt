@@ -12,9 +12,9 @@ use Rattle.fd_recovery.specs.Recovered.{IsUndamaged, ReadsImage}
 use Rattle.fd_schema.specs.Rules.{Rule}
 use Rattle.fd_library.specs.Open.{OpenDataset, among, names_of}
 use Rattle.fd_library.specs.Stores.{GivesBack, KeepsFolder, KeepsTable}
-use Rattle.fd_outcome.specs.Archiving.{Stored}
-use Rattle.fd_outcome.specs.Noticing.{SparesDamaged}
-use Rattle.fd_outcome.specs.Store.{IsLookedAt}
+use Rattle.fd_stored.specs.Archiving.{Stored}
+use Rattle.fd_stored.specs.Sparing.{SparesDamaged}
+use Rattle.fd_stored.specs.Store.{IsLookedAt}
 use Rattle.fd_bulk.specs.declared.bulk.Bulk.{Bulk}
 use Rattle.fd_bulk.specs.declared.bulk.BulkFault.{BulkFault}
 use Rattle.fd_bulk.specs.declared.bulk.BulkFault.TheVariants as faults

@@ -2,7 +2,7 @@
 use Rattle.std.proofs.Common.{◌≡◌, ◌≤◌, ℕ, List, Option, Some, None, Result, Ok, Err, OnOk, sym, ap, subst, inl, inr, arith}
 use Rattle.std.specs.Prelude.{◌⊎◌, IfSome}
 use Rattle.fd_bytes.specs.Causes.{Rose}
-use Rattle.fd_outcome.specs.Positions.{Position}
+use Rattle.fd_split.specs.Positions.{Position}
 use Rattle.fd_sheets.specs.declared.reader.Stop.{Stop}
 use Rattle.fd_sheets.specs.declared.reader.Stop.TheVariants as stops
 use Rattle.fd_bulk.specs.declared.bulk.BulkFault.{BulkFault}

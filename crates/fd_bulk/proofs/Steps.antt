@@ -7,12 +7,12 @@ use Rattle.fd_sections.specs.Message.{Sections}
 use Rattle.fd_key.specs.Keys.{key_of}
 use Rattle.fd_key.specs.Pairs.{Pair}
 use Rattle.fd_schema.specs.Rules.{Rule, Texts, place_from}
-use Rattle.fd_outcome.specs.declared.refusal.Refusal.{Refusal}
-use Rattle.fd_outcome.specs.declared.refusal.Refusal.TheVariants as refusals
-use Rattle.fd_outcome.specs.Causes.{Cause, InStream, NoRule, TooManyDatasets}
-use Rattle.fd_outcome.specs.Fields.{Numbered, refusal_at}
-use Rattle.fd_outcome.specs.Positions.{FieldsOn, Position, RefusesNext}
-use Rattle.fd_outcome.specs.Archiving.{Stored, Taken, datasets_in, is_too_many, keyed, stored_at, stored_in, stored_of}
+use Rattle.fd_split.specs.declared.refusal.Refusal.{Refusal}
+use Rattle.fd_split.specs.declared.refusal.Refusal.TheVariants as refusals
+use Rattle.fd_stored.specs.Causes.{Cause, InStream, NoRule, TooManyDatasets}
+use Rattle.fd_split.specs.Fields.{Numbered, refusal_at}
+use Rattle.fd_split.specs.Positions.{FieldsOn, Position, RefusesNext}
+use Rattle.fd_stored.specs.Archiving.{Stored, Taken, datasets_in, is_too_many, keyed, stored_at, stored_in, stored_of}
 use Rattle.fd_bulk.specs.declared.bulk.BulkFault.{BulkFault}
 use Rattle.fd_bulk.specs.declared.bulk.BulkFault.TheVariants as faults
 use Rattle.fd_bulk.specs.Inputs.{BeginsIn, EndedOn, EndsTaken, PlacedAs}

@@ -6,7 +6,7 @@ use Rattle.fd_turn.specs.declared.board.Pass.{Pass}
 use Rattle.fd_turn.specs.Passes.{BoardId}
 use Rattle.fd_archiver.specs.Writing.{Writing}
 use Rattle.fd_library.specs.Open.{AreDistinct}
-use Rattle.fd_outcome.specs.Archiving.{Stored, pairs_for}
+use Rattle.fd_stored.specs.Archiving.{Stored, pairs_for}
 use Rattle.fd_shares.specs.Dealing.{dealt_to}
 use Rattle.fd_sheets.specs.Dealt.{dealt}
 use Rattle.fd_shares.specs.declared.round.Desk.{Desk}

@@ -12,7 +12,7 @@ use Rattle.fd_segment.specs.Held.{Alike, batch_of}
 use Rattle.fd_segment.proofs.Keys.{eq_is, same_as_eq}
 use Rattle.fd_dataset.specs.Listed.{entries_of}
 use Rattle.fd_recovery.specs.Recovered.{all_of, batches_listed, files_of}
-use Rattle.fd_outcome.specs.Store.{Adds, AddsAll, HasOnly}
+use Rattle.fd_stored.specs.Store.{Adds, AddsAll, HasOnly}
 use Rattle.fd_shares.specs.Dealing.{Marked, batches_by, batches_of, dealt_to, flat}
 use Rattle.fd_bulk.specs.Gathering.{Gathered, Lane, receipts_of}
 use Rattle.fd_shares.specs.Merging.{lane_at, those}

@@ -4,11 +4,11 @@ use Rattle.fd_sections.specs.Frames.{frames}
 use Rattle.fd_sections.specs.Splitting.{start}
 use Rattle.fd_key.specs.Pairs.{Pair}
 use Rattle.fd_schema.specs.Rules.{Rule}
-use Rattle.fd_outcome.specs.declared.refusal.Refusal.{Refusal}
-use Rattle.fd_outcome.specs.Causes.{Cause, InStream}
-use Rattle.fd_outcome.specs.Fields.{FieldList, Numbered, behind_fields}
-use Rattle.fd_outcome.specs.Positions.{FieldsOn, Position, RefusesNext, at_message, fed_at, fields_from, skipped_from}
-use Rattle.fd_outcome.specs.Archiving.{Stored, Taken, before, datasets_in, ended, in_stream, stored_of, taken_after, taken_fields, taken_of_fields}
+use Rattle.fd_split.specs.declared.refusal.Refusal.{Refusal}
+use Rattle.fd_stored.specs.Causes.{Cause, InStream}
+use Rattle.fd_split.specs.Fields.{FieldList, Numbered, behind_fields}
+use Rattle.fd_split.specs.Positions.{FieldsOn, Position, RefusesNext, at_message, fed_at, fields_from, skipped_from}
+use Rattle.fd_stored.specs.Archiving.{Stored, Taken, before, datasets_in, ended, in_stream, stored_of, taken_after, taken_fields, taken_of_fields}
 use Rattle.fd_bulk.specs.Taking.{Seen, StoredOn, StoresOn, behind, taken_from}
 
 pub behind_both : (a b : List Stored) (t : Taken) → behind a (behind b t) ≡ behind (a ++ b) t
@@ -69,7 +69,7 @@ module _ (rules : List Rule) (given : List Pair) where
   -- a piece came, as if it had come later
   pub piece_later : (ds : List (List ℕ)) (a : Position) (piece : List ℕ) (past : Bool) (more : List ℕ) → taken_from rules given ds (fed_at a piece) past more ≡ taken_from rules given ds a past (piece ++ more)
   piece_later ds a piece past more =
-      ap (λ (x : List ℕ). taken_of_fields rules given ds (a.split.skipped + (frames x).skipped) (behind_fields (Rattle.fd_outcome.specs.Fields.all_numbered a.split.given a.rest) (Rattle.fd_outcome.specs.Fields.fields_after past a.split.given (frames x)))) (append_assoc a.split.rest piece more)
+      ap (λ (x : List ℕ). taken_of_fields rules given ds (a.split.skipped + (frames x).skipped) (behind_fields (Rattle.fd_split.specs.Fields.all_numbered a.split.given a.rest) (Rattle.fd_split.specs.Fields.fields_after past a.split.given (frames x)))) (append_assoc a.split.rest piece more)
 
   pub seen_nothing : (a : Position) → a ≡ at_message start 0 → Seen rules given a [] []
   seen_nothing a e = subst (λ (b : Position). Seen rules given b [] []) (sym e) (record { is_fed = refl; on = λ past more. refl })

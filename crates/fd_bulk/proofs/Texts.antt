@@ -7,8 +7,8 @@ use Rattle.std.proofs.lemmas.List.Folds.{list_any-append}
 use Rattle.std.proofs.lemmas.Slice.Eq.{bytes_eq-Decides}
 use Rattle.fd_entries.specs.declared.batch.Pair.{Pair}
 use Rattle.fd_library.specs.Open.{AreDistinct, among}
-use Rattle.fd_outcome.specs.Asking.{count_distinct, is_among}
-use Rattle.fd_outcome.specs.Archiving.{Stored, datasets_in, is_too_many, pairs_for}
+use Rattle.fd_stored.specs.Distinct.{count_distinct, is_among}
+use Rattle.fd_stored.specs.Archiving.{Stored, datasets_in, is_too_many, pairs_for}
 
 pub true_or_false : (b : Bool) → (b ≡ true) ⊎ (b ≡ false)
 true_or_false true = inl refl

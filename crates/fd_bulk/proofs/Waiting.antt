@@ -8,7 +8,7 @@ use Rattle.fd_archiver.specs.Writing.{Writing}
 use Rattle.fd_schema.specs.Rules.{file_key}
 use Rattle.fd_schema.specs.Reading.{seen_place}
 use Rattle.fd_library.specs.Open.{OpenDataset, OpenDatasets, names_of}
-use Rattle.fd_outcome.specs.Archiving.{Stored, datasets_in}
+use Rattle.fd_stored.specs.Archiving.{Stored, datasets_in}
 use Rattle.fd_shares.specs.declared.round.Job.{Job}
 use Rattle.fd_shares.specs.declared.round.Parcel.{Parcel}
 use Rattle.fd_entries.specs.declared.batch.Pair.{Pair}

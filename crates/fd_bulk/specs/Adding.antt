@@ -5,7 +5,7 @@ use Rattle.fd_entries.specs.declared.batch.Listing.{Listing}
 use Rattle.fd_entries.specs.declared.batch.Pair.{Pair}
 use Rattle.fd_segment.specs.Held.{batch_of}
 use Rattle.fd_recovery.specs.Recovered.{files_of}
-use Rattle.fd_outcome.specs.Store.{HasOnly}
+use Rattle.fd_stored.specs.Store.{HasOnly}
 
 -- there are such pairs, and what the listing stands for, where it is told, has only these
 pub record IsOnlyOf (pairs : List Pair) (l : Listing) : Type 0 where

@@ -9,12 +9,12 @@ use Rattle.fd_key.specs.Pairs.{key_text}
 use Rattle.fd_schema.specs.Rules.{Rule}
 use Rattle.fd_library.specs.Open.{OpenDataset, Seated, among, names_of}
 use Rattle.fd_library.specs.Stores.{KeepsFolder, held_of, held_with}
-use Rattle.fd_outcome.specs.Fields.{refusal_at}
-use Rattle.fd_outcome.specs.declared.refusal.Refusal.TheVariants as refusals
-use Rattle.fd_outcome.specs.Asking.{count_distinct}
-use Rattle.fd_outcome.specs.Archiving.{Stored, Taken, datasets_in, pairs_for, taken, taken_of}
-use Rattle.fd_outcome.specs.Causes.{BadFile, BadTable, Cause, InStream, NoRule, TooManyDatasets}
-use Rattle.fd_outcome.specs.Store.{Adds, AddsAll, Stands}
+use Rattle.fd_split.specs.Fields.{refusal_at}
+use Rattle.fd_split.specs.declared.refusal.Refusal.TheVariants as refusals
+use Rattle.fd_stored.specs.Distinct.{count_distinct}
+use Rattle.fd_stored.specs.Archiving.{Stored, Taken, datasets_in, pairs_for, taken, taken_of}
+use Rattle.fd_stored.specs.Causes.{BadFile, BadTable, Cause, InStream, NoRule, TooManyDatasets}
+use Rattle.fd_stored.specs.Store.{Adds, AddsAll, Stands}
 use Rattle.fd_entries.specs.declared.batch.Pair.{Pair}
 use Rattle.fd_bulk.specs.Adding.{IsHeldBy, IsOnlyOf}
 use Rattle.fd_bulk.specs.declared.bulk.Bulk.{Bulk}

@@ -9,7 +9,7 @@ use Rattle.fd_turn.specs.declared.board.Pass.{Pass}
 use Rattle.fd_archiver.specs.declared.fault.FlushFault.{FlushFault}
 use Rattle.fd_archiver.specs.Writing.{Writing}
 use Rattle.fd_library.specs.Open.{OpenDatasets}
-use Rattle.fd_outcome.specs.Positions.{IsIdle, Position}
+use Rattle.fd_split.specs.Positions.{IsIdle, Position}
 use Rattle.fd_sheets.specs.declared.reader.Reach.{Reach}
 use Rattle.fd_sheets.specs.Reading.{StopsAs, is_end}
 use Rattle.fd_bulk.specs.declared.bulk.BulkFault.{BulkFault}

@@ -19,10 +19,10 @@ use Rattle.fd_recovery.specs.declared.fault.OpenFault.TheVariants as opens
 use Rattle.fd_recovery.specs.Recovered.{IsUndamaged}
 use Rattle.fd_library.specs.Open.{AreOpen, OpenDataset, OpenDatasets, among, names_of, seat_of}
 use Rattle.fd_library.specs.Stores.{KeepsFolder, held_by_pass, held_of}
-use Rattle.fd_outcome.specs.Archiving.{Stored, datasets_in, pairs_for}
-use Rattle.fd_outcome.specs.Asking.{count_distinct, is_among}
-use Rattle.fd_outcome.specs.Causes.{BadFile, BadTable}
-use Rattle.fd_outcome.specs.Store.{Stands}
+use Rattle.fd_stored.specs.Archiving.{Stored, datasets_in, pairs_for}
+use Rattle.fd_stored.specs.Distinct.{count_distinct, is_among}
+use Rattle.fd_stored.specs.Causes.{BadFile, BadTable}
+use Rattle.fd_stored.specs.Store.{Stands}
 use Rattle.fd_bulk.specs.declared.bulk.BulkFault.{BulkFault}
 use Rattle.fd_bulk.specs.declared.bulk.BulkFault.TheVariants as faults
 use Rattle.fd_shares.specs.declared.round.Desk.{Desk}

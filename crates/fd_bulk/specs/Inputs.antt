@@ -17,10 +17,10 @@ use Rattle.fd_turn.specs.Passes.{BoardId}
 use Rattle.fd_archiver.specs.declared.fault.FlushFault.{FlushFault}
 use Rattle.fd_archiver.specs.Writing.{Writing}
 use Rattle.fd_library.specs.Open.{OpenDatasets, names_of}
-use Rattle.fd_outcome.specs.Archiving.{Stored, Taken, datasets_in, taken}
-use Rattle.fd_outcome.specs.Positions.{Position, weight}
-use Rattle.fd_outcome.specs.Causes.{BadFile, BadTable, Cause}
-use Rattle.fd_outcome.specs.Store.{Stands}
+use Rattle.fd_stored.specs.Archiving.{Stored, Taken, datasets_in, taken}
+use Rattle.fd_split.specs.Positions.{Position, weight}
+use Rattle.fd_stored.specs.Causes.{BadFile, BadTable, Cause}
+use Rattle.fd_stored.specs.Store.{Stands}
 use Rattle.fd_bulk.specs.declared.bulk.BulkFault.{BulkFault}
 use Rattle.fd_bulk.specs.declared.bulk.BulkFault.TheVariants as faults
 use Rattle.fd_bulk.specs.declared.reading.Counts.{Counts}

@@ -3,7 +3,7 @@ use Rattle.std.specs.Prelude.{◌≡◌, ◌≤◌, ℕ, List, Option, Err}
 use Rattle.fd_disk.specs.declared.folders.FileName.{FileName}
 use Rattle.fd_disk.specs.Folders.{Contents, Holdings}
 use Rattle.fd_sections.specs.Message.{Sections}
-use Rattle.fd_outcome.specs.Positions.{Position}
+use Rattle.fd_split.specs.Positions.{Position}
 use Rattle.fd_key.specs.Pairs as keys
 use Rattle.fd_schema.specs.Rules.{Rule}
 use Rattle.fd_sheets.specs.declared.sheets.Sheet.{Sheet}
@@ -15,7 +15,7 @@ use Rattle.fd_turn.specs.declared.board.Pass.{Pass}
 use Rattle.fd_archiver.specs.declared.fault.FlushFault.{FlushFault}
 use Rattle.fd_archiver.specs.Writing.{Writing}
 use Rattle.fd_library.specs.Open.{OpenDatasets}
-use Rattle.fd_outcome.specs.Archiving.{Stored}
+use Rattle.fd_stored.specs.Archiving.{Stored}
 use Rattle.fd_bulk.specs.declared.bulk.BulkFault.{BulkFault}
 use Rattle.fd_bulk.specs.declared.bulk.BulkFault.TheVariants as faults
 use Rattle.fd_shares.specs.declared.round.Job.{Job}

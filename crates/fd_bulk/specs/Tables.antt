@@ -7,7 +7,7 @@ use Rattle.fd_segment.specs.Held.{Alike, batch_of}
 use Rattle.fd_dataset.specs.Listed.{entries_of, listing}
 use Rattle.fd_recovery.specs.Recovered.{batches_listed, files_of}
 use Rattle.fd_numbers.specs.Numbers.{Differ}
-use Rattle.fd_outcome.specs.Store.{Adds, AddsAll}
+use Rattle.fd_stored.specs.Store.{Adds, AddsAll}
 use Rattle.fd_shares.specs.Dealing.{dealt_to}
 use Rattle.fd_bulk.specs.Gathering.{AreLanes, Lane, receipts_of, writers_in}
 use Rattle.fd_shares.specs.Merging.{joined, lane_at}

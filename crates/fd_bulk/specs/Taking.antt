@@ -3,8 +3,8 @@ use Rattle.std.specs.Prelude.{◌≡◌, ◌+◌, ℕ, Bool, List, [], ◌++◌,
 use Rattle.fd_sections.specs.Frames.{frames}
 use Rattle.fd_key.specs.Pairs.{Pair}
 use Rattle.fd_schema.specs.Rules.{Rule}
-use Rattle.fd_outcome.specs.Archiving.{Stored, Taken, datasets_in, taken_after, taken_of_fields}
-use Rattle.fd_outcome.specs.Positions.{Position, fields_from, skipped_from}
+use Rattle.fd_stored.specs.Archiving.{Stored, Taken, datasets_in, taken_after, taken_of_fields}
+use Rattle.fd_split.specs.Positions.{Position, fields_from, skipped_from}
 
 -- fields that are stored before others
 abbrev pub behind : List Stored → Taken → Taken

@@ -3,7 +3,7 @@ ghost use Rattle.std.specs.Prelude.{◌≡◌, ◌≤◌, [], List, ℕ, Option,
 ghost use Rattle.fd_disk.specs.Folders.{WhereTold};
 ghost use Rattle.fd_schema.specs.Grammar.{IsSchema};
 ghost use Rattle.fd_library.specs.Open.{OutAre};
-ghost use Rattle.fd_outcome.specs.Noticing.{SparesDamaged};
+ghost use Rattle.fd_stored.specs.Sparing.{SparesDamaged};
 ghost use Rattle.fd_bulk.specs.declared.bulk.BulkFault.TheVariants as faults;
 ghost use Rattle.fd_bulk.specs.Archived.{Archived, HasReasons};
 

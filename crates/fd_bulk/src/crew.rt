@@ -6,7 +6,7 @@ ghost use Rattle.fd_bulk.specs.{Archived.{Grows, GrowsAll, IsBack, IsSure}, Endi
 ghost use Rattle.fd_schema.specs.{Grammar.{IsSchema}, Rules.{file_key}, Reading.{seen_place}};
 ghost use Rattle.fd_library.specs.{Open.{AreOpen, OpenDataset, OutAre, among, names_of}, Calls.{Changes}};
 ghost use Rattle.fd_sheets.specs.Reading.{ReadOn};
-ghost use Rattle.fd_outcome.specs.Archiving.{Stored, datasets_in, is_too_many};
+ghost use Rattle.fd_stored.specs.Archiving.{Stored, datasets_in, is_too_many};
 ghost use Rattle.fd_turn.specs.Passes.{view};
 
 use crate::bulk::BulkFault;

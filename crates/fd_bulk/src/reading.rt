@@ -3,7 +3,8 @@ ghost use Rattle.std.specs.Prelude.{◌≡◌, ◌≤◌, ℕ, List, Option, [],
 ghost use Rattle.fd_bytes.specs.Causes.{Rose};
 ghost use Rattle.fd_disk.specs.Folders.{Holdings};
 ghost use Rattle.fd_sections.specs.Splitting.{start as nothing_read};
-ghost use Rattle.fd_outcome.specs.{Positions.{IsIdle, Position, at_message}, Archiving.{Stored}};
+ghost use Rattle.fd_stored.specs.Archiving.{Stored};
+ghost use Rattle.fd_split.specs.Positions.{IsIdle, Position, at_message};
 ghost use Rattle.fd_key.specs.Pairs.{Pair};
 ghost use Rattle.fd_schema.specs.{Grammar.{IsSchema}, Rules.{Rule}};
 ghost use Rattle.fd_library.specs.Open.{OutAre, names_of};

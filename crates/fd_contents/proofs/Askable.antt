@@ -17,9 +17,9 @@ use Rattle.fd_cubes.specs.Cubes.{IsAskable, IsCube, IsPlain, cube_text, keys_of}
 use Rattle.fd_cubes.specs.Joining.{NoneCanJoin}
 use Rattle.fd_cubes.proofs.ReadsBack.{reads_back}
 use Rattle.fd_inventory.specs.Found.{IsNamed, IsSpelled}
-use Rattle.fd_outcome.specs.declared.status.Status.{Status}
-use Rattle.fd_outcome.specs.Causes.{Cause, NoRequest, TooManyKeys}
-use Rattle.fd_outcome.specs.Causes.{telling}
+use Rattle.fd_stored.specs.declared.status.Status.{Status}
+use Rattle.fd_stored.specs.Causes.{Cause, NoRequest, TooManyKeys}
+use Rattle.fd_stored.specs.Causes.{telling}
 use Rattle.fd_outcome.specs.Objects.{IsCalm, Object}
 use Rattle.fd_outcome.specs.Told.{ToldOrNoMemory}
 use Rattle.fd_contents.specs.Cubing.{AreCubes}

@@ -13,17 +13,17 @@ use Rattle.fd_schema.specs.declared.fault.SchemaKind.{SchemaKind}
 use Rattle.fd_words.specs.declared.command.Command.{Command}
 use Rattle.fd_words.specs.declared.command.Command.TheVariants as commands
 use Rattle.fd_inventory.specs.Written.{text_lines}
-use Rattle.fd_outcome.specs.declared.status.Status.{Status}
-use Rattle.fd_outcome.specs.declared.status.Status.TheVariants.{Done, Missed, Words, Refused, InputFault, OutputFault, DiskFault, NoMemory, Damaged, Limit}
-use Rattle.fd_outcome.specs.Causes as causes
-use Rattle.fd_outcome.specs.Causes.{Cause, damaged_line, telling}
+use Rattle.fd_stored.specs.declared.status.Status.{Status}
+use Rattle.fd_stored.specs.declared.status.Status.TheVariants.{Done, Missed, Words, Refused, InputFault, OutputFault, DiskFault, NoMemory, Damaged, Limit}
+use Rattle.fd_stored.specs.Causes as causes
+use Rattle.fd_stored.specs.Causes.{Cause, damaged_line, telling}
 use Rattle.fd_outcome.specs.Ends.{AreSound, Calm, Ends, ReadsOut, Troubles, disk_failed, input_failed, no_memory, troubles}
 use Rattle.fd_outcome.specs.Cubing.{keys_refusal}
 use Rattle.fd_outcome.specs.Matching.{Keys}
 use Rattle.fd_outcome.specs.Noticing.{AreUndamaged, ReadsFitly}
 use Rattle.fd_outcome.specs.Objects.{Failed, Failures, IsCalm, Object, failures, object}
 use Rattle.fd_outcome.specs.Outcome.{Early, Outcome, lines_early, printed, refused}
-use Rattle.fd_outcome.specs.Store.{AreNames, IsLookedThrough, Stands}
+use Rattle.fd_stored.specs.Store.{AreNames, IsLookedThrough, Stands}
 use Rattle.fd_outcome.specs.Told.{Told, ToldOrNoMemory}
 use Rattle.fd_outcome.proofs.Damaging.{damaged_held}
 use Rattle.fd_outcome.proofs.Endings.{CanStop, ends_at_once, ends_early, ends_unwritten, ends_with_line, takes_nothing}

@@ -4,8 +4,8 @@ use Rattle.std.specs.Prelude.{IfSome}
 use Rattle.fd_disk.specs.Folders.{Holdings}
 use Rattle.fd_words.specs.declared.command.Command.{Command}
 use Rattle.fd_words.specs.declared.command.Command.TheVariants as commands
-use Rattle.fd_outcome.specs.declared.status.Status.{Status}
-use Rattle.fd_outcome.specs.declared.status.Status.TheVariants.{NoMemory}
+use Rattle.fd_stored.specs.declared.status.Status.{Status}
+use Rattle.fd_stored.specs.declared.status.Status.TheVariants.{NoMemory}
 use Rattle.fd_outcome.specs.Ends.{no_memory}
 use Rattle.fd_outcome.specs.Objects.{Object, object}
 use Rattle.fd_outcome.specs.Ran.{Ran}

@@ -14,17 +14,17 @@ use Rattle.fd_schema.specs.Rules.{Rule}
 use Rattle.fd_schema.specs.declared.fault.SchemaKind.{SchemaKind}
 use Rattle.fd_words.specs.declared.command.Command.{Command}
 use Rattle.fd_words.specs.declared.command.Command.TheVariants as commands
-use Rattle.fd_outcome.specs.declared.status.Status.{Status}
-use Rattle.fd_outcome.specs.declared.status.Status.TheVariants.{Done, Missed, Words, Refused, InputFault, OutputFault, DiskFault, NoMemory, Damaged, Limit}
+use Rattle.fd_stored.specs.declared.status.Status.{Status}
+use Rattle.fd_stored.specs.declared.status.Status.TheVariants.{Done, Missed, Words, Refused, InputFault, OutputFault, DiskFault, NoMemory, Damaged, Limit}
 use Rattle.fd_outcome.specs.Asking.{rules_of}
-use Rattle.fd_outcome.specs.Causes as causes
-use Rattle.fd_outcome.specs.Causes.{Broken, Cause, damaged_line, table_full, telling}
+use Rattle.fd_stored.specs.Causes as causes
+use Rattle.fd_stored.specs.Causes.{Broken, Cause, damaged_line, table_full, telling}
 use Rattle.fd_outcome.specs.Ends.{Calm, Ends, IsBroken, Leaves, Opens, ReadsOut, Troubles, UsesStore, disk_failed, input_failed, no_memory, output_failed, troubles}
 use Rattle.fd_outcome.specs.Objects.{Failed, Failures, IsCalm, Object, failures, object}
 use Rattle.fd_outcome.specs.Outcome.{Early, Outcome, both, early, lines_early, lines_of, nothing_early, outcome, output_early, printed, printed_of, refused, stats_lines, stats_of, stats_printed}
 use Rattle.fd_outcome.specs.Ran.{Ran}
 use Rattle.fd_outcome.specs.Rows.{axes_text, list_text}
-use Rattle.fd_outcome.specs.Store.{AreNames, IsLookedThrough, Stands, entries_in, table_at}
+use Rattle.fd_stored.specs.Store.{AreNames, IsLookedThrough, Stands, entries_in, table_at}
 use Rattle.fd_outcome.specs.Told.{Told, ToldOrNoMemory}
 use Rattle.fd_outcome.proofs.AnyCommand.{Seen, ran_of, told_of}
 use Rattle.fd_outcome.proofs.Endings.{CanStop, ends_early, ends_told, ends_unwritten, takes_nothing, nothing_of}

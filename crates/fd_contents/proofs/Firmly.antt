@@ -4,12 +4,12 @@ use Rattle.std.specs.Prelude.{◌⊎◌, Contains}
 use Rattle.fd_disk.specs.Folders.{Holdings, folder_at}
 use Rattle.fd_recovery.specs.Crashing.{IsFirmTable}
 use Rattle.fd_words.specs.declared.command.Command.TheVariants as commands
-use Rattle.fd_outcome.specs.declared.status.Status.{Status}
-use Rattle.fd_outcome.specs.declared.status.Status.TheVariants.{Done, Missed}
+use Rattle.fd_stored.specs.declared.status.Status.{Status}
+use Rattle.fd_stored.specs.declared.status.Status.TheVariants.{Done, Missed}
 use Rattle.fd_outcome.specs.Ends.{Opens}
 use Rattle.fd_outcome.specs.Noticing.{AnswersFirmly}
 use Rattle.fd_outcome.specs.Objects.{Object}
-use Rattle.fd_outcome.specs.Store.{AreNames}
+use Rattle.fd_stored.specs.Store.{AreNames}
 use Rattle.fd_retrieve.specs.Ready.{AreFirmOf}
 use Rattle.fd_retrieve.proofs.ReadyLemmas.{among_contained}
 

@@ -12,10 +12,10 @@ use Rattle.fd_segment.specs.Held.{Standing}
 use Rattle.fd_inventory.specs.Found.{Keeps}
 use Rattle.fd_inventory.specs.Recorded.{ByRecords}
 use Rattle.fd_inventory.proofs.Recording.{made_table, of_told, told_recorded}
-use Rattle.fd_outcome.specs.Causes.{Cause, NoRequest, TooManyKeys}
+use Rattle.fd_stored.specs.Causes.{Cause, NoRequest, TooManyKeys}
 use Rattle.fd_outcome.specs.Cubing.{first_ranged, keys_refusal}
 use Rattle.fd_outcome.specs.Matching.{Keys, matching, with_dataset, with_tables}
-use Rattle.fd_outcome.specs.Store.{IsLookedThrough, Stays, has_table, table_at}
+use Rattle.fd_stored.specs.Store.{IsLookedThrough, Stays, has_table, table_at}
 use Rattle.fd_retrieve.specs.Open.{IsOpenIn, Open}
 use Rattle.fd_retrieve.proofs.Staying.{same_at}
 use Rattle.fd_contents.specs.Cubing.{AreMatching}

@@ -5,15 +5,15 @@ use Rattle.std.specs.Result.{IsErr}
 use Rattle.fd_bytes.specs.Causes.{Rose}
 use Rattle.fd_disk.specs.Folders.{Holdings, WhereTold}
 use Rattle.fd_request.specs.Expansion.{Keyword}
-use Rattle.fd_outcome.specs.declared.status.Status.{Status}
-use Rattle.fd_outcome.specs.declared.status.Status.TheVariants.{Done, Missed}
+use Rattle.fd_stored.specs.declared.status.Status.{Status}
+use Rattle.fd_stored.specs.declared.status.Status.TheVariants.{Done, Missed}
 use Rattle.fd_words.specs.declared.command.Command.TheVariants as commands
 use Rattle.fd_outcome.specs.Asking.{rules_of}
 use Rattle.fd_outcome.specs.Noticing.{IsUnread}
 use Rattle.fd_outcome.specs.Objects.{Failed, IsCalm, Object, object}
 use Rattle.fd_outcome.specs.Outcome.{outcome, refused}
 use Rattle.fd_outcome.specs.Ran.{Ran}
-use Rattle.fd_outcome.specs.Store.{IsLookedThrough}
+use Rattle.fd_stored.specs.Store.{IsLookedThrough}
 use Rattle.fd_telling.specs.declared.stop.Stop.{Stop}
 use Rattle.fd_telling.specs.Stops.{OnDisk, OnInput, OnRefusal, ToldStop}
 use Rattle.fd_contents.specs.declared.lines.KeyLines.{KeyLines}

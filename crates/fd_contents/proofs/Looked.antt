@@ -11,7 +11,7 @@ use Rattle.fd_entries.specs.declared.table.Entry.{Entry}
 use Rattle.fd_entries.specs.Table.{listed}
 use Rattle.fd_recovery.specs.Recovered.{IsUndamaged, ReadsImage, files_of}
 use Rattle.fd_inventory.specs.Recorded.{IsRecorded}
-use Rattle.fd_outcome.specs.Store.{IsLookedAt, IsLookedThrough, StaysFolder, Stays, has_table}
+use Rattle.fd_stored.specs.Store.{IsLookedAt, IsLookedThrough, StaysFolder, Stays, has_table}
 use Rattle.fd_retrieve.proofs.Staying.{undamaged_before}
 use Rattle.fd_retrieve.proofs.Undamaged.{undamaged_new}
 use Rattle.fd_contents.specs.Recorded.{AreRecordedIn}

@@ -12,9 +12,9 @@ use Rattle.std.proofs.lemmas.Slice.Eq.{bytes_eq-Decides}
 use Rattle.fd_disk.specs.Folders.{Holdings}
 use Rattle.fd_disk.proofs.NameLemmas.{is_or_not}
 use Rattle.fd_spelling.specs.Texts.{texts}
-use Rattle.fd_outcome.specs.Asking.{is_among}
+use Rattle.fd_stored.specs.Distinct.{is_among}
 use Rattle.fd_outcome.specs.Rows.{order}
-use Rattle.fd_outcome.specs.Store.{AreNames}
+use Rattle.fd_stored.specs.Store.{AreNames}
 use Rattle.fd_inventory.proofs.Upserting.{IsBelow, Rise, eq_is, equal_same, none_among, self}
 
 less_other : (x y : List ℕ) → order x y ≡ Less → bytes_eq x y ≡ false

@@ -8,13 +8,13 @@ use Rattle.fd_recovery.specs.Recovered.{IsUndamaged}
 use Rattle.fd_request.specs.Expansion.{Keyword}
 use Rattle.fd_words.specs.declared.command.Command.{Command}
 use Rattle.fd_words.specs.declared.command.Command.TheVariants as commands
-use Rattle.fd_outcome.specs.declared.status.Status.{Status}
-use Rattle.fd_outcome.specs.declared.status.Status.TheVariants.{Done, Missed}
-use Rattle.fd_outcome.specs.Causes.{Cause}
+use Rattle.fd_stored.specs.declared.status.Status.{Status}
+use Rattle.fd_stored.specs.declared.status.Status.TheVariants.{Done, Missed}
+use Rattle.fd_stored.specs.Causes.{Cause}
 use Rattle.fd_outcome.specs.Noticing.{IsTextOf, Noticed, Notices, PrintedEach, PrintedEachOf}
 use Rattle.fd_outcome.specs.Objects.{Object, object}
 use Rattle.fd_outcome.specs.Rows.{axes_text, list_text}
-use Rattle.fd_outcome.specs.Store.{AreNames}
+use Rattle.fd_stored.specs.Store.{AreNames}
 use Rattle.fd_outcome.proofs.AnyCommand.{Seen, where_seen}
 use Rattle.fd_outcome.proofs.Endings.{takes_nothing}
 use Rattle.fd_retrieve.specs.Ready.{NoneIsDamaged}

@@ -18,14 +18,14 @@ use Rattle.fd_inventory.specs.Indexes.{IsAmongBad, Tells}
 use Rattle.fd_inventory.specs.Recorded.{AreRecorded, IsRecorded, IsTextBy, TakesBy}
 use Rattle.fd_inventory.specs.Written.{HasLinesCause}
 use Rattle.fd_inventory.proofs.Upserting.{self}
-use Rattle.fd_outcome.specs.Asking.{is_among}
+use Rattle.fd_stored.specs.Distinct.{is_among}
 use Rattle.fd_inventory.specs.declared.fault.LinesFault.{LinesFault}
 use Rattle.fd_inventory.specs.declared.fault.LinesFault.TheVariants as faults
 use Rattle.fd_request.specs.Expansion.{Keyword}
-use Rattle.fd_outcome.specs.Causes.{BadFile}
+use Rattle.fd_stored.specs.Causes.{BadFile}
 use Rattle.fd_outcome.specs.Outcome.{stats_of}
 use Rattle.fd_outcome.specs.Rows.{axes_text, list_text, stats_text}
-use Rattle.fd_outcome.specs.Store.{Stands, entries_in, if_listed, table_at}
+use Rattle.fd_stored.specs.Store.{Stands, entries_in, if_listed, table_at}
 use Rattle.fd_retrieve.specs.Open.{IsOpenIn, Open}
 use Rattle.fd_retrieve.proofs.DatasetLemmas.{contains_mapped, contains_of}
 use Rattle.fd_contents.specs.declared.lines.Lines.{Lines}

@@ -9,7 +9,7 @@ use Rattle.fd_request.specs.Expansion.{Keyword}
 use Rattle.fd_request.specs.Grammar.{Fault, TooLong, keywords_of}
 use Rattle.fd_request.specs.Limits.{partial_of, too_long, within_size}
 use Rattle.fd_outcome.specs.Asking.{in_request, partial_in, ◌then◌}
-use Rattle.fd_outcome.specs.Causes.{Cause, InRequest}
+use Rattle.fd_stored.specs.Causes.{Cause, InRequest}
 use Rattle.fd_telling.specs.declared.stop.Stop.{Stop}
 use Rattle.fd_telling.specs.declared.stop.Stop.TheVariants as stops
 use Rattle.fd_telling.specs.Stops.{OnRequest}

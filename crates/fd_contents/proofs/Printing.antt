@@ -6,7 +6,7 @@ use Rattle.std.proofs.lemmas.List.Folds.{concat-append}
 use Rattle.fd_io.specs.Streams.{Takes}
 use Rattle.fd_disk.specs.Folders.{Holdings, WhereTold, folder_at}
 use Rattle.fd_recovery.specs.Recovered.{IsUndamaged}
-use Rattle.fd_outcome.specs.Store.{AreNames, IsLookedThrough, Stays, has_table}
+use Rattle.fd_stored.specs.Store.{AreNames, IsLookedThrough, Stays, has_table}
 use Rattle.fd_outcome.proofs.Endings.{takes_both, takes_nothing}
 use Rattle.fd_retrieve.specs.Open.{IsOpenIn, Open}
 use Rattle.fd_retrieve.proofs.ReadyLemmas.{none_damaged_more}

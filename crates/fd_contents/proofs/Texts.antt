@@ -12,7 +12,7 @@ use Rattle.fd_recovery.specs.Recovered.{held_by}
 use Rattle.fd_request.specs.Expansion.{Keyword}
 use Rattle.fd_outcome.specs.Outcome.{both, stats_of}
 use Rattle.fd_outcome.specs.Rows.{axes_text, list_text}
-use Rattle.fd_outcome.specs.Store.{Stays, entries_in, has_table, if_listed, table_at}
+use Rattle.fd_stored.specs.Store.{Stays, entries_in, has_table, if_listed, table_at}
 use Rattle.fd_outcome.proofs.Endings.{front_more, nothing_of, takes_then_front}
 use Rattle.fd_retrieve.specs.Open.{IsOpenIn, Open}
 use Rattle.fd_retrieve.proofs.PrepareLemmas.{take_more, take_rest}

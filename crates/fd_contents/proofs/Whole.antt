@@ -3,8 +3,8 @@ use Rattle.std.proofs.Common.{◌≡◌, ◌∙◌, ℕ, false, true≢false, Li
 use Rattle.std.specs.Prelude.{◌⊎◌}
 use Rattle.std.specs.Result.{IsErr, is_err}
 use Rattle.fd_disk.specs.Folders.{Holdings}
-use Rattle.fd_outcome.specs.declared.status.Status.{Status}
-use Rattle.fd_outcome.specs.declared.status.Status.TheVariants.{Done, Missed}
+use Rattle.fd_stored.specs.declared.status.Status.{Status}
+use Rattle.fd_stored.specs.declared.status.Status.TheVariants.{Done, Missed}
 use Rattle.fd_outcome.specs.Asking.{rules_of}
 use Rattle.fd_outcome.specs.Told.{Told}
 use Rattle.fd_outcome.proofs.Exits.{is_whole, never_whole}

@@ -13,17 +13,17 @@ use Rattle.fd_cubes.specs.Axes.{AreSorted}
 use Rattle.fd_cubes.specs.Cubes.{IsCube, cube_text, keys_of}
 use Rattle.fd_cubes.specs.Joining.{NoneCanJoin}
 use Rattle.fd_inventory.specs.Written.{text_lines}
-use Rattle.fd_outcome.specs.declared.status.Status.{Status}
-use Rattle.fd_outcome.specs.declared.status.Status.TheVariants.{Done, Missed, Words, InputFault, OutputFault, DiskFault, NoMemory}
+use Rattle.fd_stored.specs.declared.status.Status.{Status}
+use Rattle.fd_stored.specs.declared.status.Status.TheVariants.{Done, Missed, Words, InputFault, OutputFault, DiskFault, NoMemory}
 use Rattle.fd_outcome.specs.Asking.{rules_of}
-use Rattle.fd_outcome.specs.Causes.{Cause}
+use Rattle.fd_stored.specs.Causes.{Cause}
 use Rattle.fd_outcome.specs.Cubing.{keys_refusal}
 use Rattle.fd_outcome.specs.Ends.{AreSound, Calm, Ends, ReadsOut, troubles}
 use Rattle.fd_outcome.specs.Matching.{Keys, matching}
 use Rattle.fd_outcome.specs.Noticing.{AreUndamaged, IsUnread, ReadsFitly}
 use Rattle.fd_outcome.specs.Objects.{Failed, IsCalm, Object, failures}
 use Rattle.fd_outcome.specs.Outcome.{Outcome, lines_early, printed, refused}
-use Rattle.fd_outcome.specs.Store.{AreNames, IsLookedThrough}
+use Rattle.fd_stored.specs.Store.{AreNames, IsLookedThrough}
 use Rattle.fd_contents.specs.Asked.{asked_in}
 use Rattle.fd_contents.specs.Gathering.{IsTableIn}
 

@@ -6,7 +6,7 @@ use Rattle.fd_entries.specs.declared.batch.Pair.{Pair}
 use Rattle.fd_request.specs.Expansion.{Keyword}
 use Rattle.fd_inventory.specs.Found.{Keeps}
 use Rattle.fd_outcome.specs.Matching.{Keys, matching, with_dataset}
-use Rattle.fd_outcome.specs.Store.{table_at}
+use Rattle.fd_stored.specs.Store.{table_at}
 use Rattle.fd_contents.specs.Recorded.{AreRecordedIn}
 
 -- The table of the dataset, where it is sound, and in any case such batches as its indexes have records of.

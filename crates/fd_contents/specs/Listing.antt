@@ -5,7 +5,7 @@ use Rattle.fd_entries.specs.declared.batch.Pair.{Pair}
 use Rattle.fd_request.specs.Expansion.{Keyword}
 use Rattle.fd_words.specs.declared.command.Command.{Command}
 use Rattle.fd_words.specs.declared.command.Command.TheVariants as commands
-use Rattle.fd_outcome.specs.declared.status.Status.{Status}
+use Rattle.fd_stored.specs.declared.status.Status.{Status}
 use Rattle.fd_outcome.specs.Noticing.{AnswersFirmly, Notices, ReadsFitly}
 use Rattle.fd_outcome.specs.Objects.{Object}
 use Rattle.fd_outcome.specs.Ran.{Ran}

@@ -5,11 +5,11 @@ use Rattle.fd_io.specs.Streams.{Takes}
 use Rattle.fd_disk.specs.Folders.{Holdings, folder_at}
 use Rattle.fd_entries.specs.declared.batch.Pair.{Pair}
 use Rattle.fd_recovery.specs.Recovered.{IsUndamaged}
-use Rattle.fd_outcome.specs.declared.status.Status.{Status}
-use Rattle.fd_outcome.specs.declared.status.Status.TheVariants.{Done}
+use Rattle.fd_stored.specs.declared.status.Status.{Status}
+use Rattle.fd_stored.specs.declared.status.Status.TheVariants.{Done}
 use Rattle.fd_outcome.specs.Noticing.{IsTextOf}
 use Rattle.fd_outcome.specs.Objects.{Object}
-use Rattle.fd_outcome.specs.Store.{AreNames}
+use Rattle.fd_stored.specs.Store.{AreNames}
 use Rattle.fd_retrieve.specs.Ready.{NoneIsDamaged}
 use Rattle.fd_contents.specs.declared.lines.Lines.{Lines}
 use Rattle.fd_contents.specs.Recorded.{IsOfRecords}

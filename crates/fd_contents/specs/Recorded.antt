@@ -11,12 +11,12 @@ use Rattle.fd_request.specs.Expansion.{Keyword}
 use Rattle.fd_inventory.specs.Recorded.{IsRecorded}
 use Rattle.fd_words.specs.declared.command.Command.{Command}
 use Rattle.fd_words.specs.declared.command.Command.TheVariants as commands
-use Rattle.fd_outcome.specs.declared.status.Status.{Status}
-use Rattle.fd_outcome.specs.declared.status.Status.TheVariants.{Done}
+use Rattle.fd_stored.specs.declared.status.Status.{Status}
+use Rattle.fd_stored.specs.declared.status.Status.TheVariants.{Done}
 use Rattle.fd_outcome.specs.Objects.{Object}
 use Rattle.fd_outcome.specs.Outcome.{stats_of}
 use Rattle.fd_outcome.specs.Rows.{axes_text, list_text}
-use Rattle.fd_outcome.specs.Store.{AreNames, entries_in}
+use Rattle.fd_stored.specs.Store.{AreNames, entries_in}
 use Rattle.fd_contents.specs.Asked.{asked_in}
 
 -- These are the batches of the entries that the dataset's table lists, by the records of their indexes: each has the keys of these, and

@@ -4,7 +4,7 @@ use Rattle.fd_disk.specs.Folders.{Holdings, folder_at}
 use Rattle.fd_entries.specs.declared.batch.Pair.{Pair}
 use Rattle.fd_outcome.specs.Outcome.{both, stats_of}
 use Rattle.fd_outcome.specs.Rows.{axes_text, list_text}
-use Rattle.fd_outcome.specs.Store.{entries_in, table_at}
+use Rattle.fd_stored.specs.Store.{entries_in, table_at}
 use Rattle.fd_contents.specs.declared.lines.Lines.{Lines}
 use Rattle.fd_contents.specs.declared.lines.Lines.TheVariants as lines
 

@@ -2,9 +2,9 @@
 use Rattle.std.specs.Prelude.{◌≡◌, ℕ, List, Some, None}
 use Rattle.fd_io.specs.Streams.{Takes, TakesFront}
 use Rattle.fd_inventory.specs.Written.{text_lines}
-use Rattle.fd_outcome.specs.declared.status.Status.{Status}
-use Rattle.fd_outcome.specs.declared.status.Status.TheVariants as statuses
-use Rattle.fd_outcome.specs.Causes.{Cause, telling}
+use Rattle.fd_stored.specs.declared.status.Status.{Status}
+use Rattle.fd_stored.specs.declared.status.Status.TheVariants as statuses
+use Rattle.fd_stored.specs.Causes.{Cause, telling}
 use Rattle.fd_outcome.specs.Cubing.{keys_refusal}
 use Rattle.fd_outcome.specs.Ends.{no_memory, output_failed}
 use Rattle.fd_outcome.specs.Matching.{Keys}

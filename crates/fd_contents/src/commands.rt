@@ -3,7 +3,8 @@ ghost use Rattle.std.specs.Prelude.{◌≡◌, ◌⊎◌, List, ℕ, Option, IfS
 ghost use Rattle.fd_disk.specs.Folders.{Holdings};
 ghost use Rattle.fd_words.specs.declared.command.Command.{Command};
 ghost use Rattle.fd_words.specs.declared.command.Command.TheVariants as commands;
-ghost use Rattle.fd_outcome.specs.{declared.status.Status.TheVariants.{Done, Missed}, Noticing.{AnswersFirmly, Notices}, Ran.{Ran}, Rows.{axes_text, list_text}, Store.{AreNames}};
+ghost use Rattle.fd_outcome.specs.{Noticing.{AnswersFirmly, Notices}, Ran.{Ran}, Rows.{axes_text, list_text}};
+ghost use Rattle.fd_stored.specs.{declared.status.Status.TheVariants.{Done, Missed}, Store.{AreNames}};
 ghost use Rattle.fd_objects.specs.Objects.{Over, since, until};
 ghost use Rattle.fd_retrieve.specs.Ready.{AreFirmOf};
 ghost use Rattle.fd_contents.specs.{Asked.{Begins}, Listing.{Lists, command_with, keys_text}, Printed.{PrintsAll}, Recorded.{CountsRecords}};
@@ -12,7 +13,8 @@ use crate::datasets::{Halt, print};
 use crate::lines::{KeyLines, Lines, lines_with};
 use crate::reading::{partial, ruled};
 use fd_objects::{Objects, World};
-use fd_outcome::{Status, tell_output_failed};
+use fd_outcome::tell_output_failed;
+use fd_stored::Status;
 use fd_telling::tell_stop;
 use fd_words::Root;
 

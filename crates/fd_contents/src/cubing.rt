@@ -8,8 +8,8 @@ use crate::gathering::keys_asked;
 use crate::reading::partial;
 use crate::telling::tell_keys;
 use fd_objects::{Objects, World};
-use fd_outcome::Status;
 use fd_request::Partial;
+use fd_stored::Status;
 use fd_telling::tell_stop;
 use fd_words::Root;
 

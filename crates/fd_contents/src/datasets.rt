@@ -5,7 +5,7 @@ ghost use Rattle.fd_io.specs.Streams.{TakesFront};
 ghost use Rattle.fd_spelling.specs.Texts.{texts};
 ghost use Rattle.fd_recovery.specs.{Crashing.{IsFirmTable}, Recovered.{IsUndamaged}};
 ghost use Rattle.fd_inventory.specs.Indexes.{IsAmongBad, OnLines};
-ghost use Rattle.fd_outcome.specs.Store.{AreNames, IsLookedThrough, has_table};
+ghost use Rattle.fd_stored.specs.Store.{AreNames, IsLookedThrough, has_table};
 ghost use Rattle.fd_retrieve.specs.{Open.{IsOpenIn}, Ready.{AreFirmOf, IsBrokenOf}};
 ghost use Rattle.fd_telling.specs.Stops.{OfDataset};
 ghost use Rattle.fd_contents.specs.{Halts.{HasHaltCause, IsWrite, OnStop, OnUnwritten}, Printed.{ArePrinted, IsPrinted}, Texts.{text_for, texts_for}};

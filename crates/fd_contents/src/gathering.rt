@@ -5,7 +5,7 @@ ghost use Rattle.fd_spelling.specs.Texts.{texts};
 ghost use Rattle.fd_segment.specs.Causes.{OnDamaged};
 ghost use Rattle.fd_recovery.specs.Recovered.{IsUndamaged};
 ghost use Rattle.fd_inventory.specs.Indexes.{IsAmongBad};
-ghost use Rattle.fd_outcome.specs.Store.{AreNames, IsLookedThrough};
+ghost use Rattle.fd_stored.specs.Store.{AreNames, IsLookedThrough};
 ghost use Rattle.fd_retrieve.specs.{Open.{IsOpenIn}, Ready.{IsBrokenOf, NoneIsDamaged}};
 ghost use Rattle.fd_telling.specs.Stops.{OfDataset};
 ghost use Rattle.fd_contents.specs.Gathering.{FindsAll, FindsIn};

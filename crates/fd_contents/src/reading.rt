@@ -7,8 +7,9 @@ ghost use Rattle.fd_contents.specs.Asked.{IsEarly, IsRuled, Refuses, asked_in, u
 
 use fd_disk::Store;
 use fd_io::Source;
-use fd_outcome::{INPUT_LIMIT, Unread, Unruled, read_front, stored_schema};
+use fd_outcome::{Unread, Unruled, read_front, stored_schema};
 use fd_request::{Partial, RequestFault};
+use fd_split::INPUT_LIMIT;
 use fd_telling::Stop;
 use fd_words::Root;
 use std::alloc::Global;

@@ -3,8 +3,9 @@ ghost use Rattle.std.specs.{Prelude.{◌≡◌, ◌≤◌, ◌≢◌, IfOk, Matc
 ghost use Rattle.fd_request.specs.Grammar.{is_range_word};
 ghost use Rattle.fd_spelling.specs.Texts.{texts};
 ghost use Rattle.fd_cubes.specs.Cubes.{IsAskable};
-ghost use Rattle.fd_outcome.specs.Causes as causes;
-ghost use Rattle.fd_outcome.specs.{Causes.{telling}, Cubing.{first_ranged, is_ranged, keys_refusal}, Told.{ToldOrNoMemory}};
+ghost use Rattle.fd_stored.specs.Causes as causes;
+ghost use Rattle.fd_outcome.specs.{Cubing.{first_ranged, is_ranged, keys_refusal}, Told.{ToldOrNoMemory}};
+ghost use Rattle.fd_stored.specs.Causes.{telling};
 ghost use Rattle.fd_objects.specs.Given.{sink_of};
 ghost use Rattle.fd_contents.specs.{Cubing.{AreCubes}, Told.{ToldKeys, ToldLines}};
 
@@ -14,7 +15,8 @@ use fd_inventory::{Found, write_lines};
 use fd_io::Sink;
 use fd_key::Key;
 use fd_listing::TextFault;
-use fd_outcome::{Status, tell_limit, tell_no_memory, tell_output_failed, tell_text};
+use fd_outcome::{tell_limit, tell_no_memory, tell_output_failed, tell_text};
+use fd_stored::Status;
 use std::alloc::Global;
 
 /// How many keys a request may have.

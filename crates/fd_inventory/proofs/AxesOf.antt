@@ -11,7 +11,7 @@ use Rattle.fd_key.specs.Given.{pieces_of}
 use Rattle.fd_spelling.specs.Numerals.{cut, ◌>>=◌}
 use Rattle.fd_spelling.specs.Texts.{is_ascii}
 use Rattle.fd_request.specs.Expansion.{Keyword}
-use Rattle.fd_outcome.specs.Asking.{is_among}
+use Rattle.fd_stored.specs.Distinct.{is_among}
 use Rattle.fd_outcome.specs.Rows.{Row, Stored, axes_text, axis_lines, if_new, if_pair, if_short, index_lines, indexes, matches, names_in, of_index, order, put, put_by, put_matching, put_names, put_value, row_of, row_order, rows, rows_from, rows_of_batch, stored, stored_at, values_in, with_piece, with_pieces, with_text}
 use Rattle.fd_inventory.specs.Axes.{AddsIndex, AreApart, AreAxes, AreHalfway, HasDatum, HaveData, KeptNames, axes_lines, axes_of, axis_line, names_lines, names_of, put_pair, put_pairs, seen_axes, upsert}
 use Rattle.fd_inventory.specs.Shown.{AreRows, Kept, Shown, kept, shown}

@@ -13,7 +13,7 @@ use Rattle.fd_entries.specs.declared.batch.Pair.{Pair}
 use Rattle.fd_key.specs.Pairs as keys
 use Rattle.fd_key.specs.Pairs.{key_text}
 use Rattle.fd_request.specs.Expansion.{Keyword}
-use Rattle.fd_outcome.specs.Asking.{is_among}
+use Rattle.fd_stored.specs.Distinct.{is_among}
 use Rattle.fd_outcome.specs.Matching.{Keys, with_dataset, with_key, with_rows}
 use Rattle.fd_outcome.specs.Rows.{Row, Stored, rows, stored_at}
 use Rattle.fd_inventory.specs.Found.{AreFound, AreLeft, AreTexts, HasKey, HaveKeys, IsNamed, Keeps, keep, keep_rows}

@@ -16,7 +16,7 @@ use Rattle.std.proofs.lemmas.Map.Keys.{sorted_head, sorted_tail}
 use Rattle.std.proofs.lemmas.Map.Text.{is_eq-slice_cmp}
 use Rattle.std.proofs.lemmas.Slice.Eq.{bytes_eq-Decides}
 use Rattle.fd_disk.proofs.NameLemmas.{is_or_not}
-use Rattle.fd_outcome.specs.Asking.{is_among}
+use Rattle.fd_stored.specs.Distinct.{is_among}
 use Rattle.fd_outcome.specs.Rows.{order, put, put_by}
 use Rattle.fd_inventory.specs.Axes.{At, at_text, entries_or_none, text_order, upsert, upsert_by}
 

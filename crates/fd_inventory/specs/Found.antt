@@ -10,7 +10,7 @@ use Rattle.fd_spelling.specs.Texts.{spelled}
 use Rattle.fd_request.specs.Keywords.{differ_after}
 use Rattle.fd_cubes.specs.Cubes.{alone}
 use Rattle.fd_inventory.specs.Shown.{Kept, kept, shown}
-use Rattle.fd_outcome.specs.Asking.{is_among}
+use Rattle.fd_stored.specs.Distinct.{is_among}
 use Rattle.fd_outcome.specs.Matching.{Keys, with_key}
 use Rattle.fd_outcome.specs.Rows.{Row, stored_at}
 

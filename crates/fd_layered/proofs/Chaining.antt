@@ -8,7 +8,7 @@ use Rattle.std.proofs.lemmas.List.Elements.{All-nil, All-cons, All-head, All-tai
 use Rattle.fd_key.specs.Pairs.{Pair}
 use Rattle.fd_schema.specs.Rules.{Rule, Texts, file_key, place_from}
 use Rattle.fd_layers.specs.Based.{based, has_names, is_same_home, under, where_same}
-use Rattle.fd_outcome.specs.Causes.{Cause}
+use Rattle.fd_stored.specs.Causes.{Cause}
 use Rattle.fd_outcome.specs.Layered.{Laid, all_laid, all_places, laid_at, laid_before, laid_key, places_under, under_before, under_from}
 use Rattle.fd_layered.specs.Chains.{AreChains, IsChain, laid_by}
 

@@ -7,7 +7,7 @@ use Rattle.fd_request.specs.Spelled.{AreValues}
 use Rattle.fd_schema.specs.Rules.{Rule, Texts, place_from}
 use Rattle.fd_layers.specs.Based.{based}
 use Rattle.fd_words.specs.Words.{IsLayer}
-use Rattle.fd_outcome.specs.Causes.{Cause, NoRule}
+use Rattle.fd_stored.specs.Causes.{Cause, NoRule}
 use Rattle.fd_outcome.specs.Layered.{laid_at, laid_key, under_before, under_from}
 use Rattle.fd_telling.specs.declared.stop.Stop.{Stop}
 use Rattle.fd_telling.specs.declared.stop.Stop.TheVariants as stops

@@ -14,15 +14,16 @@ use Rattle.fd_request.specs.Expansion.{Keyword, expand}
 use Rattle.fd_words.specs.declared.command.Command.TheVariants.{RetrieveOver}
 use Rattle.fd_layers.specs.Tables.{laid}
 use Rattle.fd_ahead.specs.declared.located.Located.{Located}
-use Rattle.fd_outcome.specs.Asking.{Answer, Tables, is_among}
+use Rattle.fd_outcome.specs.Asking.{Answer, Tables}
+use Rattle.fd_stored.specs.Distinct.{is_among}
 use Rattle.fd_outcome.specs.Ends.{AmongLaid, Tells}
 use Rattle.fd_outcome.specs.Layered.{Laid, all_places, laid_datasets, laid_of, places_under, tables_at}
 use Rattle.fd_outcome.specs.Noticing.{AnsweredEach, AnswersFirmly, AreUndamaged, IsLaidAnswer, Noticed, Notices}
 use Rattle.fd_outcome.specs.Objects.{Object}
 use Rattle.fd_outcome.specs.Outcome.{answered}
-use Rattle.fd_outcome.specs.Store.{AreNames, table_at}
-use Rattle.fd_outcome.specs.declared.status.Status.{Status}
-use Rattle.fd_outcome.specs.declared.status.Status.TheVariants.{Done, Missed}
+use Rattle.fd_stored.specs.Store.{AreNames, table_at}
+use Rattle.fd_stored.specs.declared.status.Status.{Status}
+use Rattle.fd_stored.specs.declared.status.Status.TheVariants.{Done, Missed}
 use Rattle.fd_answering.specs.Located.{AreAt, IsAt}
 use Rattle.fd_retrieve.specs.Located.{IsLocated}
 use Rattle.fd_retrieve.specs.Open.{Open, table_in}

@@ -7,7 +7,7 @@ use Rattle.fd_schema.specs.declared.place.Place.{Place}
 use Rattle.fd_schema.specs.Reading.{seen_place}
 use Rattle.fd_request.specs.Expansion.{Keyword, expand}
 use Rattle.fd_words.specs.declared.command.Command.TheVariants.{RetrieveOver}
-use Rattle.fd_outcome.specs.Causes.{Cause}
+use Rattle.fd_stored.specs.Causes.{Cause}
 use Rattle.fd_outcome.specs.Ends.{AmongLaid}
 use Rattle.fd_outcome.specs.Layered.{laid_answers, laid_of}
 use Rattle.fd_outcome.specs.Outcome.{answered, answered_early, outcome, over_early, refused, retrieved_over}

@@ -13,11 +13,12 @@ use Rattle.fd_schema.specs.Reading.{seen_place}
 use Rattle.fd_schema.specs.Rules.{Rule, Texts, file_key}
 use Rattle.fd_request.specs.Expansion.{Keyword, expand}
 use Rattle.fd_layers.specs.Tables.{laid}
-use Rattle.fd_outcome.specs.Asking.{Tables, all_answers, count_distinct, is_among, request_in, rules_of, ◌then◌}
-use Rattle.fd_outcome.specs.Causes.{Cause, SchemaMissing, TooManyDatasets}
+use Rattle.fd_outcome.specs.Asking.{Tables, all_answers, request_in, rules_of, ◌then◌}
+use Rattle.fd_stored.specs.Distinct.{count_distinct, is_among}
+use Rattle.fd_stored.specs.Causes.{Cause, SchemaMissing, TooManyDatasets}
 use Rattle.fd_outcome.specs.Ends.{AmongLaid}
 use Rattle.fd_outcome.specs.Layered.{Laid, all_laid, all_places, laid_answer, laid_answers, laid_datasets, laid_of, places_under, table_before, tables_at, within_layers}
-use Rattle.fd_outcome.specs.Store.{Stays, has_table, table_at}
+use Rattle.fd_stored.specs.Store.{Stays, has_table, table_at}
 use Rattle.fd_telling.specs.declared.stop.Stop.{Stop}
 use Rattle.fd_telling.specs.Stops.{IsOfPlaces, IsOfRequest, IsRefused, NotRefused, OnRequest, OnTooMany, Says}
 use Rattle.fd_telling.proofs.StopLemmas.{many_says, places_stop, request_stop, says_of}

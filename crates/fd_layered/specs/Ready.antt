@@ -5,10 +5,11 @@ use Rattle.fd_key.specs.Pairs.{Pair}
 use Rattle.fd_schema.specs.declared.place.Place.{Place}
 use Rattle.fd_schema.specs.Reading.{seen_place}
 use Rattle.fd_request.specs.Expansion.{Keyword, expand}
-use Rattle.fd_outcome.specs.Asking.{is_among, request_in, rules_of, ◌then◌}
-use Rattle.fd_outcome.specs.Causes.{Cause}
+use Rattle.fd_outcome.specs.Asking.{request_in, rules_of, ◌then◌}
+use Rattle.fd_stored.specs.Distinct.{is_among}
+use Rattle.fd_stored.specs.Causes.{Cause}
 use Rattle.fd_outcome.specs.Layered.{Laid, all_laid, laid_answers, laid_of}
-use Rattle.fd_outcome.specs.Store.{table_at}
+use Rattle.fd_stored.specs.Store.{table_at}
 use Rattle.fd_retrieve.specs.Open.{IsOpenIn, Open, names_of, table_in}
 use Rattle.fd_retrieve.specs.Ready.{NoneIsDamaged}
 use Rattle.fd_retrieve.specs.Tables.{datasets_in}

@@ -5,7 +5,8 @@ ghost use Rattle.fd_schema.specs.{Reading.{seen_place}, Rules.{Texts, place_from
 ghost use Rattle.fd_request.specs.{Expansion.{expand}, Spelled.{AreValues, IsSpelled}};
 ghost use Rattle.fd_layers.specs.Based.{based};
 ghost use Rattle.fd_words.specs.Words.{AreLayers};
-ghost use Rattle.fd_outcome.specs.{Causes.{NoRule}, Layered.{Laid, all_laid, laid_key, places_under, under_from}};
+ghost use Rattle.fd_outcome.specs.Layered.{Laid, all_laid, laid_key, places_under, under_from};
+ghost use Rattle.fd_stored.specs.Causes.{NoRule};
 ghost use Rattle.fd_telling.specs.Stops.{IsOfPlaces, IsRefused};
 ghost use Rattle.fd_layered.specs.{Chains.{AreChains, laid_by}, Laying.{LacksLayer, LacksOne}};
 

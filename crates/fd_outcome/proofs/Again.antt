@@ -20,14 +20,14 @@ use Rattle.fd_split.specs.Reading.{Wrong, reading_fields}
 use Rattle.fd_split.specs.Seen.{IsWhole}
 use Rattle.fd_split.proofs.Special.{all_whole, read_single}
 use Rattle.fd_words.specs.declared.command.Command.TheVariants as commands
-use Rattle.fd_outcome.specs.declared.refusal.Refusal.{Refusal}
-use Rattle.fd_outcome.specs.declared.status.Status.TheVariants.{Done}
-use Rattle.fd_outcome.specs.Limits.{input_limit}
-use Rattle.fd_outcome.specs.Fields.{FieldList, Numbered, all_numbered, behind_fields, fields_after, numbered, split_before, split_frames}
+use Rattle.fd_split.specs.declared.refusal.Refusal.{Refusal}
+use Rattle.fd_stored.specs.declared.status.Status.TheVariants.{Done}
+use Rattle.fd_split.specs.Limits.{input_limit}
+use Rattle.fd_split.specs.Fields.{FieldList, Numbered, all_numbered, behind_fields, fields_after, numbered, split_before, split_frames}
 use Rattle.fd_outcome.specs.Splitting.{Split, message_of, octets_of, split_after, split_line, split_of}
 use Rattle.fd_outcome.specs.Outcome.{Outcome, outcome, parted}
 use Rattle.fd_outcome.specs.Again.{SplitsAgain, same_again, written}
-use Rattle.fd_outcome.proofs.FrameLaws.{all_of}
+use Rattle.fd_split.proofs.FrameLaws.{all_of}
 
 -- ---- the frame of a message
 

@@ -6,14 +6,14 @@ use Rattle.fd_io.specs.Streams.{Takes}
 use Rattle.fd_disk.specs.Folders.{Holdings, WhereTold}
 use Rattle.fd_words.specs.declared.command.Command.{Command}
 use Rattle.fd_words.specs.declared.command.Command.TheVariants as commands
-use Rattle.fd_outcome.specs.declared.status.Status.{Status}
-use Rattle.fd_outcome.specs.declared.status.Status.TheVariants.{Done, Missed, Words, InputFault, OutputFault, DiskFault}
-use Rattle.fd_outcome.specs.Causes.{table_full}
+use Rattle.fd_stored.specs.declared.status.Status.{Status}
+use Rattle.fd_stored.specs.declared.status.Status.TheVariants.{Done, Missed, Words, InputFault, OutputFault, DiskFault}
+use Rattle.fd_stored.specs.Causes.{table_full}
 use Rattle.fd_outcome.specs.Ends.{Calm, Ends, Leaves, ReadsOut, UsesStore, WhereAsked, troubles}
 use Rattle.fd_outcome.specs.Objects.{Failed, Failures, Object, failures}
 use Rattle.fd_outcome.specs.Outcome.{early, outcome}
 use Rattle.fd_outcome.specs.Ran.{Ran}
-use Rattle.fd_outcome.specs.Store.{AreNames}
+use Rattle.fd_stored.specs.Store.{AreNames}
 use Rattle.fd_outcome.specs.Told.{Told}
 use Rattle.fd_outcome.proofs.Exits.{apart, either_of, is_disk_fault, is_input_fault, is_output_fault, is_whole, is_words, neither, rose_of}
 

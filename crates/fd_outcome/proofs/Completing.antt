@@ -5,14 +5,14 @@ use Rattle.fd_disk.specs.Folders.{Holdings, WhereTold, folder_at}
 use Rattle.fd_words.specs.declared.command.Command.{Command}
 use Rattle.fd_words.specs.declared.command.Command.TheVariants as commands
 use Rattle.fd_io.specs.Streams.{Takes, TakesFront}
-use Rattle.fd_outcome.specs.declared.status.Status.{Status}
-use Rattle.fd_outcome.specs.declared.status.Status.TheVariants.{Done, Missed, Words, Refused, InputFault, OutputFault, DiskFault, NoMemory, Damaged, Limit}
+use Rattle.fd_stored.specs.declared.status.Status.{Status}
+use Rattle.fd_stored.specs.declared.status.Status.TheVariants.{Done, Missed, Words, Refused, InputFault, OutputFault, DiskFault, NoMemory, Damaged, Limit}
 use Rattle.fd_outcome.specs.Told.{Told}
 use Rattle.fd_outcome.specs.Outcome.{Outcome, outcome, early}
 use Rattle.fd_outcome.specs.Objects.{Object, Failed, Failures, failures, object}
 use Rattle.fd_outcome.specs.Ends.{Runs, Ends, EndsUnasked, Calm, Completes, AreSound, IsBroken, StoresFields, TellsSome, Leaves, troubles, usage, no_memory}
-use Rattle.fd_outcome.specs.Causes.{Broken, table_full}
-use Rattle.fd_outcome.specs.Store.{table_at}
+use Rattle.fd_stored.specs.Causes.{Broken, table_full}
+use Rattle.fd_stored.specs.Store.{table_at}
 use Rattle.fd_outcome.specs.Ran.{Ran}
 use Rattle.fd_outcome.proofs.Asked.{where_asked}
 use Rattle.fd_outcome.proofs.Damaging.{damaged_held}

@@ -20,8 +20,8 @@ use Rattle.sha2.specs.Sha256.{sha256}
 use Rattle.std.proofs.lemmas.Slice.Eq.{bytes_eq-Decides}
 use Rattle.fd_recovery.specs.Damages.{damages, damages_at, damages_of, digest_damages, field_file, index_file, unlike}
 use Rattle.fd_recovery.specs.Recovered.{held, all_of, files_of}
-use Rattle.fd_outcome.specs.Causes.{Broken, BadTable, BadFile}
-use Rattle.fd_outcome.specs.Store.{Stands}
+use Rattle.fd_stored.specs.Causes.{Broken, BadTable, BadFile}
+use Rattle.fd_stored.specs.Store.{Stands}
 
 cons_cases : {X : Type 0} (x z : X) (xs : List X) → Contains (x ∷ xs) z → (x ≡ z) ⊎ Contains xs z
 cons_cases x z xs (zero, lt, e) = inl e

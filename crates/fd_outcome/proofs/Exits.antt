@@ -5,20 +5,20 @@ use Rattle.std.specs.Fmt.{decimal}
 use Rattle.fd_bytes.specs.Causes.{Rose}
 use Rattle.fd_disk.specs.Folders.{Holdings, WhereTold}
 use Rattle.fd_words.specs.declared.command.Command.{Command}
-use Rattle.fd_outcome.specs.declared.status.Status.{Status}
-use Rattle.fd_outcome.specs.declared.status.Status.TheVariants.{Done, Missed, Words, Refused, InputFault, OutputFault, DiskFault, NoMemory, Damaged, Limit}
+use Rattle.fd_stored.specs.declared.status.Status.{Status}
+use Rattle.fd_stored.specs.declared.status.Status.TheVariants.{Done, Missed, Words, Refused, InputFault, OutputFault, DiskFault, NoMemory, Damaged, Limit}
 use Rattle.fd_io.specs.Streams.{Takes, TakesFront}
 use Rattle.fd_request.specs.FaultTexts.{request_wrong_text}
 use Rattle.fd_listing.specs.Lines.{blank}
-use Rattle.fd_outcome.specs.declared.refusal.Refusal.{Refusal}
-use Rattle.fd_outcome.specs.declared.refusal.Refusal.TheVariants as refusals
-use Rattle.fd_outcome.specs.Refusals.{refusal_status}
-use Rattle.fd_outcome.specs.Causes as causes
-use Rattle.fd_outcome.specs.Causes.{Cause, telling, table_full, is_schema_limit, schema_limit, schema_place, is_request_limit, refused_so, damaged_so, limited_so}
+use Rattle.fd_split.specs.declared.refusal.Refusal.{Refusal}
+use Rattle.fd_split.specs.declared.refusal.Refusal.TheVariants as refusals
+use Rattle.fd_stored.specs.Refusals.{refusal_status}
+use Rattle.fd_stored.specs.Causes as causes
+use Rattle.fd_stored.specs.Causes.{Cause, telling, table_full, is_schema_limit, schema_limit, schema_place, is_request_limit, refused_so, damaged_so, limited_so}
 use Rattle.fd_outcome.specs.Told.{Told}
 use Rattle.fd_outcome.specs.Outcome.{Outcome, outcome, early}
 use Rattle.fd_outcome.specs.Objects.{Object, Failed, Failures, failures, object}
-use Rattle.fd_outcome.specs.Store.{AreNames}
+use Rattle.fd_stored.specs.Store.{AreNames}
 use Rattle.fd_outcome.specs.Ends.{Ends, Runs, AreCalm, Calm, Leaves, ReadsOut, WhereAsked, troubles, output_failed}
 use Rattle.fd_outcome.specs.Ran.{Ran}
 use Rattle.fd_outcome.proofs.Asked.{asked_all, where_asked}

@@ -7,10 +7,10 @@ use Rattle.fd_entries.specs.declared.batch.Pair.{Pair}
 use Rattle.fd_schema.specs.Rules.{Rule}
 use Rattle.fd_words.specs.declared.command.Command.{Command}
 use Rattle.fd_words.specs.declared.command.Command.TheVariants as commands
-use Rattle.fd_outcome.specs.declared.status.Status.{Status}
-use Rattle.fd_outcome.specs.declared.status.Status.TheVariants.{NoMemory, OutputFault}
-use Rattle.fd_outcome.specs.Causes.{Cause}
-use Rattle.fd_outcome.specs.Store.{Adds, Grows, IsLookedThrough, Sorted, StaysFolder, Stays, table_at}
+use Rattle.fd_stored.specs.declared.status.Status.{Status}
+use Rattle.fd_stored.specs.declared.status.Status.TheVariants.{NoMemory, OutputFault}
+use Rattle.fd_stored.specs.Causes.{Cause}
+use Rattle.fd_stored.specs.Store.{Adds, Grows, IsLookedThrough, Sorted, StaysFolder, Stays, table_at}
 use Rattle.fd_outcome.specs.Asking.{rules_of}
 use Rattle.fd_outcome.specs.Trying.{trial_rules}
 use Rattle.fd_outcome.specs.Reclaiming.{InDataset, LeavesPurged, LeavesWiped}

@@ -1,14 +1,10 @@
 pub mod Rows
 pub mod Endings
-pub mod InputLemmas
 pub mod Asked
 pub mod Leaving
 pub mod Starved
 pub mod Damaging
 pub mod Completing
 pub mod Exits
-pub mod InputLaws
 pub mod AnyCommand
-pub mod Positions
-pub mod FrameLaws
 pub mod Again

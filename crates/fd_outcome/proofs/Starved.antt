@@ -5,11 +5,11 @@ use Rattle.fd_bytes.specs.Causes.{Rose}
 use Rattle.fd_disk.specs.Folders.{Holdings}
 use Rattle.fd_words.specs.declared.command.Command.{Command}
 use Rattle.fd_words.specs.declared.command.Command.TheVariants as commands
-use Rattle.fd_outcome.specs.declared.status.Status.{Status}
-use Rattle.fd_outcome.specs.declared.status.Status.TheVariants.{Done, Missed, Words, Refused, InputFault, OutputFault, DiskFault, NoMemory, Damaged, Limit}
+use Rattle.fd_stored.specs.declared.status.Status.{Status}
+use Rattle.fd_stored.specs.declared.status.Status.TheVariants.{Done, Missed, Words, Refused, InputFault, OutputFault, DiskFault, NoMemory, Damaged, Limit}
 use Rattle.fd_outcome.specs.declared.listing.Listing.TheVariants as listings
-use Rattle.fd_outcome.specs.Causes.{Cause}
-use Rattle.fd_outcome.specs.Store.{table_at}
+use Rattle.fd_stored.specs.Causes.{Cause}
+use Rattle.fd_stored.specs.Store.{table_at}
 use Rattle.fd_outcome.specs.Picking.{found}
 use Rattle.fd_outcome.specs.Listed.{listed}
 use Rattle.fd_outcome.specs.Splitting.{octets_of, split_of}

@@ -2,8 +2,8 @@
 use Rattle.std.specs.Prelude.{◌≡◌, ◌≤◌, ℕ, List, length, Option, Some}
 use Rattle.fd_disk.specs.Folders.{Holdings}
 use Rattle.fd_words.specs.declared.command.Command.TheVariants as commands
-use Rattle.fd_outcome.specs.declared.status.Status.TheVariants.{Done}
-use Rattle.fd_outcome.specs.Limits.{input_limit}
+use Rattle.fd_stored.specs.declared.status.Status.TheVariants.{Done}
+use Rattle.fd_split.specs.Limits.{input_limit}
 use Rattle.fd_outcome.specs.Outcome.{Outcome, outcome}
 use Rattle.fd_outcome.specs.Splitting.{octets_of, split_line, split_of}
 

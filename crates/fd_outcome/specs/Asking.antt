@@ -1,7 +1,5 @@
 -- What a request is answered.
 use Rattle.std.specs.Prelude.{ℕ, ◌+◌, Bool, List, [], ◌∷◌, ◌++◌, take, map, filter, codes, nat_lt, option_map, Option, Some, None, Result, Ok, Err, if◌then◌else◌}
-use Rattle.std.specs.List.{list_any}
-use Rattle.std.specs.Str.{bytes_eq}
 use Rattle.std.specs.Fmt.{decimal}
 use Rattle.fd_disk.specs.Folders.{Holdings}
 use Rattle.fd_entries.specs.Batches.{newest}
@@ -14,9 +12,10 @@ use Rattle.fd_request.specs.Expansion.{Keyword, expand}
 use Rattle.fd_request.specs.Grammar as requests
 use Rattle.fd_request.specs.Limits.{request_of, partial_of}
 use Rattle.fd_listing.specs.Lines.{line}
-use Rattle.fd_outcome.specs.Limits.{input_limit}
-use Rattle.fd_outcome.specs.Causes.{Cause, InStored, SchemaMissing, InRequest, NoRule, TooManyDatasets}
-use Rattle.fd_outcome.specs.Store.{has_table}
+use Rattle.fd_split.specs.Limits.{input_limit}
+use Rattle.fd_stored.specs.Causes.{Cause, InStored, SchemaMissing, InRequest, NoRule, TooManyDatasets}
+use Rattle.fd_stored.specs.Store.{has_table}
+use Rattle.fd_stored.specs.Distinct.{count_distinct}
 
 infixl 10 ◌then◌
 abbrev pub ◌then◌ : {A B : Type 0} → Result A Cause → (A → Result B Cause) → Result B Cause
@@ -64,14 +63,6 @@ placed rules [] = Ok []
 placed rules (key ∷ keys) = placed_before key (place_from 0 rules key) (placed rules keys)
 
 -- ---- the datasets that are opened
-
-abbrev pub is_among : List (List ℕ) → List ℕ → Bool
-is_among names name = list_any (λ n. bytes_eq name n) names
-
--- how many of the names are distinct
-abbrev pub count_distinct : List (List ℕ) → ℕ
-count_distinct [] = 0
-count_distinct (n ∷ ns) = (if is_among ns n then 0 else 1) + count_distinct ns
 
 abbrev pub datasets_of : List Asked → List (List ℕ)
 datasets_of asked = map (λ a. a.place.dataset) asked

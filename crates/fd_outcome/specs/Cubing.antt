@@ -3,7 +3,7 @@ use Rattle.std.specs.Prelude.{ℕ, Bool, List, [], ◌∷◌, length, nat_lt, op
 use Rattle.std.specs.List.{list_any}
 use Rattle.fd_key.specs.Pairs.{Pair}
 use Rattle.fd_request.specs.Grammar.{is_range_word}
-use Rattle.fd_outcome.specs.Causes.{Cause, NoRequest, TooManyKeys}
+use Rattle.fd_stored.specs.Causes.{Cause, NoRequest, TooManyKeys}
 use Rattle.fd_outcome.specs.Matching.{Keys}
 
 -- one of the values is a word of ranges, `to` or `by`

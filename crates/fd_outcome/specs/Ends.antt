@@ -7,14 +7,14 @@ use Rattle.fd_key.specs.Pairs as keys
 use Rattle.fd_schema.specs.Rules.{Rule}
 use Rattle.fd_words.specs.declared.command.Command.{Command}
 use Rattle.fd_words.specs.declared.command.Command.TheVariants as commands
-use Rattle.fd_outcome.specs.declared.status.Status.{Status}
-use Rattle.fd_outcome.specs.declared.status.Status.TheVariants.{Done, Missed, Words, Refused, InputFault, OutputFault, DiskFault, NoMemory, Damaged, Limit}
+use Rattle.fd_stored.specs.declared.status.Status.{Status}
+use Rattle.fd_stored.specs.declared.status.Status.TheVariants.{Done, Missed, Words, Refused, InputFault, OutputFault, DiskFault, NoMemory, Damaged, Limit}
 use Rattle.fd_listing.specs.Lines.{line}
-use Rattle.fd_outcome.specs.Causes.{Cause, Broken, damaged_line, table_full}
-use Rattle.fd_outcome.specs.Store.{AreNames, IsFull, Grows, GrowsBy, IsLookedThrough, Plants, Stands, Stays, table_at}
+use Rattle.fd_stored.specs.Causes.{Cause, Broken, damaged_line, table_full}
+use Rattle.fd_stored.specs.Store.{AreNames, IsFull, Grows, GrowsBy, IsLookedThrough, Plants, Stands, Stays, table_at}
 use Rattle.fd_outcome.specs.Asking.{Asked, ◌then◌, asked_of, datasets_of, partial_in, rules_of}
 use Rattle.fd_outcome.specs.Layered.{Laid, laid_datasets, laid_of}
-use Rattle.fd_outcome.specs.Archiving.{Taken, taken, taken_of, pairs_for, datasets_in}
+use Rattle.fd_stored.specs.Archiving.{Taken, taken, taken_of, pairs_for, datasets_in}
 use Rattle.fd_outcome.specs.Objects.{Object, Failed, Failures, IsCalm, failures}
 use Rattle.fd_outcome.specs.Reclaiming.{InDataset, LeavesPurged, LeavesWiped}
 use Rattle.fd_outcome.specs.Trying.{trial_given, trial_rules, trial_schema}

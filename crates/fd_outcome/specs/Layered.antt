@@ -8,9 +8,10 @@ use Rattle.fd_layers.specs.Based.{based}
 use Rattle.fd_layers.specs.Tables.{laid}
 use Rattle.fd_request.specs.Expansion.{expand}
 use Rattle.fd_schema.specs.Rules.{Rule, Texts, file_key, place_from}
-use Rattle.fd_outcome.specs.Asking.{Answer, Tables, ◌then◌, all_answers, count_distinct, request_in, rules_of}
-use Rattle.fd_outcome.specs.Causes.{Cause, NoLayer, NoRule, TooManyDatasets}
-use Rattle.fd_outcome.specs.Store.{has_table}
+use Rattle.fd_outcome.specs.Asking.{Answer, Tables, ◌then◌, all_answers, request_in, rules_of}
+use Rattle.fd_stored.specs.Distinct.{count_distinct}
+use Rattle.fd_stored.specs.Causes.{Cause, NoLayer, NoRule, TooManyDatasets}
+use Rattle.fd_stored.specs.Store.{has_table}
 
 -- ---- the keys with their places
 

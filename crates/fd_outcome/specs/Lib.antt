@@ -1,17 +1,8 @@
-pub mod Codes
-pub mod Limits
-pub mod Inputs
-pub mod Fields
-pub mod Positions
 pub mod Splitting
 pub mod Picking
 pub mod Listed
-pub mod Refusals
-pub mod Causes
-pub mod Store
 pub mod Asking
 pub mod Layered
-pub mod Archiving
 pub mod Trying
 pub mod Rows
 pub mod Matching

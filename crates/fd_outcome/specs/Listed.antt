@@ -10,9 +10,9 @@ use Rattle.fd_listing.specs.Describe.{describe_text}
 use Rattle.fd_listing.specs.Values.{values_text, most_points}
 use Rattle.fd_outcome.specs.declared.listing.Listing.{Listing}
 use Rattle.fd_outcome.specs.declared.listing.Listing.TheVariants as listings
-use Rattle.fd_outcome.specs.declared.refusal.Refusal.{Refusal}
-use Rattle.fd_outcome.specs.declared.refusal.Refusal.TheVariants.{Field, Points}
-use Rattle.fd_outcome.specs.Inputs.{refused, of_input}
+use Rattle.fd_split.specs.declared.refusal.Refusal.{Refusal}
+use Rattle.fd_split.specs.declared.refusal.Refusal.TheVariants.{Field, Points}
+use Rattle.fd_split.specs.Inputs.{refused, of_input}
 
 -- a line for each point of a field, or why the field of message n is refused
 abbrev pub field_lines : ℕ → Option ℕ → Result Packed FieldFault → Result (List ℕ) Refusal

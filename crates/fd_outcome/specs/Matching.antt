@@ -4,7 +4,7 @@ use Rattle.fd_entries.specs.declared.batch.Pair.{Pair}
 use Rattle.fd_key.specs.Pairs as keys
 use Rattle.fd_key.specs.Pairs.{key_text}
 use Rattle.fd_request.specs.Expansion.{Keyword}
-use Rattle.fd_outcome.specs.Asking.{is_among}
+use Rattle.fd_stored.specs.Distinct.{is_among}
 use Rattle.fd_outcome.specs.Rows.{Row, rows}
 
 abbrev pub Keys : Type 0

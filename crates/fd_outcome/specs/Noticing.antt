@@ -13,10 +13,10 @@ use Rattle.fd_schema.specs.Rules.{Rule, file_key}
 use Rattle.fd_layers.specs.Tables.{laid}
 use Rattle.fd_words.specs.declared.command.Command.{Command}
 use Rattle.fd_words.specs.declared.command.Command.TheVariants as commands
-use Rattle.fd_outcome.specs.declared.status.Status.{Status}
-use Rattle.fd_outcome.specs.declared.status.Status.TheVariants.{Done, Missed}
-use Rattle.fd_outcome.specs.Causes.{Cause}
-use Rattle.fd_outcome.specs.Store.{AreNames, IsLookedAt, entries_in, table_at}
+use Rattle.fd_stored.specs.declared.status.Status.{Status}
+use Rattle.fd_stored.specs.declared.status.Status.TheVariants.{Done, Missed}
+use Rattle.fd_stored.specs.Causes.{Cause}
+use Rattle.fd_stored.specs.Store.{AreNames, IsLookedAt, entries_in, table_at}
 use Rattle.fd_outcome.specs.Asking.{Answer, Asked, Tables, ◌then◌, asked_of, partial_in, rules_of}
 use Rattle.fd_outcome.specs.Layered.{Laid, laid_of, places_under, tables_at}
 use Rattle.fd_outcome.specs.Objects.{IsCalm, Object}
@@ -157,10 +157,3 @@ pub record IsUnread (input : Object (List ℕ)) : Type 0 where
 -- where the schema that is stored doesn't let the command begin, it reads nothing of the input
 abbrev pub ReadsFitly : Command → Object Holdings → Object (List ℕ) → Type 0
 ReadsFitly command store input = IfSome store.before (λ h. IsUnfit command h.schema → IsUnread input)
-
--- ---- what is damaged stays
-
--- Each dataset of which the table's bytes are none, or a file is absent or too short, or an index has another digest, has the files
--- that it had, and its table as it was, or synced, and what was synced read as one of its images.
-abbrev pub SparesDamaged : Holdings → Holdings → Type 0
-SparesDamaged h i = (name : List ℕ) → ¬ (IsUndamaged name (folder_at h name)) → IsLookedAt (folder_at h name) (folder_at i name)

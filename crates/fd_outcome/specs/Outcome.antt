@@ -15,18 +15,18 @@ use Rattle.fd_listing.specs.Lines.{line}
 use Rattle.fd_words.specs.declared.command.Command.{Command}
 use Rattle.fd_words.specs.declared.command.Command.TheVariants as commands
 use Rattle.fd_outcome.specs.declared.listing.Listing.TheVariants as listings
-use Rattle.fd_outcome.specs.declared.refusal.Refusal.{Refusal}
-use Rattle.fd_outcome.specs.declared.status.Status.{Status}
-use Rattle.fd_outcome.specs.declared.status.Status.TheVariants.{Done, Missed}
-use Rattle.fd_outcome.specs.Refusals.{refusal_line, refusal_status}
-use Rattle.fd_outcome.specs.Causes.{Cause, InSchema, SchemaPresent, telling}
+use Rattle.fd_split.specs.declared.refusal.Refusal.{Refusal}
+use Rattle.fd_stored.specs.declared.status.Status.{Status}
+use Rattle.fd_stored.specs.declared.status.Status.TheVariants.{Done, Missed}
+use Rattle.fd_stored.specs.Refusals.{refusal_line, refusal_status}
+use Rattle.fd_stored.specs.Causes.{Cause, InSchema, SchemaPresent, telling}
 use Rattle.fd_outcome.specs.Picking.{found}
 use Rattle.fd_outcome.specs.Listed.{Listed, listed}
 use Rattle.fd_outcome.specs.Splitting.{Split, octets_of, split_line, split_of}
-use Rattle.fd_outcome.specs.Store.{table_at, entries_in}
+use Rattle.fd_stored.specs.Store.{table_at, entries_in}
 use Rattle.fd_outcome.specs.Asking.{Answer, Asked, rules_of, partial_in, asked_of, answers, found_bytes, miss_lines, counts_line, count_missed, ◌then◌}
 use Rattle.fd_outcome.specs.Layered.{Laid, laid_answers, laid_of}
-use Rattle.fd_outcome.specs.Archiving.{Taken, taken, archived_line, datasets_in}
+use Rattle.fd_stored.specs.Archiving.{Taken, taken, archived_line, datasets_in}
 use Rattle.fd_outcome.specs.Trying.{tally_of, trial_answers, trial_given, trial_line, trial_rules}
 use Rattle.fd_outcome.specs.Rows.{list_text, axes_text, stats_text}
 use Rattle.fd_outcome.specs.Reclaiming.{purge_told, wipe_told}

@@ -5,9 +5,9 @@ use Rattle.fd_sections.specs.Stream.{Stream}
 use Rattle.fd_key.specs.declared.fault.KeyFault.{KeyFault}
 use Rattle.fd_key.specs.Pairs.{Pair, has_all}
 use Rattle.fd_key.specs.Keys.{key_of}
-use Rattle.fd_outcome.specs.declared.refusal.Refusal.{Refusal}
-use Rattle.fd_outcome.specs.declared.refusal.Refusal.TheVariants.{Key}
-use Rattle.fd_outcome.specs.Inputs.{refused, of_input}
+use Rattle.fd_split.specs.declared.refusal.Refusal.{Refusal}
+use Rattle.fd_split.specs.declared.refusal.Refusal.TheVariants.{Key}
+use Rattle.fd_split.specs.Inputs.{refused, of_input}
 
 abbrev pub has_wanted : List Pair → Result (List Pair) KeyFault → Bool
 has_wanted wanted (Ok pairs) = has_all pairs wanted

@@ -1,11 +1,11 @@
 -- What a command that ran has done.
 use Rattle.std.specs.Prelude.{◌≡◌, ◌⊎◌, ℕ, List}
 use Rattle.fd_io.specs.Streams.{Takes}
-use Rattle.fd_outcome.specs.Causes.{table_full}
+use Rattle.fd_stored.specs.Causes.{table_full}
 use Rattle.fd_disk.specs.Folders.{Holdings, WhereTold}
 use Rattle.fd_words.specs.declared.command.Command.{Command}
-use Rattle.fd_outcome.specs.declared.status.Status.{Status}
-use Rattle.fd_outcome.specs.declared.status.Status.TheVariants.{Done, Missed, Words, InputFault, OutputFault, DiskFault}
+use Rattle.fd_stored.specs.declared.status.Status.{Status}
+use Rattle.fd_stored.specs.declared.status.Status.TheVariants.{Done, Missed, Words, InputFault, OutputFault, DiskFault}
 use Rattle.fd_outcome.specs.Objects.{Object, Failed}
 use Rattle.fd_outcome.specs.Ends.{Runs, Leaves, ReadsOut, Calm}
 

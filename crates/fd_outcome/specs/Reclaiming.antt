@@ -10,9 +10,9 @@ use Rattle.fd_purge.specs.Kept.{masked, unmasked}
 use Rattle.fd_purge.specs.Stored.{IsLeftFirmly}
 use Rattle.fd_purge.specs.Purging.{HasWiped, IsLeftByPurge, IsLeftByWipe, IsPurged, first_over, masks_of, read_of}
 use Rattle.fd_listing.specs.Lines.{line}
-use Rattle.fd_outcome.specs.declared.status.Status.{Status}
-use Rattle.fd_outcome.specs.declared.status.Status.TheVariants.{Done, Missed, Words, Refused, InputFault, OutputFault, DiskFault, NoMemory, Damaged, Limit}
-use Rattle.fd_outcome.specs.Causes.{Cause, NoDataset, WriterTooGreat}
+use Rattle.fd_stored.specs.declared.status.Status.{Status}
+use Rattle.fd_stored.specs.declared.status.Status.TheVariants.{Done, Missed, Words, Refused, InputFault, OutputFault, DiskFault, NoMemory, Damaged, Limit}
+use Rattle.fd_stored.specs.Causes.{Cause, NoDataset, WriterTooGreat}
 
 -- ---- what is told
 

@@ -5,8 +5,8 @@ use Rattle.std.specs.Fmt.{decimal}
 use Rattle.fd_sections.specs.Frames.{Frames}
 use Rattle.fd_sections.specs.Message.{message_octets}
 use Rattle.fd_listing.specs.Lines.{line}
-use Rattle.fd_outcome.specs.declared.refusal.Refusal.{Refusal}
-use Rattle.fd_outcome.specs.Fields.{Numbered, fields_after, of_frames}
+use Rattle.fd_split.specs.declared.refusal.Refusal.{Refusal}
+use Rattle.fd_split.specs.Fields.{Numbered, fields_after, of_frames}
 
 -- The fields of an input, why what follows them is refused, if it is, and how many octets are skipped.
 pub record Split : Type 0 where

@@ -7,9 +7,9 @@ use Rattle.fd_entries.specs.Batches.{of_batch}
 use Rattle.fd_schema.specs.Rules.{Rule}
 use Rattle.fd_schema.specs.Printed.{schema_text}
 use Rattle.fd_listing.specs.Lines.{line}
-use Rattle.fd_outcome.specs.Causes.{Cause, SchemaDifferent}
+use Rattle.fd_stored.specs.Causes.{Cause, SchemaDifferent}
 use Rattle.fd_outcome.specs.Asking.{rules_of, bytes_or_none, count_if, ◌then◌}
-use Rattle.fd_outcome.specs.Archiving.{Stored, pairs_for}
+use Rattle.fd_stored.specs.Archiving.{Stored, pairs_for}
 
 -- the schema that is planted where there is none
 abbrev pub trial_schema : List ℕ

@@ -17,13 +17,13 @@ use Rattle.fd_listing.specs.Lines.{line}
 use Rattle.fd_segment.specs.declared.fault.Damage.TheVariants as damages
 use Rattle.fd_entries.specs.Batches.{newest}
 use Rattle.fd_words.specs.declared.command.Command.TheVariants.{Create, Retrieve, RetrieveOver, List as List_, Axes, Split, Stats, Trial}
-use Rattle.fd_outcome.specs.declared.status.Status.TheVariants.{Done, Missed, Refused, Damaged}
-use Rattle.fd_outcome.specs.Causes.{Cause, BadTable, BadFile, damaged_line}
+use Rattle.fd_stored.specs.declared.status.Status.TheVariants.{Done, Missed, Refused, Damaged}
+use Rattle.fd_stored.specs.Causes.{Cause, BadTable, BadFile, damaged_line}
 use Rattle.fd_outcome.specs.Asking.{Asked, rules_of, request_in, partial_in, placed, ◌then◌}
-use Rattle.fd_outcome.specs.Archiving.{taken}
+use Rattle.fd_stored.specs.Archiving.{taken}
 use Rattle.fd_outcome.specs.Trying.{trial_rules}
 use Rattle.fd_outcome.specs.Outcome.{outcome, archived}
-use Rattle.fd_outcome.specs.Store.{table_at}
+use Rattle.fd_stored.specs.Store.{table_at}
 
 -- m(0): one field of 183 octets
 abbrev pub field : List ℕ

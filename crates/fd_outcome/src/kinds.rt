@@ -4,13 +4,14 @@ ghost use Rattle.fd_listing.specs.Lines.{blank, line};
 ghost use Rattle.fd_schema.specs.Grammar as schemas;
 ghost use Rattle.fd_schema.specs.{Reading.{IsFirst, Names}, FaultTexts.{schema_wrong_text}};
 ghost use Rattle.fd_request.specs.{Reading.{seen_kind}, FaultTexts.{request_kind_text}};
-ghost use Rattle.fd_outcome.specs.{Causes.{is_schema_limit, is_request_limit, no_schema}, Told.{Told, ToldOrNoMemory}};
+ghost use Rattle.fd_outcome.specs.Told.{Told, ToldOrNoMemory};
+ghost use Rattle.fd_stored.specs.Causes.{is_schema_limit, is_request_limit, no_schema};
 
 use crate::report::{tell_made, tell_no_memory};
-use crate::status::Status;
 use fd_io::Sink;
 use fd_request::RequestKind;
 use fd_schema::SchemaKind;
+use fd_stored::Status;
 use std::alloc::{AllocError, Global};
 
 /// The kind of what is wrong in a schema, with its numbers.

@@ -9,23 +9,19 @@ mod kinds;
 mod listing;
 mod pieces;
 mod reading;
-mod refusal;
 mod report;
-mod status;
 mod stored;
 
 pub use kinds::{
     is_request_limit, request_kind, tell_limit, tell_no_schema, tell_place, tell_text,
 };
 pub use listing::Listing;
-pub use pieces::{INPUT_LIMIT, new_buffer, read_piece, read_some};
+pub use pieces::{new_buffer, read_piece, read_some};
 pub use reading::{Unread, read_front};
-pub use refusal::{Refusal, refusal_of};
 pub use report::{
     tell, tell_disk_failed, tell_input_failed, tell_made, tell_no_memory, tell_noted, tell_number,
     tell_output_failed, tell_refusal,
 };
-pub use status::Status;
 pub use stored::{Unruled, stored_schema};
 
 /// The worked rows.

@@ -5,10 +5,8 @@ ghost use Rattle.fd_io.specs.Streams.{Gives, IsAtEnd};
 
 use fd_bytes::NoMemory;
 use fd_io::Source;
+use fd_split::INPUT_LIMIT;
 use std::alloc::Global;
-
-/// How many octets an input may have.
-pub const INPUT_LIMIT: u64 = 68_719_476_736;
 
 /// How many octets are read at a time.
 const PIECE: usize = 65_536;

@@ -2,12 +2,13 @@
 ghost use Rattle.std.specs.{Prelude.{◌≡◌, ◌≤◌, ◌++◌, List, ℕ, IfOk, codes, string_bytes}, Fmt.{decimal}};
 ghost use Rattle.fd_bytes.specs.Causes.{Rose};
 ghost use Rattle.fd_listing.specs.Lines.{line};
-ghost use Rattle.fd_outcome.specs.{Refusals.{refusal_line, refusal_status}, Ends.{disk_failed, input_failed, output_failed}, Told.{OnLongInput, Told, ToldOrNoMemory}};
+ghost use Rattle.fd_outcome.specs.{Ends.{disk_failed, input_failed, output_failed}, Told.{OnLongInput, Told, ToldOrNoMemory}};
+ghost use Rattle.fd_stored.specs.Refusals.{refusal_line, refusal_status};
 
-use crate::refusal::Refusal;
-use crate::status::Status;
 use fd_disk::Store;
 use fd_io::{Sink, write_all};
+use fd_split::Refusal;
+use fd_stored::Status;
 use std::alloc::{AllocError, Global};
 
 /// Writes the text that goes with a status. Where it can't be written, the status is that of a failed output.

@@ -9,17 +9,17 @@ use Rattle.fd_schema.specs.Reading.{IsFirst}
 use Rattle.fd_schema.specs.declared.fault.SchemaKind.{SchemaKind}
 use Rattle.fd_words.specs.declared.command.Command.{Command}
 use Rattle.fd_words.specs.declared.command.Command.TheVariants as commands
-use Rattle.fd_outcome.specs.declared.status.Status.{Status}
-use Rattle.fd_outcome.specs.declared.status.Status.TheVariants.{Done, Missed, Words, Refused, InputFault, OutputFault, DiskFault, NoMemory, Damaged, Limit}
+use Rattle.fd_stored.specs.declared.status.Status.{Status}
+use Rattle.fd_stored.specs.declared.status.Status.TheVariants.{Done, Missed, Words, Refused, InputFault, OutputFault, DiskFault, NoMemory, Damaged, Limit}
 use Rattle.fd_outcome.specs.Asking.{rules_of}
-use Rattle.fd_outcome.specs.Causes as causes
-use Rattle.fd_outcome.specs.Causes.{Broken, Cause, damaged_line, table_full, telling}
+use Rattle.fd_stored.specs.Causes as causes
+use Rattle.fd_stored.specs.Causes.{Broken, Cause, damaged_line, table_full, telling}
 use Rattle.fd_outcome.specs.Ends.{Calm, Ends, IsBroken, Leaves, Opens, ReadsOut, UsesStore, disk_failed, no_memory, troubles}
 use Rattle.fd_outcome.specs.Objects.{Failed, Failures, Object, failures, object}
 use Rattle.fd_outcome.specs.Outcome.{Early, Outcome, early, nothing_early, outcome, reclaimed, refused, reported}
 use Rattle.fd_outcome.specs.Ran.{Ran}
 use Rattle.fd_outcome.specs.Reclaiming.{InDataset, LeavesReclaimed, PurgeDone, PurgeUnderWay, WipeDone, WipeUnderWay, purge_told, wipe_told}
-use Rattle.fd_outcome.specs.Store.{AreNames, Stands}
+use Rattle.fd_stored.specs.Store.{AreNames, Stands}
 use Rattle.fd_outcome.specs.Told.{Told, ToldOrNoMemory}
 use Rattle.fd_outcome.proofs.AnyCommand.{Seen, told_of}
 use Rattle.fd_outcome.proofs.Endings.{CanStop, CanTell, ends_at_once, ends_with_line}

@@ -12,11 +12,11 @@ use Rattle.fd_schema.specs.Rules.{Rule}
 use Rattle.fd_segment.specs.Causes.{IsBadIndex}
 use Rattle.fd_segment.specs.declared.fault.Damage.{Damage}
 use Rattle.fd_outcome.specs.Asking.{rules_of}
-use Rattle.fd_outcome.specs.Causes as causes
-use Rattle.fd_outcome.specs.Causes.{BadFile, BadTable, Cause}
+use Rattle.fd_stored.specs.Causes as causes
+use Rattle.fd_stored.specs.Causes.{BadFile, BadTable, Cause}
 use Rattle.fd_outcome.specs.Outcome.{Outcome, reclaimed, refused, reported}
 use Rattle.fd_outcome.specs.Reclaiming.{InDataset, PurgeDone, of_table, purge_text, purge_told, purged_line, unless_over, wipe_told, wiped_line}
-use Rattle.fd_outcome.specs.Store.{Stands, StandsIn}
+use Rattle.fd_stored.specs.Store.{Stands, StandsIn}
 use Rattle.fd_purge.specs.declared.fault.PurgeFault.{PurgeFault}
 use Rattle.fd_purge.specs.declared.fault.PurgeFault.TheVariants as faults
 use Rattle.fd_purge.specs.Causes.{NoWriters, OnDamaged, OnNotATable, OnWriters}

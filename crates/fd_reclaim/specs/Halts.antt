@@ -4,14 +4,14 @@ use Rattle.fd_disk.specs.Folders.{Contents, Holdings, folder_at}
 use Rattle.fd_schema.specs.Grammar as schemas
 use Rattle.fd_schema.specs.Reading.{IsFirst}
 use Rattle.fd_schema.specs.Rules.{Rule}
-use Rattle.fd_outcome.specs.Causes as causes
-use Rattle.fd_outcome.specs.Causes.{Cause, damaged_line}
+use Rattle.fd_stored.specs.Causes as causes
+use Rattle.fd_stored.specs.Causes.{Cause, damaged_line}
 use Rattle.fd_outcome.specs.Ends.{disk_failed, no_memory}
 use Rattle.fd_outcome.specs.Outcome.{Outcome, refused}
-use Rattle.fd_outcome.specs.Store.{Stands}
+use Rattle.fd_stored.specs.Store.{Stands}
 use Rattle.fd_outcome.specs.Told.{Told, ToldOrNoMemory}
-use Rattle.fd_outcome.specs.declared.status.Status.{Status}
-use Rattle.fd_outcome.specs.declared.status.Status.TheVariants as statuses
+use Rattle.fd_stored.specs.declared.status.Status.{Status}
+use Rattle.fd_stored.specs.declared.status.Status.TheVariants as statuses
 use Rattle.fd_outcome.specs.declared.stored.Unruled.{Unruled}
 use Rattle.fd_outcome.specs.declared.stored.Unruled.TheVariants as unruled
 use Rattle.fd_purge.specs.declared.fault.PurgeFault.{PurgeFault}

@@ -7,7 +7,7 @@ ghost use Rattle.fd_objects.specs.Objects.{Over};
 use crate::reclaiming::{purged, wiped};
 use crate::telling::{tell_halt, tell_purged, tell_wiped};
 use fd_objects::{Objects, World};
-use fd_outcome::Status;
+use fd_stored::Status;
 use fd_words::{Dataset, Root};
 
 /// Has the table of a dataset list only entries that no later ones mask, removes the files of the others, and tells how many

@@ -1,14 +1,16 @@
 // The lines on the report.
 ghost use Rattle.std.specs.Prelude.{◌≡◌};
 ghost use Rattle.fd_bytes.specs.Causes.{Rose};
-ghost use Rattle.fd_outcome.specs.{Causes.{WriterTooGreat, telling}, Reclaiming.{purged_line, wiped_line}, Told.{ToldOrNoMemory}};
+ghost use Rattle.fd_outcome.specs.{Reclaiming.{purged_line, wiped_line}, Told.{ToldOrNoMemory}};
+ghost use Rattle.fd_stored.specs.Causes.{WriterTooGreat, telling};
 ghost use Rattle.fd_reclaim.specs.Halts.{OnDisk, ToldHalt};
 
 use crate::halt::Halt;
 use fd_disk::Store;
 use fd_io::Sink;
-use fd_outcome::{Status, tell, tell_made, tell_no_memory, tell_noted, tell_place};
+use fd_outcome::{tell, tell_made, tell_no_memory, tell_noted, tell_place};
 use fd_purge::Purged;
+use fd_stored::Status;
 use fd_telling::{tell_broken, tell_schema};
 use std::alloc::Global;
 

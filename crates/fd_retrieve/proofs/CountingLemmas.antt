@@ -11,8 +11,9 @@ use Rattle.fd_retriever.specs.Answers.{IsAnswer}
 use Rattle.fd_retriever.specs.declared.fault.Got.TheVariants as gots
 use Rattle.fd_schema.specs.Reading.{seen_place}
 use Rattle.fd_schema.specs.declared.place.Place.{Place}
-use Rattle.fd_outcome.specs.Asking.{Tables, bytes_or_none, count_if, is_among}
-use Rattle.fd_outcome.specs.Store.{Stays, table_at}
+use Rattle.fd_outcome.specs.Asking.{Tables, bytes_or_none, count_if}
+use Rattle.fd_stored.specs.Distinct.{is_among}
+use Rattle.fd_stored.specs.Store.{Stays, table_at}
 use Rattle.fd_outcome.specs.Trying.{tally_of}
 use Rattle.fd_retrieve.specs.declared.counting.Counted.{Counted}
 use Rattle.fd_telling.specs.declared.stop.Stop.{Stop}

@@ -12,15 +12,15 @@ use Rattle.fd_dataset.specs.Listed.{listing}
 use Rattle.fd_recovery.specs.Recovered.{all_of}
 use Rattle.fd_retriever.specs.Answers.{Tells}
 use Rattle.fd_retrieve.proofs.Staying.{some_is}
-use Rattle.fd_outcome.specs.Asking.{is_among}
+use Rattle.fd_stored.specs.Distinct.{is_among}
 use Rattle.fd_disk.specs.Folders.{Contents}
 use Rattle.fd_segment.specs.Causes.{IsBadIndex, IsFindDamage, IsKeyDamage}
 use Rattle.fd_segment.specs.declared.fault.Damage.{Damage}
 use Rattle.fd_recovery.specs.Damages.{index_file}
 use Rattle.fd_recovery.specs.Recovered.{files_of}
 use Rattle.fd_retriever.specs.Answers.{StandsIn}
-use Rattle.fd_outcome.specs.Causes.{BadFile}
-use Rattle.fd_outcome.specs.Store.{Stands}
+use Rattle.fd_stored.specs.Causes.{BadFile}
+use Rattle.fd_stored.specs.Store.{Stands}
 use Rattle.fd_answering.specs.Damages.{IsDamaged}
 use Rattle.fd_retrieve.specs.Open.{AreListed, Open, names_of, table_in, table_of}
 

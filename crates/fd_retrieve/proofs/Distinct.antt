@@ -7,7 +7,7 @@ use Rattle.std.proofs.lemmas.List.{length-map}
 use Rattle.std.proofs.lemmas.Slice.Eq.{bytes_eq-Decides}
 use Rattle.fd_disk.proofs.NameLemmas.{is_or_not}
 use Rattle.fd_spelling.specs.Texts.{texts}
-use Rattle.fd_outcome.specs.Asking.{count_distinct, is_among}
+use Rattle.fd_stored.specs.Distinct.{count_distinct, is_among}
 use Rattle.fd_telling.specs.declared.stop.Stop.{Stop}
 use Rattle.fd_telling.specs.Stops.{OnTooMany}
 use Rattle.fd_telling.proofs.StopLemmas.{on_many}

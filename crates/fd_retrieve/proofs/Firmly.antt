@@ -11,12 +11,13 @@ use Rattle.fd_recovery.specs.Crashing.{IsFirmTable}
 use Rattle.fd_request.specs.Expansion.{Keyword, expand}
 use Rattle.fd_schema.specs.declared.place.Place.{Place}
 use Rattle.fd_words.specs.declared.command.Command.TheVariants.{Retrieve}
-use Rattle.fd_outcome.specs.Asking.{asked_of, is_among}
+use Rattle.fd_outcome.specs.Asking.{asked_of}
+use Rattle.fd_stored.specs.Distinct.{is_among}
 use Rattle.fd_outcome.specs.Ends.{AmongAsked}
 use Rattle.fd_outcome.specs.Noticing.{AnswersFirmly}
 use Rattle.fd_outcome.specs.Objects.{Object}
-use Rattle.fd_outcome.specs.Store.{AreNames, has_table}
-use Rattle.fd_outcome.specs.declared.status.Status.{Status}
+use Rattle.fd_stored.specs.Store.{AreNames, has_table}
+use Rattle.fd_stored.specs.declared.status.Status.{Status}
 use Rattle.fd_retrieve.specs.Looking.{IsLookedAt, IsLookedThrough}
 use Rattle.fd_retrieve.specs.Open.{Open}
 use Rattle.fd_retrieve.specs.Ready.{AreFirmOf, IsReady}

@@ -30,7 +30,8 @@ use Rattle.fd_schema.specs.Rules.{Texts, file_key}
 use Rattle.fd_retriever.specs.Answers.{Tells}
 use Rattle.fd_retriever.specs.declared.spot.Spot.{Spot}
 use Rattle.fd_finding.specs.Spots.{IsAnswer, IsWithin, place_key}
-use Rattle.fd_outcome.specs.Asking.{Answer, answers, is_among}
+use Rattle.fd_outcome.specs.Asking.{Answer, answers}
+use Rattle.fd_stored.specs.Distinct.{is_among}
 use Rattle.fd_ahead.specs.declared.located.Located.{Located}
 use Rattle.fd_answering.specs.Finding.{asked_of_all}
 use Rattle.fd_answering.specs.Located.{AreAt, IsAt}

@@ -21,7 +21,8 @@ use Rattle.fd_recovery.specs.Damages.{damages, damages_at, damages_of, digest_da
 use Rattle.fd_recovery.specs.Recovered.{IsUndamaged, files_of}
 use Rattle.fd_ahead.specs.declared.located.Located.{Located}
 use Rattle.fd_ahead.specs.Places.{AreIn, IsIn}
-use Rattle.fd_outcome.specs.Asking.{Answer, Tables, is_among}
+use Rattle.fd_outcome.specs.Asking.{Answer, Tables}
+use Rattle.fd_stored.specs.Distinct.{is_among}
 use Rattle.fd_outcome.specs.Noticing.{IsAnswer}
 use Rattle.fd_answering.specs.Finding.{asked_of_all}
 use Rattle.fd_answering.specs.Located.{AreAt, IsAt, StandsAt}

@@ -6,13 +6,13 @@ use Rattle.fd_schema.specs.declared.place.Place.{Place}
 use Rattle.fd_request.specs.Expansion.{Keyword, expand}
 use Rattle.fd_words.specs.declared.command.Command.TheVariants.{Retrieve}
 use Rattle.fd_outcome.specs.Asking.{Answer, answers, asked_of}
-use Rattle.fd_outcome.specs.Causes.{Cause}
+use Rattle.fd_stored.specs.Causes.{Cause}
 use Rattle.fd_outcome.specs.Ends.{AmongAsked, Tells}
 use Rattle.fd_outcome.specs.Noticing.{AnsweredEach, AreUndamaged, IsAnswer, Noticed, Notices}
 use Rattle.fd_outcome.specs.Objects.{Object}
-use Rattle.fd_outcome.specs.Store.{AreNames, table_at}
-use Rattle.fd_outcome.specs.declared.status.Status.{Status}
-use Rattle.fd_outcome.specs.declared.status.Status.TheVariants.{Done, Missed}
+use Rattle.fd_stored.specs.Store.{AreNames, table_at}
+use Rattle.fd_stored.specs.declared.status.Status.{Status}
+use Rattle.fd_stored.specs.declared.status.Status.TheVariants.{Done, Missed}
 use Rattle.fd_ahead.specs.declared.located.Located.{Located}
 use Rattle.fd_outcome.specs.Outcome.{answered, answered_early, outcome, refused, retrieved, retrieved_early}
 use Rattle.fd_retrieve.specs.Commands.{IsReadyFor}

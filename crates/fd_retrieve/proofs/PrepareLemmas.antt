@@ -12,10 +12,11 @@ use Rattle.fd_recovery.specs.Recovered.{IsUndamaged}
 use Rattle.fd_schema.specs.Rules.{Rule}
 use Rattle.fd_schema.specs.declared.place.Place.{Place}
 use Rattle.fd_request.specs.Expansion.{Keyword, expand}
-use Rattle.fd_outcome.specs.Asking.{Asked, asked_of, count_distinct, datasets_of, is_among, placed, request_in, rules_of, within_datasets, ◌then◌}
-use Rattle.fd_outcome.specs.Causes.{Cause, SchemaMissing, TooManyDatasets}
+use Rattle.fd_outcome.specs.Asking.{Asked, asked_of, datasets_of, placed, request_in, rules_of, within_datasets, ◌then◌}
+use Rattle.fd_stored.specs.Distinct.{count_distinct, is_among}
+use Rattle.fd_stored.specs.Causes.{Cause, SchemaMissing, TooManyDatasets}
 use Rattle.fd_outcome.specs.Ends.{AmongAsked}
-use Rattle.fd_outcome.specs.Store.{Stays, has_table, table_at}
+use Rattle.fd_stored.specs.Store.{Stays, has_table, table_at}
 use Rattle.fd_telling.specs.declared.stop.Stop.{Stop}
 use Rattle.fd_telling.specs.declared.stop.Stop.TheVariants as stops
 use Rattle.fd_retrieve.specs.Open.{IsOpenIn, Open, table_in}

@@ -21,9 +21,10 @@ use Rattle.fd_schema.specs.declared.place.Place.{Place}
 use Rattle.fd_schema.specs.Reading.{seen_place}
 use Rattle.fd_schema.specs.Rules.{Rule, Texts, file_key, place_from}
 use Rattle.fd_request.specs.Expansion.{Keyword, expand}
-use Rattle.fd_outcome.specs.Asking.{Asked, Tables, all_answers, answer, answers, asked_of, count_distinct, datasets_of, is_among, placed, placed_before, request_in, rules_of, within_datasets, ◌then◌}
-use Rattle.fd_outcome.specs.Causes.{Cause, NoRule, TooManyDatasets}
-use Rattle.fd_outcome.specs.Store.{Stands, has_table, table_at}
+use Rattle.fd_outcome.specs.Asking.{Asked, Tables, all_answers, answer, answers, asked_of, datasets_of, placed, placed_before, request_in, rules_of, within_datasets, ◌then◌}
+use Rattle.fd_stored.specs.Distinct.{count_distinct, is_among}
+use Rattle.fd_stored.specs.Causes.{Cause, NoRule, TooManyDatasets}
+use Rattle.fd_stored.specs.Store.{Stands, has_table, table_at}
 use Rattle.fd_recovery.specs.declared.fault.OpenFault.{OpenFault}
 use Rattle.fd_recovery.specs.declared.fault.OpenFault.TheVariants as faults
 use Rattle.fd_telling.specs.declared.stop.Broken.{Broken}

@@ -7,7 +7,7 @@ use Rattle.fd_request.specs.Expansion.{Keyword}
 use Rattle.fd_request.specs.Grammar.{Fault, TooLong, keywords_of, ◌>>=◌}
 use Rattle.fd_request.specs.Limits.{request_of, too_long, within_limits, within_size}
 use Rattle.fd_outcome.specs.Asking.{in_request, request_in}
-use Rattle.fd_outcome.specs.Causes.{InRequest}
+use Rattle.fd_stored.specs.Causes.{InRequest}
 
 take_all : (xs : List ℕ) (n : ℕ) → length xs ≤ n → take n xs ≡ xs
 take_all [] zero le = refl

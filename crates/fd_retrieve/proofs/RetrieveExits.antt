@@ -6,14 +6,14 @@ use Rattle.fd_io.specs.Streams.{Takes}
 use Rattle.fd_disk.specs.Folders.{Holdings, WhereTold}
 use Rattle.fd_key.specs.Pairs as keys
 use Rattle.fd_words.specs.declared.command.Command.{Command}
-use Rattle.fd_outcome.specs.declared.status.Status.{Status}
-use Rattle.fd_outcome.specs.declared.status.Status.TheVariants.{Done, Missed, Words, Refused, InputFault, OutputFault, DiskFault, NoMemory, Damaged, Limit}
+use Rattle.fd_stored.specs.declared.status.Status.{Status}
+use Rattle.fd_stored.specs.declared.status.Status.TheVariants.{Done, Missed, Words, Refused, InputFault, OutputFault, DiskFault, NoMemory, Damaged, Limit}
 use Rattle.fd_outcome.specs.Asking.{Answer, count_found, count_missed, counts_line, found_bytes, miss_lines}
 use Rattle.fd_outcome.specs.Ends.{Calm, Ends, IsBroken, Leaves, ReadsOut, Tells, Troubles, UsesStore, disk_failed, no_memory, output_failed, troubles}
 use Rattle.fd_outcome.specs.Objects.{Failed, Failures, IsCalm, Object, failures, object}
 use Rattle.fd_outcome.specs.Outcome.{answered, answered_early, early, nothing_early, outcome}
 use Rattle.fd_outcome.specs.Ran.{Ran}
-use Rattle.fd_outcome.specs.Store.{IsLookedThrough, Stands}
+use Rattle.fd_stored.specs.Store.{IsLookedThrough, Stands}
 use Rattle.fd_outcome.specs.Told.{Told, ToldOrNoMemory}
 use Rattle.fd_outcome.proofs.Endings.{CanStop, CanTell, Reached, ends_early, ends_on_the_way, ends_told, ends_unwritten, nothing_of, takes_both}
 use Rattle.fd_outcome.proofs.AnyCommand.{Seen, ran_of, told_of}
@@ -23,8 +23,8 @@ use Rattle.fd_retrieve.specs.Commands.{Begins, IsReadyFor, retrieving}
 use Rattle.std.specs.Prelude.{slice_get}
 use Rattle.fd_disk.specs.Folders.{folder_at}
 use Rattle.fd_segment.specs.declared.fault.Damage.{Damage}
-use Rattle.fd_outcome.specs.Causes as causes
-use Rattle.fd_outcome.specs.Causes.{BadFile, damaged_line, table_full}
+use Rattle.fd_stored.specs.Causes as causes
+use Rattle.fd_stored.specs.Causes.{BadFile, damaged_line, table_full}
 use Rattle.fd_answering.specs.Damages.{IsDamaged, IsDamagedAt}
 use Rattle.fd_retrieve.specs.Open.{IsOpenIn, Open}
 use Rattle.fd_retrieve.specs.Telling.{counts_status, counts_text}

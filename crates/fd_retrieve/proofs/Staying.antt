@@ -18,8 +18,8 @@ use Rattle.fd_recovery.specs.Damages.{damages, damages_at, damages_of, digest_da
 use Rattle.fd_recovery.specs.Recovered.{IsUndamaged, all_of, batches_listed, files_of, held, held_by, with_firm_table}
 use Rattle.fd_recovery.specs.declared.fault.OpenFault.{OpenFault}
 use Rattle.fd_recovery.specs.declared.fault.OpenFault.TheVariants as faults
-use Rattle.fd_outcome.specs.Causes.{Broken, BadFile, BadTable}
-use Rattle.fd_outcome.specs.Store.{Stands, StandsIn, StaysFolder, Stays, has_table, table_at}
+use Rattle.fd_stored.specs.Causes.{Broken, BadFile, BadTable}
+use Rattle.fd_stored.specs.Store.{Stands, StandsIn, StaysFolder, Stays, has_table, table_at}
 use Rattle.fd_retrieve.specs.Open.{IsOpenIn, Open, StandsAsSaid}
 
 pub some_is : {A : Type 0} (x y : A) → (let o : Option A = Some x in o ≡ Some y) → x ≡ y

@@ -11,15 +11,15 @@ use Rattle.fd_schema.specs.Reading.{IsFirst}
 use Rattle.fd_schema.specs.declared.fault.SchemaKind.{SchemaKind}
 use Rattle.fd_request.specs.Reading.{seen_kind}
 use Rattle.fd_words.specs.declared.command.Command.{Command}
-use Rattle.fd_outcome.specs.declared.status.Status.{Status}
-use Rattle.fd_outcome.specs.declared.status.Status.TheVariants.{Done, Missed, Refused, InputFault, DiskFault, NoMemory, Damaged, Limit}
-use Rattle.fd_outcome.specs.Causes.{Cause, damaged_line, telling}
-use Rattle.fd_outcome.specs.Causes as causes
+use Rattle.fd_stored.specs.declared.status.Status.{Status}
+use Rattle.fd_stored.specs.declared.status.Status.TheVariants.{Done, Missed, Refused, InputFault, DiskFault, NoMemory, Damaged, Limit}
+use Rattle.fd_stored.specs.Causes.{Cause, damaged_line, telling}
+use Rattle.fd_stored.specs.Causes as causes
 use Rattle.fd_outcome.specs.Ends.{Calm, Ends, Opens, disk_failed, input_failed, no_memory, troubles}
 use Rattle.fd_outcome.specs.Objects.{Failed, Failures, IsCalm, Object, failures, object}
 use Rattle.fd_outcome.specs.Outcome.{Outcome, early, outcome, refused}
 use Rattle.fd_outcome.specs.Ran.{Ran}
-use Rattle.fd_outcome.specs.Store.{IsLookedThrough, Stands}
+use Rattle.fd_stored.specs.Store.{IsLookedThrough, Stands}
 use Rattle.fd_outcome.specs.Told.{Told, ToldOrNoMemory}
 use Rattle.fd_outcome.proofs.Endings.{CanStop, ends_early, ends_told, reached_nothing, takes_nothing}
 use Rattle.fd_outcome.proofs.Exits.{apart, by_cause, cause_calm, cause_not_whole, cause_told, is_disk_fault, is_input_fault, is_output_fault, is_whole, is_words, never_whole}

@@ -7,8 +7,8 @@ use Rattle.std.proofs.lemmas.List.Folds.{list_any-append}
 use Rattle.std.proofs.lemmas.List.Elements.{filter-append}
 use Rattle.fd_disk.specs.Folders.{Holdings}
 use Rattle.fd_disk.proofs.NameLemmas.{is_or_not}
-use Rattle.fd_outcome.specs.Asking.{count_distinct, is_among}
-use Rattle.fd_outcome.specs.Store.{has_table}
+use Rattle.fd_stored.specs.Distinct.{count_distinct, is_among}
+use Rattle.fd_stored.specs.Store.{has_table}
 use Rattle.fd_retrieve.specs.Tables.{AreTables, MayAdd}
 
 or_false : (b : Bool) → (b || false) ≡ b

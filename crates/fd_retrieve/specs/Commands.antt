@@ -4,11 +4,12 @@ use Rattle.fd_disk.specs.Folders.{Holdings, WhereTold}
 use Rattle.fd_key.specs.Pairs as keys
 use Rattle.fd_words.specs.declared.command.Command.{Command}
 use Rattle.fd_words.specs.declared.command.Command.TheVariants as commands
-use Rattle.fd_outcome.specs.Asking.{Answer, is_among}
+use Rattle.fd_outcome.specs.Asking.{Answer}
+use Rattle.fd_stored.specs.Distinct.{is_among}
 use Rattle.fd_outcome.specs.Ends.{Opens}
 use Rattle.fd_outcome.specs.Objects.{IsCalm, Object}
 use Rattle.fd_outcome.specs.Outcome.{answered, answered_early, early, outcome}
-use Rattle.fd_outcome.specs.Store.{IsLookedThrough}
+use Rattle.fd_stored.specs.Store.{IsLookedThrough}
 use Rattle.fd_retrieve.specs.Open.{IsOpenIn, Open, names_of}
 
 -- `retrieve`, over these layers where there are any

@@ -10,7 +10,7 @@ use Rattle.fd_schema.specs.Rules.{Texts, file_key}
 use Rattle.fd_schema.specs.Reading.{seen_place}
 use Rattle.fd_retriever.specs.declared.spot.Spot.{Spot}
 use Rattle.fd_finding.specs.Spots.{IsNewestAt}
-use Rattle.fd_outcome.specs.Asking.{is_among}
+use Rattle.fd_stored.specs.Distinct.{is_among}
 use Rattle.fd_ahead.specs.declared.located.Located.{Located}
 pub use Rattle.fd_ahead.specs.Places.{IsIn}
 use Rattle.fd_retrieve.specs.declared.locating.Lost.{Lost}

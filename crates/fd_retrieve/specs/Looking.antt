@@ -1,2 +1,2 @@
 -- What becomes of a store whose folders are only looked into.
-pub use Rattle.fd_outcome.specs.Store.{IsLookedAt, IsLookedThrough}
+pub use Rattle.fd_stored.specs.Store.{IsLookedAt, IsLookedThrough}

@@ -11,8 +11,8 @@ pub use Rattle.fd_ahead.specs.Places.{Open}
 use Rattle.fd_recovery.specs.declared.fault.OpenFault.{OpenFault}
 use Rattle.fd_recovery.specs.declared.fault.OpenFault.TheVariants as faults
 use Rattle.fd_recovery.specs.Recovered.{all_of, files_of, held}
-use Rattle.fd_outcome.specs.Causes.{BadFile, BadTable}
-use Rattle.fd_outcome.specs.Store.{Stands}
+use Rattle.fd_stored.specs.Causes.{BadFile, BadTable}
+use Rattle.fd_stored.specs.Store.{Stands}
 
 -- the batches that the segments stand for, where each stands for one
 abbrev pub table_of : Open → Option (List (List Pair))

@@ -4,9 +4,10 @@ use Rattle.fd_disk.specs.Folders.{Holdings, folder_at}
 use Rattle.fd_schema.specs.declared.place.Place.{Place}
 use Rattle.fd_schema.specs.Reading.{seen_place}
 use Rattle.fd_request.specs.Expansion.{Keyword, expand}
-use Rattle.fd_outcome.specs.Asking.{Asked, answers, asked_of, is_among, placed, request_in, rules_of, ◌then◌}
-use Rattle.fd_outcome.specs.Causes.{Cause}
-use Rattle.fd_outcome.specs.Store.{Stands, has_table, table_at}
+use Rattle.fd_outcome.specs.Asking.{Asked, answers, asked_of, placed, request_in, rules_of, ◌then◌}
+use Rattle.fd_stored.specs.Distinct.{is_among}
+use Rattle.fd_stored.specs.Causes.{Cause}
+use Rattle.fd_stored.specs.Store.{Stands, has_table, table_at}
 use Rattle.fd_recovery.specs.Crashing.{IsFirmTable}
 use Rattle.fd_recovery.specs.Recovered.{IsUndamaged}
 use Rattle.fd_recovery.specs.declared.fault.OpenFault.{OpenFault}

@@ -3,8 +3,8 @@ use Rattle.std.specs.Prelude.{◌≡◌, ◌⊎◌, ℕ, true, false, List, [], 
 use Rattle.fd_disk.specs.Folders.{Holdings}
 use Rattle.fd_schema.specs.declared.place.Place.{Place}
 use Rattle.fd_schema.specs.Reading.{seen_place}
-use Rattle.fd_outcome.specs.Asking.{count_distinct, is_among}
-use Rattle.fd_outcome.specs.Store.{has_table}
+use Rattle.fd_stored.specs.Distinct.{count_distinct, is_among}
+use Rattle.fd_stored.specs.Store.{has_table}
 
 -- the datasets of places
 abbrev pub datasets_in : List Place → List (List ℕ)

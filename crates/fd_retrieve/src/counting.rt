@@ -2,7 +2,8 @@
 ghost use Rattle.std.specs.Prelude.{◌≡◌, ◌≤◌, ◌<◌, List, ℕ, Option, Some, None, false, length, map, filter, IfOk, IfErr, IfSome, slice_index_or};
 ghost use Rattle.fd_disk.specs.Folders.{WhereTold};
 ghost use Rattle.fd_schema.specs.{Reading.{seen_place}, declared.place.Place.{Place}};
-ghost use Rattle.fd_outcome.specs.{Asking.{count_distinct}, Store.{Stays, has_table, table_at}, Trying.{tally_of}};
+ghost use Rattle.fd_outcome.specs.Trying.{tally_of};
+ghost use Rattle.fd_stored.specs.{Distinct.{count_distinct}, Store.{Stays, has_table, table_at}};
 ghost use Rattle.fd_ahead.specs.{Places.{AreIn}, Reading.{IsStock}};
 ghost use Rattle.fd_answering.specs.{Damages.{IsDamagedAt}, Located.{IsAt}};
 ghost use Rattle.fd_retrieve.specs.{Open.{table_in}, Located.{AreLocated, IsIn, OnLost}, Looking.{IsLookedThrough}, Counting.{IsBrokenAmong, IsLength, IsOfKeys, IsLostIn, IsTally, finds, with_length}, Tables.{datasets_in}};

@@ -4,7 +4,7 @@ ghost use Rattle.fd_disk.specs.Folders.{WhereTold, folder_at};
 ghost use Rattle.fd_entries.specs.{declared.table.Entry.{Entry}, Table.{listed}};
 ghost use Rattle.fd_segment.specs.Shared.{AreOf, standings};
 ghost use Rattle.fd_recovery.specs.{Causes.{NotTooMany, OnDamaged, OnNotATable}, Crashing.{IsFirmTable}, Damages.{IsFirst, damages}, Recovered.{IsUndamaged, WithTable}};
-ghost use Rattle.fd_outcome.specs.Store.{StaysFolder, Stays, has_table};
+ghost use Rattle.fd_stored.specs.Store.{StaysFolder, Stays, has_table};
 ghost use Rattle.fd_retrieve.specs.{Looking.{IsLookedAt, IsLookedThrough}, Open.{IsOpenOf, IsOpenIn, StandsAsSaid}};
 
 use fd_ahead::Opened;

@@ -1,7 +1,7 @@
 // Which datasets of a request's places have a table.
 ghost use Rattle.std.specs.Prelude.{◌≡◌, ◌≤◌, ◌<◌, List, ℕ, false, true, filter, length, map, IfOk, IfErr, IfSome, OnOk};
 ghost use Rattle.fd_disk.specs.Folders.{WhereTold};
-ghost use Rattle.fd_outcome.specs.{Asking.{count_distinct, is_among}, Store.{Stays, has_table}};
+ghost use Rattle.fd_stored.specs.{Distinct.{count_distinct, is_among}, Store.{Stays, has_table}};
 ghost use Rattle.fd_schema.specs.Reading.{seen_place};
 ghost use Rattle.fd_spelling.specs.Texts.{texts};
 ghost use Rattle.fd_retrieve.specs.{Looking.{IsLookedThrough}, Tables.{AreTables, MayAdd, MayNote, datasets_in}};

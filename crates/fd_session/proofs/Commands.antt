@@ -5,9 +5,9 @@ use Rattle.fd_disk.specs.Folders.{Holdings, WhereTold}
 use Rattle.fd_io.specs.Streams.{Takes}
 use Rattle.fd_words.specs.declared.command.Command.{Command}
 use Rattle.fd_words.specs.declared.command.Command.TheVariants as commands
-use Rattle.fd_outcome.specs.declared.status.Status.{Status}
-use Rattle.fd_outcome.specs.declared.status.Status.TheVariants as statuses
-use Rattle.fd_outcome.specs.Causes.{table_full}
+use Rattle.fd_stored.specs.declared.status.Status.{Status}
+use Rattle.fd_stored.specs.declared.status.Status.TheVariants as statuses
+use Rattle.fd_stored.specs.Causes.{table_full}
 use Rattle.fd_outcome.specs.Ends.{AreCalm, Calm, Leaves, no_memory}
 use Rattle.fd_outcome.specs.Objects.{Failed, Object, object}
 use Rattle.fd_outcome.specs.Ran.{Ran}

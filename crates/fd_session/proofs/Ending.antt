@@ -11,15 +11,15 @@ use Rattle.fd_lanes.specs.declared.end.End.TheVariants as variants
 use Rattle.fd_lanes.specs.Legal as legal
 use Rattle.fd_transcript.specs.Lines.{found_bytes}
 use Rattle.fd_transcript.specs.Transcripts.{transcript_text}
-use Rattle.fd_outcome.specs.declared.status.Status.{Status}
-use Rattle.fd_outcome.specs.declared.status.Status.TheVariants.{Done, Missed, Words, InputFault, OutputFault, DiskFault, NoMemory, Damaged, Limit}
-use Rattle.fd_outcome.specs.declared.status.Status.TheVariants as statuses
+use Rattle.fd_stored.specs.declared.status.Status.{Status}
+use Rattle.fd_stored.specs.declared.status.Status.TheVariants.{Done, Missed, Words, InputFault, OutputFault, DiskFault, NoMemory, Damaged, Limit}
+use Rattle.fd_stored.specs.declared.status.Status.TheVariants as statuses
 use Rattle.fd_outcome.specs.Asking.{rules_of}
-use Rattle.fd_outcome.specs.Causes.{Telling}
+use Rattle.fd_stored.specs.Causes.{Telling}
 use Rattle.fd_outcome.specs.Ends.{AreCalm, disk_failed, input_failed, no_memory}
 use Rattle.fd_outcome.specs.Objects.{Failed, IsCalm, Object}
-use Rattle.fd_outcome.specs.Noticing.{SparesDamaged}
-use Rattle.fd_outcome.specs.Store.{table_at}
+use Rattle.fd_stored.specs.Sparing.{SparesDamaged}
+use Rattle.fd_stored.specs.Store.{table_at}
 use Rattle.fd_outcome.specs.Told.{Told, ToldOrNoMemory}
 use Rattle.fd_play.specs.Plays.{HoldsSame, LeavesUnplayed, Played}
 use Rattle.fd_session.specs.Endings.{closing, count_faults, damage_of, first_damage, is_fault, lane_damage, lane_faults, lane_has, one_if, some_has}

@@ -12,8 +12,8 @@ use Rattle.fd_script.specs.Reading.{IsScript}
 use Rattle.fd_script.specs.Scripts.{Scripted}
 use Rattle.fd_script.specs.declared.fault.ScriptFault.{ScriptFault}
 use Rattle.fd_script.specs.declared.fault.ScriptFault.TheVariants as faults
-use Rattle.fd_outcome.specs.Limits.{input_limit}
-use Rattle.fd_outcome.specs.declared.refusal.Refusal.{Refusal}
+use Rattle.fd_split.specs.Limits.{input_limit}
+use Rattle.fd_split.specs.declared.refusal.Refusal.{Refusal}
 use Rattle.fd_session.specs.declared.reading.Unaccepted.TheVariants as reasons
 use Rattle.fd_session.specs.Unaccepted.{IsNamed}
 use Rattle.fd_session.specs.Inputs.{IsInput, IsRefusedBehind, octets_of, refusal_of, stream_behind}

@@ -25,23 +25,23 @@ use Rattle.fd_casting.specs.Miscasts as miscasts
 use Rattle.fd_casting.specs.Miscasts.{NoneFails}
 use Rattle.fd_casting.specs.Steps.{all_posed}
 use Rattle.fd_casting.specs.declared.fault.Miscast.{Miscast}
-use Rattle.fd_outcome.specs.declared.refusal.Refusal.{Refusal}
-use Rattle.fd_outcome.specs.declared.refusal.Refusal.TheVariants as refusals
-use Rattle.fd_outcome.specs.declared.status.Status.{Status}
-use Rattle.fd_outcome.specs.declared.status.Status.TheVariants as statuses
+use Rattle.fd_split.specs.declared.refusal.Refusal.{Refusal}
+use Rattle.fd_split.specs.declared.refusal.Refusal.TheVariants as refusals
+use Rattle.fd_stored.specs.declared.status.Status.{Status}
+use Rattle.fd_stored.specs.declared.status.Status.TheVariants as statuses
 use Rattle.fd_outcome.specs.declared.stored.Unruled.{Unruled}
 use Rattle.fd_outcome.specs.declared.stored.Unruled.TheVariants as unruled
 use Rattle.fd_outcome.specs.Asking.{rules_of}
-use Rattle.fd_outcome.specs.Causes.{BadFile, BadTable, Broken, InStored, SchemaMissing, Telling, TooManyDatasets, damaged_line, is_schema_limit, telling}
+use Rattle.fd_stored.specs.Causes.{BadFile, BadTable, Broken, InStored, SchemaMissing, Telling, TooManyDatasets, damaged_line, is_schema_limit, telling}
 use Rattle.fd_outcome.specs.Objects.{IsCalm, Object, object}
-use Rattle.fd_outcome.specs.Refusals.{refusal_line, refusal_status}
-use Rattle.fd_outcome.specs.Store.{Stands}
+use Rattle.fd_stored.specs.Refusals.{refusal_line, refusal_status}
+use Rattle.fd_stored.specs.Store.{Stands}
 use Rattle.fd_outcome.specs.Told.{ToldOrNoMemory}
 use Rattle.fd_outcome.specs.Unruled as rulings
 use Rattle.fd_outcome.specs.Unruled.{IsUnruled}
 use Rattle.fd_telling.specs.Stops.{ToldSome, ToldUnruled}
 use Rattle.fd_lanes.specs.declared.end.End.{End}
-use Rattle.fd_outcome.specs.Noticing.{SparesDamaged}
+use Rattle.fd_stored.specs.Sparing.{SparesDamaged}
 use Rattle.fd_play.specs.Plays.{HoldsSame, IsUnopened, LeavesUnplayed, Played}
 use Rattle.fd_session.specs.Inputs.{IsInput, IsRefusedBehind}
 use Rattle.fd_session.specs.Sessions.{Accepted, IsAccepted, Refused, ByDamage, ByLine, BySchema, ByScript, ByStream}
@@ -235,7 +235,7 @@ module _ (s : Status) (store : Object Holdings) (input report : Object (List ℕ
       unopened_halts (faults.Damaged x) is told rose = damage_halts (BadFile x) (go store.before is) told
         where
           with_file : (h : Holdings) (o : Option File) → WithTable o (λ f. (es : List Entry) × (listed script.dataset f.reads ≡ Ok es) × damaged.IsFirst x (damaged.damages (folder_at h script.dataset).files es))
-              → (f : File) × (es : List Entry) × (o ≡ Some f) × (listed script.dataset f.reads ≡ Ok es) × Rattle.fd_outcome.specs.Store.StandsIn (folder_at h script.dataset) es x
+              → (f : File) × (es : List Entry) × (o ≡ Some f) × (listed script.dataset f.reads ≡ Ok es) × Rattle.fd_stored.specs.Store.StandsIn (folder_at h script.dataset) es x
           with_file h None w = absurd w
           with_file h (Some f) (es, listed_is, first) = (f, es, refl, listed_is, inl (among_first x (damaged.damages (folder_at h script.dataset).files es) first))
 

@@ -10,9 +10,9 @@ use Rattle.fd_sections.specs.Splitting.{answer, fed, finished, progress, start}
 use Rattle.fd_sections.specs.Stream.{Bad_end, first, stream}
 use Rattle.fd_sections.specs.Joining.{IsStream, IsWaiting, SplitsOn}
 use Rattle.fd_sections.proofs.Joins.{all_ended, all_ended_so, all_refused_so, message_so, splits_all, splits_then, takes_so, waits_so}
-use Rattle.fd_outcome.specs.declared.refusal.Refusal.{Refusal}
-use Rattle.fd_outcome.specs.declared.refusal.Refusal.TheVariants as refusals
-use Rattle.fd_outcome.specs.Inputs.{refused}
+use Rattle.fd_split.specs.declared.refusal.Refusal.{Refusal}
+use Rattle.fd_split.specs.declared.refusal.Refusal.TheVariants as refusals
+use Rattle.fd_split.specs.Inputs.{refused}
 use Rattle.fd_session.specs.Inputs.{octets_of, refusal_of}
 use Rattle.fd_session.specs.Splits.{HasGiven, Measures}
 use Rattle.fd_session.specs.Split.{IsRefusal, IsSplit}

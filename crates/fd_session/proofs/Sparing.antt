@@ -14,8 +14,8 @@ use Rattle.fd_lanes.specs.declared.end.End.{End}
 use Rattle.fd_recovery.specs.Damages.{damages}
 use Rattle.fd_recovery.specs.Recovered.{IsUndamaged, ReadsImage}
 use Rattle.fd_library.specs.Stores.{KeepsFolder, KeepsTable}
-use Rattle.fd_outcome.specs.Noticing.{SparesDamaged}
-use Rattle.fd_outcome.specs.Store.{IsLookedAt}
+use Rattle.fd_stored.specs.Sparing.{SparesDamaged}
+use Rattle.fd_stored.specs.Store.{IsLookedAt}
 use Rattle.fd_play.specs.Plays.{LeavesOpened, LeavesUnplayed, Played}
 
 -- a table that is damaged was there before

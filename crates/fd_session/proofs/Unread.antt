@@ -5,7 +5,7 @@ use Rattle.std.specs.Result.{IsErr}
 use Rattle.fd_disk.specs.Folders.{Holdings}
 use Rattle.fd_schema.specs.Rules.{Rule}
 use Rattle.fd_outcome.specs.Asking.{rules_of}
-use Rattle.fd_outcome.specs.Causes.{Cause}
+use Rattle.fd_stored.specs.Causes.{Cause}
 
 -- the store has rules
 pub reads_ruled : (P : Type 0) (rules : List Rule) (before : Option Holdings) → IfSome before (λ h. rules_of h.schema ≡ Ok rules) → IfSome before (λ h. IsErr (rules_of h.schema) → P)

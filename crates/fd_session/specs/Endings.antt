@@ -3,9 +3,9 @@ use Rattle.std.specs.Prelude.{ℕ, ◌+◌, Bool, true, false, ◌||◌, List, [
 use Rattle.fd_segment.specs.declared.fault.Damage.{Damage}
 use Rattle.fd_lanes.specs.declared.end.End.{End}
 use Rattle.fd_lanes.specs.declared.end.End.TheVariants.{PutOk, PutUnlisted, Fault, Listed, Nothing, TableFull, NoMemory, Damaged, Got}
-use Rattle.fd_outcome.specs.declared.status.Status.{Status}
-use Rattle.fd_outcome.specs.declared.status.Status.TheVariants as statuses
-use Rattle.fd_outcome.specs.Causes.{BadFile, Telling, damaged_line, table_full}
+use Rattle.fd_stored.specs.declared.status.Status.{Status}
+use Rattle.fd_stored.specs.declared.status.Status.TheVariants as statuses
+use Rattle.fd_stored.specs.Causes.{BadFile, Telling, damaged_line, table_full}
 use Rattle.fd_outcome.specs.Ends.{disk_failed, no_memory}
 use Rattle.fd_session.specs.declared.closing.Kind.{Kind}
 use Rattle.fd_session.specs.declared.closing.Kind.TheVariants as kinds

@@ -5,9 +5,9 @@ use Rattle.fd_sections.specs.Stream.{Stream, stream}
 use Rattle.fd_script.specs.Grammar.{script_of}
 use Rattle.fd_script.specs.Reading.{IsScript}
 use Rattle.fd_script.specs.Scripts.{Scripted}
-use Rattle.fd_outcome.specs.declared.refusal.Refusal.{Refusal}
-use Rattle.fd_outcome.specs.Inputs.{refused}
-use Rattle.fd_outcome.specs.Limits.{input_limit}
+use Rattle.fd_split.specs.declared.refusal.Refusal.{Refusal}
+use Rattle.fd_split.specs.Inputs.{refused}
+use Rattle.fd_split.specs.Limits.{input_limit}
 
 -- the octets of the messages of a stream, one after the other
 abbrev pub octets_of : Stream → List (List ℕ)

@@ -13,18 +13,18 @@ use Rattle.fd_casting.specs.Steps.{all_posed}
 use Rattle.fd_casting.specs.declared.fault.Miscast.{Miscast}
 use Rattle.fd_transcript.specs.Lines.{found_bytes}
 use Rattle.fd_transcript.specs.Transcripts.{transcript_text}
-use Rattle.fd_outcome.specs.declared.refusal.Refusal.{Refusal}
-use Rattle.fd_outcome.specs.declared.status.Status.{Status}
-use Rattle.fd_outcome.specs.declared.status.Status.TheVariants.{Done, Missed, Words, InputFault, OutputFault, DiskFault, NoMemory, Damaged, Limit}
-use Rattle.fd_outcome.specs.declared.status.Status.TheVariants as statuses
+use Rattle.fd_split.specs.declared.refusal.Refusal.{Refusal}
+use Rattle.fd_stored.specs.declared.status.Status.{Status}
+use Rattle.fd_stored.specs.declared.status.Status.TheVariants.{Done, Missed, Words, InputFault, OutputFault, DiskFault, NoMemory, Damaged, Limit}
+use Rattle.fd_stored.specs.declared.status.Status.TheVariants as statuses
 use Rattle.fd_outcome.specs.Asking.{rules_of}
-use Rattle.fd_outcome.specs.Causes.{Broken, Cause, Telling, damaged_line, telling}
+use Rattle.fd_stored.specs.Causes.{Broken, Cause, Telling, damaged_line, telling}
 use Rattle.fd_outcome.specs.Ends.{AreCalm, disk_failed, input_failed, no_memory}
 use Rattle.fd_outcome.specs.Objects.{Object, Failed, IsCalm}
 use Rattle.fd_objects.specs.Objects.{since, until}
-use Rattle.fd_outcome.specs.Refusals.{refusal_line, refusal_status}
-use Rattle.fd_outcome.specs.Noticing.{SparesDamaged}
-use Rattle.fd_outcome.specs.Store.{Stands, table_at}
+use Rattle.fd_stored.specs.Refusals.{refusal_line, refusal_status}
+use Rattle.fd_stored.specs.Sparing.{SparesDamaged}
+use Rattle.fd_stored.specs.Store.{Stands, table_at}
 use Rattle.fd_outcome.specs.Told.{ToldOrNoMemory}
 use Rattle.fd_play.specs.Plays.{HoldsSame, LeavesUnplayed, Played}
 use Rattle.fd_session.specs.Endings.{closing, count_faults}

@@ -1,7 +1,7 @@
 -- What a stream that was split comes to.
 use Rattle.std.specs.Prelude.{◌≡◌, ℕ, Bool, false, List, Some, None, Result, Ok, Err}
 use Rattle.fd_sections.specs.Stream.{stream}
-use Rattle.fd_outcome.specs.declared.refusal.Refusal.{Refusal}
+use Rattle.fd_split.specs.declared.refusal.Refusal.{Refusal}
 use Rattle.fd_casting.specs.Steps.{AreMessages}
 use Rattle.fd_session.specs.Inputs.{octets_of, refusal_of}
 use Rattle.fd_session.specs.declared.splitting.Unsplit.{Unsplit}

@@ -8,7 +8,7 @@ use Rattle.fd_listing.specs.Lines.{blank}
 use Rattle.fd_casting.specs.declared.fault.Miscast.{Miscast}
 use Rattle.fd_casting.specs.Texts.{miscast_text}
 use Rattle.fd_request.specs.FaultTexts.{request_wrong_text}
-use Rattle.fd_outcome.specs.Causes.{Telling, refused_so, limited_so, is_request_limit}
+use Rattle.fd_stored.specs.Causes.{Telling, refused_so, limited_so, is_request_limit}
 
 -- why the pairs of a lane are refused
 abbrev pub given_text : Refusal → List ℕ

@@ -3,7 +3,7 @@ use Rattle.std.specs.Prelude.{◌≡◌, ℕ, List, Some, Err}
 use Rattle.fd_script.specs.Grammar.{Wrong, script_of}
 use Rattle.fd_script.specs.Reading.{Gives, seen_wrong}
 use Rattle.fd_script.specs.declared.fault.ScriptFault.TheVariants as faults
-use Rattle.fd_outcome.specs.declared.refusal.Refusal.{Refusal}
+use Rattle.fd_split.specs.declared.refusal.Refusal.{Refusal}
 use Rattle.fd_session.specs.declared.reading.Unaccepted.{Unaccepted}
 use Rattle.fd_session.specs.declared.reading.Unaccepted.TheVariants as reasons
 use Rattle.fd_session.specs.Inputs.{IsRefusedBehind}

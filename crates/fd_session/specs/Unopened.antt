@@ -2,9 +2,9 @@
 use Rattle.std.specs.Prelude.{ℕ, List, Option}
 use Rattle.fd_recovery.specs.declared.fault.OpenFault.{OpenFault}
 use Rattle.fd_recovery.specs.declared.fault.OpenFault.TheVariants as faults
-use Rattle.fd_outcome.specs.declared.status.Status.{Status}
-use Rattle.fd_outcome.specs.declared.status.Status.TheVariants as statuses
-use Rattle.fd_outcome.specs.Causes.{BadFile, BadTable, TooManyDatasets, damaged_line, telling}
+use Rattle.fd_stored.specs.declared.status.Status.{Status}
+use Rattle.fd_stored.specs.declared.status.Status.TheVariants as statuses
+use Rattle.fd_stored.specs.Causes.{BadFile, BadTable, TooManyDatasets, damaged_line, telling}
 use Rattle.fd_outcome.specs.Ends.{disk_failed, no_memory}
 use Rattle.fd_outcome.specs.Told.{Told, ToldOrNoMemory}
 

@@ -2,9 +2,9 @@
 use Rattle.std.specs.Prelude.{◌≡◌, ◌≢◌, ◌⊎◌, ◌≤◌, ◌<◌, ◌+◌, ◌-◌, ◌^◌, ◌++◌, ℕ, List, [], Option}
 use Rattle.fd_bytes.specs.Causes.{Rose}
 use Rattle.fd_io.specs.Streams.{Takes, TakesFront}
-use Rattle.fd_outcome.specs.declared.status.Status.{Status}
-use Rattle.fd_outcome.specs.declared.status.Status.TheVariants.{OutputFault, NoMemory, Damaged}
-use Rattle.fd_outcome.specs.Causes.{Telling}
+use Rattle.fd_stored.specs.declared.status.Status.{Status}
+use Rattle.fd_stored.specs.declared.status.Status.TheVariants.{OutputFault, NoMemory, Damaged}
+use Rattle.fd_stored.specs.Causes.{Telling}
 use Rattle.fd_outcome.specs.Ends.{no_memory, output_failed}
 use Rattle.fd_outcome.specs.Told.{Told}
 

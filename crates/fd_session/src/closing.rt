@@ -1,7 +1,7 @@
 // The end of a session that ran: what it found, its transcript, and its status.
 ghost use Rattle.std.specs.Prelude.{◌≡◌};
 ghost use Rattle.fd_transcript.specs.{Lines.{found_bytes}, Transcripts.{transcript_text}};
-ghost use Rattle.fd_outcome.specs.Causes.{BadFile, damaged_line};
+ghost use Rattle.fd_stored.specs.Causes.{BadFile, damaged_line};
 ghost use Rattle.fd_session.specs.{Endings.{closing, count_faults, damage_of, ends_in, first_damage, is_fault, lane_damage, lane_faults, lane_has, one_if, some_has}, Writes.{HasCounted, ToldClosing, Writes}};
 
 use fd_bytes::Items;
@@ -9,9 +9,10 @@ use fd_disk::Store;
 use fd_io::Sink;
 use fd_lanes::{End, Ends, Transcript};
 use fd_listing::TextFault;
-use fd_outcome::{Status, tell, tell_disk_failed, tell_no_memory, tell_output_failed};
+use fd_outcome::{tell, tell_disk_failed, tell_no_memory, tell_output_failed};
 use fd_script::Script;
 use fd_segment::Damage;
+use fd_stored::Status;
 use fd_telling::{Broken, tell_broken};
 use fd_transcript::{tell_transcript, write_found};
 use std::alloc::Global;

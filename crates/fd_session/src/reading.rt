@@ -3,15 +3,16 @@ ghost use Rattle.std.specs.Prelude.{◌≡◌, ◌≤◌, [], List, ℕ, Some, N
 ghost use Rattle.fd_bytes.specs.Causes.{Rose};
 ghost use Rattle.fd_script.specs.Grammar.{script_of};
 ghost use Rattle.fd_outcome.specs.Reading as unread;
-ghost use Rattle.fd_outcome.specs.Limits.{input_limit};
+ghost use Rattle.fd_split.specs.Limits.{input_limit};
 ghost use Rattle.fd_casting.specs.Steps.{AreMessages};
 ghost use Rattle.fd_session.specs.{Inputs.{IsInput}, Unaccepted.{IsNamed, OnRefused, OnUnread, Says}};
 
 use crate::splitting::{Unsplit, split_stream};
 use fd_bytes::{Bytes, Items};
 use fd_io::Source;
-use fd_outcome::{INPUT_LIMIT, Refusal, Unread, read_front};
+use fd_outcome::{Unread, read_front};
 use fd_script::{Script, ScriptFault};
+use fd_split::{INPUT_LIMIT, Refusal};
 use std::alloc::Global;
 
 /// A script, and the messages of the stream behind it.

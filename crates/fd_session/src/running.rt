@@ -19,12 +19,13 @@ use fd_io::Sink;
 use fd_lanes::Transcript;
 use fd_objects::{Objects, World};
 use fd_outcome::{
-    Status, stored_schema, tell, tell_disk_failed, tell_input_failed, tell_no_memory, tell_refusal,
+    stored_schema, tell, tell_disk_failed, tell_input_failed, tell_no_memory, tell_refusal,
 };
 use fd_play::play;
 use fd_recovery::OpenFault;
 use fd_schema::{Place, Schema};
 use fd_script::ScriptFault;
+use fd_stored::Status;
 use fd_telling::{Broken, tell_broken, tell_unruled};
 use fd_words::Root;
 use std::alloc::Global;

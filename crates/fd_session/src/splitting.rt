@@ -4,8 +4,8 @@ ghost use Rattle.fd_sections.specs.{Stream.{stream}, Splitting.{fed, start}, Joi
 ghost use Rattle.fd_session.specs.{Inputs.{refusal_of}, Splits.{HasGiven, Measures}, Split.{IsRefusal, IsSplit, Splits}};
 
 use fd_bytes::{Bytes, Items, NoMemory};
-use fd_outcome::{Refusal, refusal_of};
 use fd_sections::Splitter;
+use fd_split::{Refusal, refusal_of};
 use std::alloc::Global;
 
 /// Why a stream has not all its messages.

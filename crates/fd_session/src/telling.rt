@@ -7,9 +7,10 @@ ghost use Rattle.fd_session.specs.Telling.{limit_text, line_refused, miscast_tel
 
 use fd_casting::{Miscast, miscast_text};
 use fd_io::Sink;
-use fd_outcome::{Status, is_request_limit, request_kind, tell_limit, tell_no_memory, tell_place};
+use fd_outcome::{is_request_limit, request_kind, tell_limit, tell_no_memory, tell_place};
 use fd_request::RequestFault;
 use fd_script::ScriptKind;
+use fd_stored::Status;
 use std::alloc::{AllocError, Global};
 
 /// What is wrong with a line of a script.

@@ -3,7 +3,7 @@ use Rattle.std.proofs.Common.{◌≡◌, ◌==◌, ◌&&◌, ◌||◌, ℕ, zero
 use Rattle.std.specs.Str.{bytes_eq}
 use Rattle.fd_entries.specs.declared.batch.Pair.{Pair}
 use Rattle.fd_library.specs.Open.{AreDistinct, among}
-use Rattle.fd_outcome.specs.Archiving.{Stored, pairs_for}
+use Rattle.fd_stored.specs.Archiving.{Stored, pairs_for}
 use Rattle.fd_segment.proofs.Keys.{eq_is, eq_refl}
 use Rattle.fd_sheets.specs.Dealt.{dealt}
 use Rattle.fd_shares.specs.Dealing.{dealt_to}

@@ -14,7 +14,7 @@ use Rattle.fd_shares.specs.declared.round.Desk.{Desk}
 use Rattle.fd_shares.specs.declared.round.Halt.{Halt}
 use Rattle.fd_shares.specs.declared.round.Job.{Job}
 use Rattle.fd_shares.specs.declared.round.Parcel.{Parcel}
-use Rattle.fd_outcome.specs.Archiving.{Stored as Kept, pairs_for}
+use Rattle.fd_stored.specs.Archiving.{Stored as Kept, pairs_for}
 use Rattle.fd_shares.specs.Dealing.{dealt_to}
 use Rattle.fd_sheets.specs.Dealt.{dealt}
 use Rattle.fd_shares.specs.Working.{Filling, Flushed, HasSealed, Stage, Stopped, Works}

@@ -5,8 +5,8 @@ use Rattle.fd_sections.specs.Progress.{Progress}
 use Rattle.fd_sections.specs.Splitting.{fed}
 use Rattle.fd_key.specs.Pairs.{Pair}
 use Rattle.fd_schema.specs.Rules.{Rule}
-use Rattle.fd_outcome.specs.Limits.{input_limit}
-use Rattle.fd_outcome.proofs.InputLemmas.{gives_both, gives_nothing}
+use Rattle.fd_split.specs.Limits.{input_limit}
+use Rattle.fd_split.proofs.InputLemmas.{gives_both, gives_nothing}
 use Rattle.fd_sheets.specs.declared.reader.Reach.{Reach}
 use Rattle.fd_sheets.specs.declared.reader.Reach.TheVariants as reaches
 use Rattle.fd_sheets.specs.declared.reader.Stop.{Stop}
@@ -17,7 +17,7 @@ use Rattle.fd_sheets.specs.declared.sheets.Unsplit.TheVariants as ends
 use Rattle.fd_sheets.specs.Names.{IsKnown}
 use Rattle.fd_sheets.specs.Reading.{HasRead, HasSome, HasTaken, IsFed, IsStop, ReadsOn, Rests, StopsAs, is_end, is_unread}
 use Rattle.fd_sheets.specs.Sheets.{Placed, Unsplits}
-use Rattle.fd_outcome.specs.Positions.{IsIdle, Position, fed_at}
+use Rattle.fd_split.specs.Positions.{IsIdle, Position, fed_at}
 use Rattle.fd_sheets.proofs.Placing.{fed_both, passes_none, placed_count, placed_fed, placed_fed_is, placed_more}
 
 all_both : {A : Type 0} (P : A → Type 0) (xs ys : List A) → All P xs → All P ys → All P (xs ++ ys)

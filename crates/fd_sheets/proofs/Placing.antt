@@ -10,9 +10,9 @@ use Rattle.fd_sections.proofs.Laws.{reading_again}
 use Rattle.fd_split.specs.Seen.{IsWhole}
 use Rattle.fd_key.specs.Pairs.{Pair}
 use Rattle.fd_schema.specs.Rules.{Rule}
-use Rattle.fd_outcome.specs.Fields.{numbered}
-use Rattle.fd_outcome.specs.Positions.{FieldsOn, Position, fed_at, weight}
-use Rattle.fd_outcome.proofs.Positions.{fields_fed, fields_more, fields_nothing, fields_then}
+use Rattle.fd_split.specs.Fields.{numbered}
+use Rattle.fd_split.specs.Positions.{FieldsOn, Position, fed_at, weight}
+use Rattle.fd_split.proofs.Positions.{fields_fed, fields_more, fields_nothing, fields_then}
 use Rattle.fd_sheets.specs.declared.sheets.Sheet.{Sheet}
 use Rattle.fd_sheets.specs.Sheets.{IsLookedUp, IsReadable, IsSheet, IsWholeField, Passes, Placed, Staged}
 

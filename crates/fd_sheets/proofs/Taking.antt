@@ -15,10 +15,10 @@ use Rattle.fd_split.specs.Seen.{IsOpened, IsWhole}
 use Rattle.fd_split.specs.declared.fault.SplitFault.{SplitFault}
 use Rattle.fd_split.specs.declared.fault.SplitFault.TheVariants as faults
 use Rattle.fd_split.proofs.Special.{IsMulti, few_fields, read_refused, read_single}
-use Rattle.fd_outcome.specs.Fields.{numbered, refusal_at}
-use Rattle.fd_outcome.specs.Positions.{FieldsOn, RefusesNext, weight}
-use Rattle.fd_outcome.specs.declared.refusal.Refusal.TheVariants as refusals
-use Rattle.fd_outcome.proofs.Positions.{fields_next, fields_opened, fields_passed, fields_rejected, fields_unsplit}
+use Rattle.fd_split.specs.Fields.{numbered, refusal_at}
+use Rattle.fd_split.specs.Positions.{FieldsOn, RefusesNext, weight}
+use Rattle.fd_split.specs.declared.refusal.Refusal.TheVariants as refusals
+use Rattle.fd_split.proofs.Positions.{fields_next, fields_opened, fields_passed, fields_rejected, fields_unsplit}
 use Rattle.fd_sheets.specs.declared.sheets.Sheet.{Sheet}
 use Rattle.fd_sheets.specs.declared.sheets.Unsplit.{Unsplit}
 use Rattle.fd_sheets.specs.declared.sheets.Unsplit.TheVariants as ends

@@ -4,7 +4,7 @@ use Rattle.fd_sections.specs.Message.{Sections}
 use Rattle.fd_sections.specs.Progress.{Progress}
 use Rattle.fd_key.specs.Pairs.{Pair}
 use Rattle.fd_schema.specs.Rules.{Rule}
-use Rattle.fd_outcome.specs.Positions.{Position}
+use Rattle.fd_split.specs.Positions.{Position}
 use Rattle.fd_sheets.specs.declared.sheets.Sheet.{Sheet}
 use Rattle.fd_sheets.specs.declared.sheets.Unsplit.{Unsplit}
 use Rattle.fd_sheets.specs.Sheets.{AreSome, IsLookedUp, IsOpen, Placed, Shrinks, Stays, Took, standing}

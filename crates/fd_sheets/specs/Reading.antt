@@ -5,10 +5,10 @@ use Rattle.fd_bytes.specs.Causes.{Rose}
 use Rattle.fd_io.specs.Streams.{Gives, IsAtEnd}
 use Rattle.fd_key.specs.Pairs.{Pair}
 use Rattle.fd_schema.specs.Rules.{Rule}
-use Rattle.fd_outcome.specs.Limits.{input_limit}
-use Rattle.fd_outcome.specs.Fields.{refusal_at}
-use Rattle.fd_outcome.specs.Positions.{IsIdle, Position, RefusesNext, fed_at}
-use Rattle.fd_outcome.specs.declared.refusal.Refusal.TheVariants as refusals
+use Rattle.fd_split.specs.Limits.{input_limit}
+use Rattle.fd_split.specs.Fields.{refusal_at}
+use Rattle.fd_split.specs.Positions.{IsIdle, Position, RefusesNext, fed_at}
+use Rattle.fd_split.specs.declared.refusal.Refusal.TheVariants as refusals
 use Rattle.fd_sheets.specs.declared.reader.Batch.{Batch}
 use Rattle.fd_sheets.specs.declared.reader.Reach.{Reach}
 use Rattle.fd_sheets.specs.declared.reader.Reach.TheVariants as reaches

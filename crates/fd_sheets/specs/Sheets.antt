@@ -13,9 +13,9 @@ use Rattle.fd_key.specs.Pairs.{key_text}
 use Rattle.fd_schema.specs.Rules.{IsShort, Rule, place_from}
 use Rattle.fd_schema.specs.Reading.{seen_place}
 use Rattle.fd_schema.specs.declared.place.Place.{Place}
-use Rattle.fd_outcome.specs.Fields.{numbered, refusal_at}
-use Rattle.fd_outcome.specs.Positions.{FieldsOn, IsIdle, Position, RefusesNext, weight}
-use Rattle.fd_outcome.specs.declared.refusal.Refusal.TheVariants as refusals
+use Rattle.fd_split.specs.Fields.{numbered, refusal_at}
+use Rattle.fd_split.specs.Positions.{FieldsOn, IsIdle, Position, RefusesNext, weight}
+use Rattle.fd_split.specs.declared.refusal.Refusal.TheVariants as refusals
 use Rattle.fd_sheets.specs.declared.sheets.Sheet.{Sheet}
 use Rattle.fd_sheets.specs.declared.sheets.Unplaced.{Unplaced}
 use Rattle.fd_sheets.specs.declared.sheets.Unplaced.TheVariants as reasons

@@ -5,7 +5,7 @@ ghost use Rattle.fd_io.specs.Streams.{Gives, IsAtEnd};
 
 use fd_bytes::NoMemory;
 use fd_io::Source;
-use fd_outcome::INPUT_LIMIT;
+use fd_split::INPUT_LIMIT;
 use std::alloc::Global;
 
 /// How many octets a reader that reads ahead reads at a time. The places of all messages that are whole in a piece are looked for in

@@ -2,7 +2,7 @@
 ghost use Rattle.std.specs.Prelude.{◌≡◌, ◌<◌, ◌≤◌, All, Ok, Err, [], IfOk, IfErr, OnOk, true, false};
 ghost use Rattle.fd_bytes.specs.Causes.{Rose};
 ghost use Rattle.fd_sections.specs.{Splitting.{finished, start}, Stream.{first}};
-ghost use Rattle.fd_outcome.specs.Positions.{IsIdle, at_message};
+ghost use Rattle.fd_split.specs.Positions.{IsIdle, at_message};
 ghost use Rattle.fd_schema.specs.Grammar.{IsSchema};
 ghost use Rattle.fd_sheets.specs.{Names.{IsKnown}, Reading.{HasRead, HasTaken, IsFed, IsStop, ReadOn, is_end, is_full, is_starved, is_unread}};
 
@@ -13,9 +13,9 @@ use crate::sheets::{Intake, Sheet, Unsplit};
 use fd_bytes::{Bytes, NoMemory};
 use fd_io::Source;
 use fd_key::Given;
-use fd_outcome::INPUT_LIMIT;
 use fd_schema::Schema;
 use fd_sections::{BadAt, Truncated};
+use fd_split::INPUT_LIMIT;
 use std::alloc::Global;
 use std::marker::Model;
 use std::thread::Threads;
@@ -91,7 +91,7 @@ fn stopped<X>(end: Unsplit) -> Stop<X>
 
 impl Model for Reader {
     ghost use Rattle.std.specs.Prelude.{◌≡◌, ◌≤◌, ◌<◌, ◌+◌, ◌*◌, length, vec_len};
-    ghost use Rattle.fd_outcome.specs.Positions.{Position};
+    ghost use Rattle.fd_split.specs.Positions.{Position};
 
     ghost Value = { Position };
 

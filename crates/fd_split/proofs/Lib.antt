@@ -7,3 +7,7 @@ pub mod Opening
 pub mod Writing
 pub mod Never
 pub mod Splits
+pub mod InputLemmas
+pub mod InputLaws
+pub mod Positions
+pub mod FrameLaws

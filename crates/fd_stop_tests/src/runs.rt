@@ -7,12 +7,12 @@ use fd_disk_mem::MemStore;
 use fd_gen::generated;
 use fd_io::{Gate, MemIoFault, MemSink, MemSource};
 use fd_objects::{Kinds, Objects, World};
-use fd_outcome::Status;
 use fd_stopped::Stopped;
 use fd_stops::{
     Stopping, archive_until, create_until, list_until, purge_until, session_until, trial_until,
     wipe_until,
 };
+use fd_stored::Status;
 use fd_words::{Command, read_command};
 use std::alloc::Global;
 use std::sync::Wait;

@@ -1,9 +1,9 @@
 //! A command that is stopped at each of its calls in turn, and what is found after a crash.
 use crate::runs::{ROW, Row, run_in_memory};
 use fd_disk_mem::MemStore;
-use fd_outcome::Status;
 use fd_stopped::{Stopped, Stops};
 use fd_stops::every_crash;
+use fd_stored::Status;
 use std::alloc::Global;
 use std::sync::Wait;
 use std::thread::Threads;

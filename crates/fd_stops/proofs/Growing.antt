@@ -6,14 +6,14 @@ use Rattle.fd_entries.specs.declared.batch.Pair.{Pair}
 use Rattle.fd_key.specs.Pairs as keys
 use Rattle.fd_schema.specs.Rules.{Rule}
 use Rattle.fd_recovery.specs.Recovered.{held}
-use Rattle.fd_outcome.specs.declared.status.Status.{Status}
-use Rattle.fd_outcome.specs.declared.status.Status.TheVariants.{Done, Missed, Words, Refused, InputFault, OutputFault, DiskFault, NoMemory, Damaged, Limit}
+use Rattle.fd_stored.specs.declared.status.Status.{Status}
+use Rattle.fd_stored.specs.declared.status.Status.TheVariants.{Done, Missed, Words, Refused, InputFault, OutputFault, DiskFault, NoMemory, Damaged, Limit}
 use Rattle.fd_outcome.specs.Asking.{rules_of}
-use Rattle.fd_outcome.specs.Archiving.{pairs_for, taken}
-use Rattle.fd_outcome.specs.Causes.{Cause}
+use Rattle.fd_stored.specs.Archiving.{pairs_for, taken}
+use Rattle.fd_stored.specs.Causes.{Cause}
 use Rattle.fd_outcome.specs.Ends.{LeavesBy, LeavesStored, LeavesTried}
 use Rattle.fd_outcome.specs.Outcome.{generated_messages}
-use Rattle.fd_outcome.specs.Store.{Adds, Sorted, table_at}
+use Rattle.fd_stored.specs.Store.{Adds, Sorted, table_at}
 use Rattle.fd_outcome.specs.Trying.{trial_given, trial_rules, trial_schema}
 use Rattle.fd_outcome.proofs.Leaving.{adds_none}
 use Rattle.fd_archive.specs.Crashing.{AreFirm, GrowsFirmly, IsAfterCrash, Outlasts, OutlastsBy, OutlastsTrial}

@@ -9,7 +9,7 @@ use Rattle.fd_recovery.specs.Crashing.{IsFirmTable}
 use Rattle.fd_recovery.specs.Recovered.{ReadsImage, held, held_by}
 use Rattle.fd_words.specs.declared.command.Command.{Command}
 use Rattle.fd_outcome.specs.Ends.{Opens}
-use Rattle.fd_outcome.specs.Store.{AreNames, IsLookedAt, IsLookedThrough}
+use Rattle.fd_stored.specs.Store.{AreNames, IsLookedAt, IsLookedThrough}
 use Rattle.fd_stops.specs.Found.{EachLeft, HasAnswered, IsAfterCrash, IsFolderAfter}
 use Rattle.fd_stops.proofs.Folders.{firm_same, folder_after}
 

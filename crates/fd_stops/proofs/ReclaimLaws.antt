@@ -11,8 +11,8 @@ use Rattle.fd_recovery.specs.Recovered.{held, held_by}
 use Rattle.fd_purge.specs.Kept.{kept, masked, unmasked}
 use Rattle.fd_purge.specs.Stored.{IsLeftFirmly}
 use Rattle.fd_purge.specs.Purging.{AreThinned, IsLeftByPurge, IsLeftByWipe, PurgeKeeps, TableLists, WipeKeeps, held_left, is_gone, masks_of, read_of, without}
-use Rattle.fd_outcome.specs.declared.status.Status.{Status}
-use Rattle.fd_outcome.specs.declared.status.Status.TheVariants.{Done, Missed, Words, Refused, InputFault, OutputFault, DiskFault, NoMemory, Damaged, Limit}
+use Rattle.fd_stored.specs.declared.status.Status.{Status}
+use Rattle.fd_stored.specs.declared.status.Status.TheVariants.{Done, Missed, Words, Refused, InputFault, OutputFault, DiskFault, NoMemory, Damaged, Limit}
 use Rattle.fd_outcome.specs.Reclaiming.{InDataset, IsLeft, LeavesPurged, LeavesReclaimed, LeavesWiped, PurgeDone, WipeDone}
 use Rattle.fd_archive.specs.Crashing.{IsAfterCrash}
 use Rattle.fd_stops.specs.Found.{EachLeft, FoundReclaimed, HasOldOr, IsFolderAfter}

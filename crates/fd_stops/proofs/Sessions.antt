@@ -24,9 +24,9 @@ use Rattle.fd_lanes.specs.declared.end.End.{End}
 use Rattle.fd_lanes.specs.Acts.{all_acts}
 use Rattle.fd_lanes.specs.Legal.{IsDoubt}
 use Rattle.fd_play.specs.Plays.{HasOneMore, HoldBatches, KeepsOnly, LeavesOpened, LeavesUnplayed, Played, PlayedOver}
-use Rattle.fd_outcome.specs.declared.status.Status.{Status}
+use Rattle.fd_stored.specs.declared.status.Status.{Status}
 use Rattle.fd_outcome.specs.Objects.{Object}
-use Rattle.fd_outcome.specs.Store.{table_at}
+use Rattle.fd_stored.specs.Store.{table_at}
 use Rattle.fd_archive.specs.Crashing.{AreFirm, IsAfterCrash}
 use Rattle.fd_archive.proofs.Crashed.{IsTableAfter}
 use Rattle.fd_session.specs.Sessions.{Ends, Idles, IsAccepted, Runs}

@@ -10,14 +10,14 @@ use Rattle.fd_schema.specs.Rules.{Rule}
 use Rattle.fd_purge.specs.Purging.{read_of}
 pub use Rattle.fd_recovery.specs.Crashing.{AreFirm, IsAfterCrash, IsFolderAfter}
 use Rattle.fd_words.specs.declared.command.Command.{Command}
-use Rattle.fd_outcome.specs.declared.status.Status.{Status}
-use Rattle.fd_outcome.specs.declared.status.Status.TheVariants.{Done, Missed}
-use Rattle.fd_outcome.specs.Causes.{Cause}
+use Rattle.fd_stored.specs.declared.status.Status.{Status}
+use Rattle.fd_stored.specs.declared.status.Status.TheVariants.{Done, Missed}
+use Rattle.fd_stored.specs.Causes.{Cause}
 use Rattle.fd_outcome.specs.Ends.{Opens, WhereAsked}
-use Rattle.fd_outcome.specs.Archiving.{pairs_for, taken}
+use Rattle.fd_stored.specs.Archiving.{pairs_for, taken}
 use Rattle.fd_outcome.specs.Outcome.{generated_messages}
 use Rattle.fd_outcome.specs.Trying.{trial_given, trial_schema}
-use Rattle.fd_outcome.specs.Store.{Adds, AreNames, Sorted, table_at}
+use Rattle.fd_stored.specs.Store.{Adds, AreNames, Sorted, table_at}
 
 -- each store that a crash may leave of the later one is so
 abbrev pub EachLeft : (Holdings → Holdings → Type 0) → Holdings → Holdings → Type 0

@@ -11,10 +11,10 @@ use Rattle.fd_lanes.specs.Legal.{IsDoubt, Legal}
 use Rattle.fd_lanes.specs.Tables.{AlikeTables}
 use Rattle.fd_transcript.specs.Lines.{found_bytes}
 use Rattle.fd_transcript.specs.Transcripts.{transcript_text}
-use Rattle.fd_outcome.specs.declared.status.Status.{Status}
+use Rattle.fd_stored.specs.declared.status.Status.{Status}
 use Rattle.fd_outcome.specs.Asking.{rules_of}
 use Rattle.fd_outcome.specs.Objects.{Object}
-use Rattle.fd_outcome.specs.Store.{table_at}
+use Rattle.fd_stored.specs.Store.{table_at}
 use Rattle.fd_session.specs.Endings.{closing}
 use Rattle.fd_session.specs.Sessions.{Accepted, IsAccepted}
 use Rattle.fd_session.specs.Writes.{Writes}

@@ -5,7 +5,7 @@ ghost use Rattle.fd_stops.specs.Found.{EachLeft, FoundCreated};
 
 use crate::stopping::Stopping;
 use fd_objects::{Objects, World};
-use fd_outcome::Status;
+use fd_stored::Status;
 use fd_streams::create;
 use fd_words::Root;
 

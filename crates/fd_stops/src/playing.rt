@@ -7,8 +7,8 @@ ghost use Rattle.fd_stops.specs.{Found.{EachLeft}, Playing.{FoundOfSession}};
 
 use crate::stopping::Stopping;
 use fd_objects::{Objects, World};
-use fd_outcome::Status;
 use fd_session::session;
+use fd_stored::Status;
 use fd_words::Root;
 use std::sync::Wait;
 use std::thread::Threads;

@@ -5,9 +5,9 @@ ghost use Rattle.fd_stops.specs.Found.{LeavesReclaimed};
 
 use crate::stopping::Stopping;
 use fd_objects::{Objects, World};
-use fd_outcome::Status;
 use fd_purge::every_purge;
 use fd_reclaim::{purge, wipe};
+use fd_stored::Status;
 use fd_words::{Dataset, Root};
 
 /// Purges a dataset of a store that passes so many calls on and fails all later ones. Whatever their number is, and whatever is

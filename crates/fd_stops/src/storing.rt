@@ -9,7 +9,7 @@ use crate::stopping::Stopping;
 use fd_archive::archive;
 use fd_key::Given;
 use fd_objects::{Objects, World};
-use fd_outcome::Status;
+use fd_stored::Status;
 use fd_trial::trial;
 use fd_words::Root;
 use std::sync::Wait;

@@ -8,12 +8,12 @@ use Rattle.fd_disk.specs.Folders.{Holdings, WhereTold, planted as stores}
 use Rattle.fd_schema.specs.Rules.{Rule}
 use Rattle.fd_schema.specs.Grammar.{Fault, schema_of}
 use Rattle.fd_words.specs.declared.command.Command.TheVariants.{Create}
-use Rattle.fd_outcome.specs.declared.status.Status.{Status}
-use Rattle.fd_outcome.specs.declared.status.Status.TheVariants.{Done, Missed, Words, Refused, InputFault, OutputFault, DiskFault, NoMemory, Damaged, Limit}
+use Rattle.fd_stored.specs.declared.status.Status.{Status}
+use Rattle.fd_stored.specs.declared.status.Status.TheVariants.{Done, Missed, Words, Refused, InputFault, OutputFault, DiskFault, NoMemory, Damaged, Limit}
 use Rattle.fd_outcome.specs.Told.{Told, ToldOrNoMemory}
-use Rattle.fd_outcome.specs.Causes.{Telling, InSchema, SchemaPresent, telling, is_schema_limit, schema_limit, schema_place, refused_so, table_full}
+use Rattle.fd_stored.specs.Causes.{Telling, InSchema, SchemaPresent, telling, is_schema_limit, schema_limit, schema_place, refused_so, table_full}
 use Rattle.fd_outcome.specs.Outcome.{refused, created, planted, outcome, early}
-use Rattle.fd_outcome.specs.Store.{Plants}
+use Rattle.fd_stored.specs.Store.{Plants}
 use Rattle.fd_outcome.specs.Ends.{Calm, Leaves, LeavesSchema, ReadsOut, WhereAsked, troubles, input_failed, disk_failed, no_memory}
 use Rattle.fd_outcome.specs.Objects.{Object, object, failures}
 use Rattle.fd_outcome.specs.Ran.{Ran}

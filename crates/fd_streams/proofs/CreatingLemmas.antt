@@ -6,7 +6,7 @@ use Rattle.std.proofs.lemmas.Bool.Decides.{nat_tests}
 use Rattle.fd_io.specs.Streams.{Gives}
 use Rattle.fd_schema.specs.Rules.{Rule}
 use Rattle.fd_schema.specs.Grammar.{Fault, TooLong, schema_of}
-use Rattle.fd_outcome.specs.Causes.{InSchema}
+use Rattle.fd_stored.specs.Causes.{InSchema}
 use Rattle.fd_streams.specs.Creating.{IsSchemaText}
 use Rattle.fd_outcome.specs.Outcome.{refused, planted}
 

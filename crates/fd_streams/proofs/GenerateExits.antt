@@ -4,10 +4,10 @@ use Rattle.fd_bytes.specs.Causes.{Rose}
 use Rattle.fd_io.specs.Streams.{Takes, TakesFront}
 use Rattle.fd_disk.specs.Folders.{Holdings, WhereTold}
 use Rattle.fd_words.specs.declared.command.Command.TheVariants.{Generate}
-use Rattle.fd_outcome.specs.declared.status.Status.{Status}
-use Rattle.fd_outcome.specs.declared.status.Status.TheVariants.{Done, InputFault, OutputFault, DiskFault, NoMemory}
+use Rattle.fd_stored.specs.declared.status.Status.{Status}
+use Rattle.fd_stored.specs.declared.status.Status.TheVariants.{Done, InputFault, OutputFault, DiskFault, NoMemory}
 use Rattle.fd_outcome.specs.Outcome.{generated, generated_messages}
-use Rattle.fd_outcome.specs.Causes.{table_full}
+use Rattle.fd_stored.specs.Causes.{table_full}
 use Rattle.fd_outcome.specs.Objects.{object}
 use Rattle.fd_outcome.specs.Ends.{Leaves, output_failed, no_memory}
 use Rattle.fd_outcome.specs.Ran.{Ran}

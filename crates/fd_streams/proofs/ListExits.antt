@@ -6,13 +6,13 @@ use Rattle.fd_io.specs.Streams.{Takes, TakesFront}
 use Rattle.fd_disk.specs.Folders.{Holdings, WhereTold}
 use Rattle.fd_outcome.specs.declared.listing.Listing.{Listing}
 use Rattle.fd_outcome.specs.declared.listing.Listing.TheVariants as listings
-use Rattle.fd_outcome.specs.declared.refusal.Refusal.{Refusal}
-use Rattle.fd_outcome.specs.declared.status.Status.{Status}
-use Rattle.fd_outcome.specs.declared.status.Status.TheVariants.{Done, InputFault, OutputFault, DiskFault, NoMemory}
-use Rattle.fd_outcome.specs.Refusals.{refusal_line, refusal_status}
+use Rattle.fd_split.specs.declared.refusal.Refusal.{Refusal}
+use Rattle.fd_stored.specs.declared.status.Status.{Status}
+use Rattle.fd_stored.specs.declared.status.Status.TheVariants.{Done, InputFault, OutputFault, DiskFault, NoMemory}
+use Rattle.fd_stored.specs.Refusals.{refusal_line, refusal_status}
 use Rattle.fd_outcome.specs.Listed.{listed}
 use Rattle.fd_outcome.specs.Outcome.{told, outcome, early, refusal_lines, listing_status, lines_early}
-use Rattle.fd_outcome.specs.Causes.{table_full}
+use Rattle.fd_stored.specs.Causes.{table_full}
 use Rattle.fd_outcome.specs.Objects.{object}
 use Rattle.fd_outcome.specs.Ends.{Leaves, ReadsOut, WhereAsked, input_failed, output_failed, no_memory, nothing_held}
 use Rattle.fd_outcome.specs.Ran.{Ran}

@@ -16,14 +16,14 @@ use Rattle.fd_streams.specs.declared.feeding.Stop.{Stop}
 use Rattle.fd_streams.specs.declared.feeding.Stop.TheVariants as stops
 use Rattle.fd_streams.specs.declared.listing.Halt.{Halt}
 use Rattle.fd_streams.specs.declared.listing.Halt.TheVariants as halts
-use Rattle.fd_outcome.specs.declared.refusal.Refusal.{Refusal}
-use Rattle.fd_outcome.specs.declared.refusal.Refusal.TheVariants.{Cut, Input}
-use Rattle.fd_outcome.specs.Limits.{input_limit}
+use Rattle.fd_split.specs.declared.refusal.Refusal.{Refusal}
+use Rattle.fd_split.specs.declared.refusal.Refusal.TheVariants.{Cut, Input}
+use Rattle.fd_split.specs.Limits.{input_limit}
 use Rattle.fd_outcome.specs.Listed.{Listed, alone, ended, before, listed_after, listed_messages, listed}
 use Rattle.fd_streams.specs.Feeding.{IsFed}
 use Rattle.fd_streams.specs.Halted.{Comes, IsCut, IsRefused, IsListed, HaltedAs, Halted, ListedAll, halt_of}
 use Rattle.fd_streams.specs.Run.{Reads, Gone}
-use Rattle.fd_outcome.proofs.InputLaws.{all_of, front_of, begins_with}
+use Rattle.fd_split.proofs.InputLaws.{all_of, front_of, begins_with}
 use Rattle.fd_streams.proofs.Runs.{read_on, some_left}
 use Rattle.fd_streams.proofs.ListingSteps.{both_listed, halted_behind, listed_end, listed_on}
 

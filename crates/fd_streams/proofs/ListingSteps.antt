@@ -17,9 +17,9 @@ use Rattle.fd_listing.specs.Values.{values_text, most_points, field_text, IsList
 use Rattle.fd_outcome.specs.declared.listing.Listing.{Listing}
 use Rattle.fd_streams.specs.declared.listing.Halt.{Halt}
 use Rattle.fd_streams.specs.declared.listing.Halt.TheVariants as halts
-use Rattle.fd_outcome.specs.declared.refusal.Refusal.{Refusal}
-use Rattle.fd_outcome.specs.declared.refusal.Refusal.TheVariants as refusals
-use Rattle.fd_outcome.specs.Inputs.{refused}
+use Rattle.fd_split.specs.declared.refusal.Refusal.{Refusal}
+use Rattle.fd_split.specs.declared.refusal.Refusal.TheVariants as refusals
+use Rattle.fd_split.specs.Inputs.{refused}
 use Rattle.fd_outcome.specs.Listed.{Listed, field_lines, message_lines, ended, alone, before, listed_messages, listed_after}
 use Rattle.fd_streams.specs.Halted.{IsCut, IsRefused, HaltedAs, Halted, IsWritten, ListsOn, ListedOne}
 

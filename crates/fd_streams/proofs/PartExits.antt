@@ -5,10 +5,10 @@ use Rattle.fd_bytes.specs.Causes.{Rose}
 use Rattle.fd_io.specs.Streams.{Takes}
 use Rattle.fd_disk.specs.Folders.{Holdings, WhereTold}
 use Rattle.fd_words.specs.declared.command.Command.TheVariants as commands
-use Rattle.fd_outcome.specs.declared.refusal.Refusal.{Refusal}
-use Rattle.fd_outcome.specs.declared.status.Status.{Status}
-use Rattle.fd_outcome.specs.declared.status.Status.TheVariants.{Done, InputFault, OutputFault, DiskFault, NoMemory}
-use Rattle.fd_outcome.specs.Refusals.{refusal_line, refusal_status}
+use Rattle.fd_split.specs.declared.refusal.Refusal.{Refusal}
+use Rattle.fd_stored.specs.declared.status.Status.{Status}
+use Rattle.fd_stored.specs.declared.status.Status.TheVariants.{Done, InputFault, OutputFault, DiskFault, NoMemory}
+use Rattle.fd_stored.specs.Refusals.{refusal_line, refusal_status}
 use Rattle.fd_outcome.specs.Splitting.{Split, octets_of, split_line, split_of}
 use Rattle.fd_outcome.specs.Outcome.{parted, split_report, listing_status, lines_early}
 use Rattle.fd_outcome.specs.Objects.{object}

@@ -11,15 +11,15 @@ use Rattle.fd_sections.specs.Stream.{first}
 use Rattle.fd_sections.specs.Frames.{Frames, FramesEnd, frames}
 use Rattle.fd_sections.specs.Joining.{IsWaiting}
 use Rattle.fd_sections.proofs.Frames.{ends_framed}
-use Rattle.fd_outcome.specs.declared.refusal.Refusal.{Refusal}
-use Rattle.fd_outcome.specs.declared.refusal.Refusal.TheVariants.{Cut, Input}
-use Rattle.fd_outcome.specs.Limits.{input_limit}
-use Rattle.fd_outcome.specs.Fields.{FieldList, Numbered, behind_fields, fields_after}
-use Rattle.fd_outcome.specs.Positions.{FieldsOn, at_message, fed_at, fields_from}
+use Rattle.fd_split.specs.declared.refusal.Refusal.{Refusal}
+use Rattle.fd_split.specs.declared.refusal.Refusal.TheVariants.{Cut, Input}
+use Rattle.fd_split.specs.Limits.{input_limit}
+use Rattle.fd_split.specs.Fields.{FieldList, Numbered, behind_fields, fields_after}
+use Rattle.fd_split.specs.Positions.{FieldsOn, at_message, fed_at, fields_from}
 use Rattle.fd_outcome.specs.Listed.{Listed}
 use Rattle.fd_outcome.specs.Splitting.{Split, octets_of, split_after, split_of}
-use Rattle.fd_outcome.proofs.FrameLaws.{all_of, front_of, begins_with}
-use Rattle.fd_outcome.proofs.Positions.{fields_fed, fields_more}
+use Rattle.fd_split.proofs.FrameLaws.{all_of, front_of, begins_with}
+use Rattle.fd_split.proofs.Positions.{fields_fed, fields_more}
 use Rattle.fd_streams.specs.declared.feeding.Stop.{Stop}
 use Rattle.fd_streams.specs.declared.feeding.Stop.TheVariants as stops
 use Rattle.fd_streams.specs.declared.listing.Halt.{Halt}

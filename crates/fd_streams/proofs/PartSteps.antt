@@ -17,15 +17,15 @@ use Rattle.fd_split.specs.Reading.{Wrong, NoMap, NoMessage, reading_fields}
 use Rattle.fd_split.specs.Seen.{IsOpened}
 use Rattle.fd_split.specs.declared.fault.SplitFault.{SplitFault}
 use Rattle.fd_split.specs.declared.fault.SplitFault.TheVariants as faults
-use Rattle.fd_outcome.specs.declared.refusal.Refusal.{Refusal}
-use Rattle.fd_outcome.specs.declared.refusal.Refusal.TheVariants as refusals
-use Rattle.fd_outcome.specs.Inputs.{refused}
-use Rattle.fd_outcome.specs.Fields.{FieldList, Numbered, all_numbered, behind_fields, fields_after, numbered, refusal_at, refusal_of_wrong, split_before}
-use Rattle.fd_outcome.specs.Positions.{FieldsOn, Position, at_message, fields_from}
+use Rattle.fd_split.specs.declared.refusal.Refusal.{Refusal}
+use Rattle.fd_split.specs.declared.refusal.Refusal.TheVariants as refusals
+use Rattle.fd_split.specs.Inputs.{refused}
+use Rattle.fd_split.specs.Fields.{FieldList, Numbered, all_numbered, behind_fields, fields_after, numbered, refusal_at, refusal_of_wrong, split_before}
+use Rattle.fd_split.specs.Positions.{FieldsOn, Position, at_message, fields_from}
 use Rattle.fd_outcome.specs.Listed.{Listed, alone, before, ended}
 use Rattle.fd_outcome.specs.Splitting.{message_of, octets_of}
 use Rattle.fd_outcome.proofs.Endings.{front_more, takes_both, takes_then_front}
-use Rattle.fd_outcome.proofs.Positions.{behind_both, fields_more, fields_nothing, fields_opened, fields_passed, fields_rejected, fields_unsplit, refused_at}
+use Rattle.fd_split.proofs.Positions.{behind_both, fields_more, fields_nothing, fields_opened, fields_passed, fields_rejected, fields_unsplit, refused_at}
 use Rattle.fd_streams.specs.declared.listing.Halt.{Halt}
 use Rattle.fd_streams.specs.declared.listing.Halt.TheVariants as halts
 use Rattle.fd_streams.specs.Halted.{HaltedAs, IsRefused}

@@ -8,10 +8,10 @@ use Rattle.fd_key.specs.Pairs.{Pair}
 use Rattle.fd_disk.specs.Folders.{Holdings, WhereTold}
 use Rattle.fd_listing.specs.Lines.{line}
 use Rattle.fd_words.specs.declared.command.Command.TheVariants.{Pick}
-use Rattle.fd_outcome.specs.declared.refusal.Refusal.{Refusal}
-use Rattle.fd_outcome.specs.declared.status.Status.{Status}
-use Rattle.fd_outcome.specs.declared.status.Status.TheVariants.{Done, Missed, InputFault, OutputFault, DiskFault, NoMemory}
-use Rattle.fd_outcome.specs.Refusals.{refusal_line, refusal_status}
+use Rattle.fd_split.specs.declared.refusal.Refusal.{Refusal}
+use Rattle.fd_stored.specs.declared.status.Status.{Status}
+use Rattle.fd_stored.specs.declared.status.Status.TheVariants.{Done, Missed, InputFault, OutputFault, DiskFault, NoMemory}
+use Rattle.fd_stored.specs.Refusals.{refusal_line, refusal_status}
 use Rattle.fd_outcome.specs.Picking.{found}
 use Rattle.fd_outcome.specs.Outcome.{picked, nothing_early}
 use Rattle.fd_outcome.specs.Objects.{object}

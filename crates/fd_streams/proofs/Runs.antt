@@ -14,10 +14,10 @@ use Rattle.fd_key.specs.Pairs.{Pair}
 use Rattle.fd_streams.specs.declared.picking.Last.{Last}
 use Rattle.fd_streams.specs.declared.feeding.Stop.{Stop}
 use Rattle.fd_streams.specs.declared.feeding.Stop.TheVariants as stops
-use Rattle.fd_outcome.specs.declared.refusal.Refusal.{Refusal}
-use Rattle.fd_outcome.specs.declared.refusal.Refusal.TheVariants.{Cut, Input}
-use Rattle.fd_outcome.specs.Limits.{input_limit}
-use Rattle.fd_outcome.proofs.InputLaws.{all_of, front_of, begins_with}
+use Rattle.fd_split.specs.declared.refusal.Refusal.{Refusal}
+use Rattle.fd_split.specs.declared.refusal.Refusal.TheVariants.{Cut, Input}
+use Rattle.fd_split.specs.Limits.{input_limit}
+use Rattle.fd_split.proofs.InputLaws.{all_of, front_of, begins_with}
 use Rattle.fd_outcome.specs.Picking.{found, found_after, keyless, last_wanted, unless}
 use Rattle.fd_streams.specs.Feeding.{IsFed}
 use Rattle.fd_streams.specs.Found.{IsLast, StoppedAs, Stopped, TookAll}

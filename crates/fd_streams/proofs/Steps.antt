@@ -12,10 +12,10 @@ use Rattle.fd_key.specs.Pairs.{Pair, has_all}
 use Rattle.fd_key.specs.Keys.{key_of}
 use Rattle.fd_streams.specs.declared.picking.Last.{Last}
 use Rattle.fd_streams.specs.declared.feeding.Stop.{Stop}
-use Rattle.fd_outcome.specs.declared.refusal.Refusal.{Refusal}
-use Rattle.fd_outcome.specs.declared.refusal.Refusal.TheVariants as refusals
+use Rattle.fd_split.specs.declared.refusal.Refusal.{Refusal}
+use Rattle.fd_split.specs.declared.refusal.Refusal.TheVariants as refusals
 use Rattle.fd_streams.specs.Found.{GoesOn, IsFilled, IsLast, Stopped, StoppedAs, Took, IsConsidered}
-use Rattle.fd_outcome.specs.Inputs.{refused}
+use Rattle.fd_split.specs.Inputs.{refused}
 use Rattle.fd_outcome.specs.Picking.{found_after, unless, keyless, this_or, last_wanted, has_wanted, is_wanted}
 
 -- ---- messages before others

@@ -3,8 +3,8 @@ use Rattle.std.specs.Prelude.{◌≡◌, ◌<◌, ◌≤◌, ◌+◌, ℕ, Bool,
 use Rattle.fd_io.specs.Streams.{Gives, IsAtEnd}
 use Rattle.fd_sections.specs.Progress.{Progress}
 use Rattle.fd_sections.specs.Splitting.{fed}
-use Rattle.fd_outcome.specs.Limits.{input_limit}
-use Rattle.fd_outcome.specs.declared.refusal.Refusal.TheVariants as refusals
+use Rattle.fd_split.specs.Limits.{input_limit}
+use Rattle.fd_split.specs.declared.refusal.Refusal.TheVariants as refusals
 use Rattle.fd_streams.specs.declared.feeding.Stop.{Stop}
 use Rattle.fd_streams.specs.declared.feeding.Stop.TheVariants as stops
 

@@ -7,7 +7,7 @@ use Rattle.fd_sections.specs.Stream.{stream}
 use Rattle.fd_sections.specs.Joining.{IsWaiting, SplitsOn}
 use Rattle.fd_key.specs.declared.fault.KeyFault.{KeyFault}
 use Rattle.fd_key.specs.Pairs.{Pair}
-use Rattle.fd_outcome.specs.declared.refusal.Refusal.{Refusal}
+use Rattle.fd_split.specs.declared.refusal.Refusal.{Refusal}
 use Rattle.fd_streams.specs.declared.feeding.Stop.{Stop}
 use Rattle.fd_streams.specs.declared.feeding.Stop.TheVariants as stop
 use Rattle.fd_streams.specs.declared.picking.Last.{Last}

@@ -6,7 +6,7 @@ use Rattle.fd_sections.specs.Progress.{Progress}
 use Rattle.fd_sections.specs.Stream.{stream}
 use Rattle.fd_sections.specs.Message.{Sections}
 use Rattle.fd_sections.specs.Joining.{IsWaiting, SplitsOn}
-use Rattle.fd_outcome.specs.declared.refusal.Refusal.{Refusal}
+use Rattle.fd_split.specs.declared.refusal.Refusal.{Refusal}
 use Rattle.fd_outcome.specs.declared.listing.Listing.{Listing}
 use Rattle.fd_outcome.specs.declared.listing.Listing.TheVariants as listings
 use Rattle.fd_streams.specs.declared.listing.Halt.{Halt}

@@ -9,9 +9,9 @@ use Rattle.fd_sections.specs.Joining.{IsWaiting}
 use Rattle.fd_split.specs.Reading.{Wrong, NoMap, NoMessage}
 use Rattle.fd_split.specs.declared.fault.SplitFault.{SplitFault}
 use Rattle.fd_split.specs.declared.fault.SplitFault.TheVariants as faults
-use Rattle.fd_outcome.specs.declared.refusal.Refusal.{Refusal}
-use Rattle.fd_outcome.specs.Fields.{FieldList, Numbered, refusal_of_wrong}
-use Rattle.fd_outcome.specs.Positions.{FieldsOn, at_message, fed_at, fields_from}
+use Rattle.fd_split.specs.declared.refusal.Refusal.{Refusal}
+use Rattle.fd_split.specs.Fields.{FieldList, Numbered, refusal_of_wrong}
+use Rattle.fd_split.specs.Positions.{FieldsOn, at_message, fed_at, fields_from}
 use Rattle.fd_outcome.specs.Listed.{Listed}
 use Rattle.fd_outcome.specs.Splitting.{Split, octets_of}
 use Rattle.fd_streams.specs.declared.listing.Halt.{Halt}

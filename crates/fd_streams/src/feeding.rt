@@ -4,8 +4,9 @@ ghost use Rattle.fd_streams.specs.{Feeding.{IsFed}, Found.{HasInputCause, IsNoMe
 
 use fd_bytes::NoMemory;
 use fd_io::Source;
-use fd_outcome::{INPUT_LIMIT, Refusal, read_piece};
+use fd_outcome::read_piece;
 use fd_sections::Splitter;
+use fd_split::{INPUT_LIMIT, Refusal};
 
 /// Why an input isn't read on, where nothing is written.
 #[derive(Drop)]

@@ -11,8 +11,9 @@ use crate::feeding::{Stop, feed_piece};
 use fd_bytes::NoMemory;
 use fd_io::{Sink, Source};
 use fd_listing::{TextFault, ValuesFault, describe, values};
-use fd_outcome::{Listing, Refusal, new_buffer, refusal_of};
+use fd_outcome::{Listing, new_buffer};
 use fd_sections::{Message, Splitter};
+use fd_split::{Refusal, refusal_of};
 use std::alloc::Global;
 
 /// Why a listing ended before its input did.

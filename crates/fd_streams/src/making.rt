@@ -10,7 +10,8 @@ ghost use Rattle.fd_streams.specs.Generating.{OnUnwritten};
 use fd_gen::generated;
 use fd_io::{Sink, write_all};
 use fd_objects::{Objects, World};
-use fd_outcome::{Status, tell_no_memory, tell_output_failed};
+use fd_outcome::{tell_no_memory, tell_output_failed};
+use fd_stored::Status;
 use std::alloc::Global;
 
 /// Why not all messages were written.

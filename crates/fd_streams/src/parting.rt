@@ -2,15 +2,16 @@
 ghost use Rattle.std.specs.Prelude.{◌≡◌, ◌≤◌, ◌<◌, ◌^◌, ℕ, List, Option, [], length, Some, Ok, IfSome, IfOk, IfErr, OnOk};
 ghost use Rattle.fd_io.specs.Streams.{Takes};
 ghost use Rattle.fd_split.specs.Reading.{Wrong, reading_fields};
-ghost use Rattle.fd_outcome.specs.{Fields.{refusal_of_wrong}, Listed.{alone, ended}, Splitting.{split_of}};
+ghost use Rattle.fd_outcome.specs.{Listed.{alone, ended}, Splitting.{split_of}};
+ghost use Rattle.fd_split.specs.Fields.{refusal_of_wrong};
 ghost use Rattle.fd_streams.specs.{Halted.{HaltedAs, HasCauses, HasOutputCause, StopsOutput}, Parted.{AreWritten, HaltsParting, IsUnsplit, Parts, PartsAll, PartsOne, messages_of, parts_of}};
 
 use crate::feeding::feed_piece;
 use crate::listing::{Halt, halt_of};
 use fd_io::{Sink, Source, write_all};
-use fd_outcome::{Refusal, new_buffer, refusal_of};
+use fd_outcome::new_buffer;
 use fd_sections::{BadAt, Splitter};
-use fd_split::{Fields, SplitFault};
+use fd_split::{Fields, Refusal, SplitFault, refusal_of};
 use std::alloc::Global;
 
 /// What was split of an input.

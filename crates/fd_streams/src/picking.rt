@@ -9,8 +9,9 @@ use crate::feeding::{Stop, feed_piece};
 use fd_bytes::NoMemory;
 use fd_io::Source;
 use fd_key::{Given, Key, KeyFault, key_into};
-use fd_outcome::{Refusal, new_buffer, refusal_of};
+use fd_outcome::new_buffer;
 use fd_sections::{Message, Splitter};
+use fd_split::{Refusal, refusal_of};
 use fd_words::Wanted;
 use std::alloc::Global;
 

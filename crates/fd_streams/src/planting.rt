@@ -3,7 +3,8 @@ ghost use Rattle.std.specs.Prelude.{◌≡◌, false, List, ℕ, None, IfSome};
 ghost use Rattle.fd_disk.specs.Folders.{WhereTold};
 ghost use Rattle.fd_schema.specs.{Reading.{IsFirst}, Grammar.{Fault}};
 ghost use Rattle.fd_words.specs.declared.command.Command.TheVariants.{Create};
-ghost use Rattle.fd_outcome.specs.{Causes.{InSchema, telling}, Noticing.{ReadsFitly}, Ran.{Ran}, Told.{ToldOrNoMemory}};
+ghost use Rattle.fd_outcome.specs.{Noticing.{ReadsFitly}, Ran.{Ran}, Told.{ToldOrNoMemory}};
+ghost use Rattle.fd_stored.specs.Causes.{InSchema, telling};
 ghost use Rattle.fd_objects.specs.Objects.{Over};
 ghost use Rattle.fd_streams.specs.Creating.{IsCreatedOnly};
 
@@ -11,9 +12,10 @@ use fd_disk::{Down, Store};
 use fd_io::Sink;
 use fd_objects::{Objects, World};
 use fd_outcome::{
-    Status, Unread, read_front, tell, tell_input_failed, tell_no_memory, tell_no_schema, tell_noted,
+    Unread, read_front, tell, tell_input_failed, tell_no_memory, tell_no_schema, tell_noted,
 };
 use fd_schema::{Schema, SchemaFault, SchemaKind};
+use fd_stored::Status;
 use fd_words::Root;
 use std::alloc::Global;
 

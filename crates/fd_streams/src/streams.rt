@@ -13,8 +13,9 @@ use fd_io::{Sink, write_all};
 use fd_key::Given;
 use fd_objects::{Objects, World};
 use fd_outcome::{
-    Listing, Status, tell, tell_input_failed, tell_no_memory, tell_output_failed, tell_refusal,
+    Listing, tell, tell_input_failed, tell_no_memory, tell_output_failed, tell_refusal,
 };
+use fd_stored::Status;
 use fd_words::Wanted;
 use std::alloc::Global;
 

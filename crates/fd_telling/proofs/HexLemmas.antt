@@ -1,7 +1,7 @@
 -- The hexadecimal text of a digest.
 use Rattle.std.proofs.Common.{◌≡◌, ◌∙◌, ◌/◌, ◌%◌, ℕ, List, [], ◌∷◌, IfOk, Result, Ok, Err, ap, refl}
 use Rattle.hex.specs.Hex.{encode_lower, encode_with}
-use Rattle.fd_outcome.specs.Causes.{hex_digit, hex_text}
+use Rattle.fd_stored.specs.Causes.{hex_digit, hex_text}
 
 -- it is that of the ported crate
 pub encoded_is : (xs : List ℕ) → encode_lower xs ≡ hex_text xs

@@ -4,8 +4,8 @@ use Rattle.std.specs.Prelude.{Result, Err}
 use Rattle.fd_bytes.specs.Causes.{Rose}
 use Rattle.fd_disk.specs.Folders.{Holdings}
 use Rattle.fd_request.specs.Expansion.{Keyword}
-use Rattle.fd_outcome.specs.Causes as causes
-use Rattle.fd_outcome.specs.Causes.{Cause}
+use Rattle.fd_stored.specs.Causes as causes
+use Rattle.fd_stored.specs.Causes.{Cause}
 use Rattle.fd_telling.specs.declared.stop.Stop.{Stop}
 use Rattle.fd_telling.specs.declared.stop.Stop.TheVariants as stops
 use Rattle.fd_telling.specs.Stops.{IsOfPlaces, IsOfRequest, NotRefused, OnDisk, OnRequest, OnTooMany, Says}

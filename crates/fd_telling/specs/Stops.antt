@@ -9,16 +9,16 @@ use Rattle.fd_schema.specs.Rules.{Texts}
 use Rattle.fd_request.specs.Expansion.{Keyword}
 use Rattle.fd_request.specs.Reading.{seen_kind}
 use Rattle.fd_outcome.specs.Asking.{Asked}
-use Rattle.fd_outcome.specs.Causes as causes
+use Rattle.fd_stored.specs.Causes as causes
 use Rattle.fd_outcome.specs.Ends.{disk_failed, input_failed, no_memory}
 use Rattle.std.specs.Fmt.{decimal}
 use Rattle.fd_listing.specs.Lines.{blank, line}
 use Rattle.fd_outcome.specs.Told.{Told, ToldOrNoMemory}
-use Rattle.fd_outcome.specs.declared.status.Status.{Status}
-use Rattle.fd_outcome.specs.declared.status.Status.TheVariants as statuses
+use Rattle.fd_stored.specs.declared.status.Status.{Status}
+use Rattle.fd_stored.specs.declared.status.Status.TheVariants as statuses
 use Rattle.fd_outcome.specs.declared.stored.Unruled.{Unruled}
 use Rattle.fd_outcome.specs.declared.stored.Unruled.TheVariants as unruled
-use Rattle.fd_outcome.specs.Store.{Stands}
+use Rattle.fd_stored.specs.Store.{Stands}
 use Rattle.fd_telling.specs.declared.stop.Broken.{Broken}
 use Rattle.fd_telling.specs.declared.stop.Broken.TheVariants as brokens
 use Rattle.fd_telling.specs.declared.stop.Stop.{Stop}

@@ -3,8 +3,9 @@ ghost use Rattle.std.specs.Prelude.{◌≡◌, List, ℕ, string_bytes, IfOk};
 ghost use Rattle.fd_bytes.specs.Causes.{Rose};
 ghost use Rattle.fd_schema.specs.{Grammar.{Fault}, Reading.{IsFirst}};
 ghost use Rattle.fd_request.specs.Reading.{seen_kind};
-ghost use Rattle.fd_outcome.specs.Causes as causes;
-ghost use Rattle.fd_outcome.specs.{Causes.{InRequest, InStored, broken_text, damaged_line, file_text, hex_text, kind_text, telling}, Told.{ToldOrNoMemory}};
+ghost use Rattle.fd_stored.specs.Causes as causes;
+ghost use Rattle.fd_outcome.specs.Told.{ToldOrNoMemory};
+ghost use Rattle.fd_stored.specs.Causes.{InRequest, InStored, broken_text, damaged_line, file_text, hex_text, kind_text, telling};
 ghost use Rattle.fd_outcome.specs.Unruled as rulings;
 ghost use Rattle.fd_telling.specs.Stops.{OnDisk, ToldSome, ToldStop, ToldUnruled, seen_broken};
 
@@ -12,12 +13,13 @@ use crate::stop::{Broken, Stop};
 use fd_disk::{FileKind, FileName, Store};
 use fd_io::Sink;
 use fd_outcome::{
-    Status, Unruled, is_request_limit, request_kind, tell, tell_input_failed, tell_limit,
-    tell_made, tell_no_memory, tell_no_schema, tell_noted, tell_place, tell_text,
+    Unruled, is_request_limit, request_kind, tell, tell_input_failed, tell_limit, tell_made,
+    tell_no_memory, tell_no_schema, tell_noted, tell_place, tell_text,
 };
 use fd_request::RequestKind;
 use fd_schema::SchemaKind;
 use fd_segment::Damage;
+use fd_stored::Status;
 use std::alloc::{AllocError, Global};
 
 /// Writes the line of what isn't answered. A fault of the store is counted.

@@ -5,13 +5,14 @@ use Rattle.fd_key.specs.Pairs.{Pair}
 use Rattle.fd_disk.specs.Folders.{Holdings, WhereTold}
 use Rattle.fd_words.specs.declared.command.Command.{Command}
 use Rattle.fd_words.specs.declared.command.Command.TheVariants as commands
-use Rattle.fd_outcome.specs.declared.status.Status.{Status}
-use Rattle.fd_outcome.specs.declared.status.Status.TheVariants.{Done, Missed, OutputFault, NoMemory}
+use Rattle.fd_stored.specs.declared.status.Status.{Status}
+use Rattle.fd_stored.specs.declared.status.Status.TheVariants.{Done, Missed, OutputFault, NoMemory}
 use Rattle.fd_outcome.specs.Ends.{StoresFields, WhereAsked}
-use Rattle.fd_outcome.specs.Noticing.{AnswersFirmly, IsAnswering, IsUnfit, IsUnread, Noticed, Notices, ReadsFitly, SparesDamaged}
+use Rattle.fd_outcome.specs.Noticing.{AnswersFirmly, IsAnswering, IsUnfit, IsUnread, Noticed, Notices, ReadsFitly}
+use Rattle.fd_stored.specs.Sparing.{SparesDamaged}
 use Rattle.fd_outcome.specs.Objects.{Object, object}
 use Rattle.fd_outcome.specs.Ran.{Ran}
-use Rattle.fd_outcome.specs.Store.{AreNames}
+use Rattle.fd_stored.specs.Store.{AreNames}
 use Rattle.fd_outcome.proofs.Asked.{asked_all}
 use Rattle.fd_outcome.proofs.Exits.{apart, is_whole}
 use Rattle.fd_archive.specs.Crashing.{OutlastsCrash}

@@ -4,12 +4,13 @@ use Rattle.fd_disk.specs.Folders.{Holdings, WhereTold}
 use Rattle.fd_io.specs.Streams.{Takes}
 use Rattle.fd_words.specs.Words.{command_of}
 use Rattle.fd_words.specs.declared.command.Command.{Command}
-use Rattle.fd_outcome.specs.declared.status.Status.{Status}
-use Rattle.fd_outcome.specs.declared.status.Status.TheVariants.{Done, Missed, Words, InputFault, OutputFault, DiskFault}
-use Rattle.fd_outcome.specs.Causes.{table_full}
-use Rattle.fd_outcome.specs.Codes.{code_of}
+use Rattle.fd_stored.specs.declared.status.Status.{Status}
+use Rattle.fd_stored.specs.declared.status.Status.TheVariants.{Done, Missed, Words, InputFault, OutputFault, DiskFault}
+use Rattle.fd_stored.specs.Causes.{table_full}
+use Rattle.fd_stored.specs.Codes.{code_of}
 use Rattle.fd_outcome.specs.Ends.{Runs, EndsUnasked, ReadsOut, StoresFields, Calm, Completes, Leaves}
-use Rattle.fd_outcome.specs.Noticing.{AnswersFirmly, IsAnswering, Notices, ReadsFitly, SparesDamaged}
+use Rattle.fd_outcome.specs.Noticing.{AnswersFirmly, IsAnswering, Notices, ReadsFitly}
+use Rattle.fd_stored.specs.Sparing.{SparesDamaged}
 use Rattle.fd_outcome.specs.Objects.{Failed, Object}
 use Rattle.fd_outcome.specs.Ran.{Ran}
 use Rattle.fd_archive.specs.Crashing.{OutlastsCrash}

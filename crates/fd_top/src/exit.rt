@@ -1,13 +1,13 @@
 // How the program ends: the exit status by the status of its run.
 ghost use Rattle.std.specs.{Prelude.{◌≡◌, false, List, ℕ}, Process.{exit_status}};
 ghost use Rattle.fd_words.specs.Texts.{texts};
-ghost use Rattle.fd_outcome.specs.Codes.{code_of};
+ghost use Rattle.fd_stored.specs.Codes.{code_of};
 ghost use Rattle.fd_objects.specs.Objects.{Over};
 ghost use Rattle.fd_top.specs.Served.{ServedAs};
 
 use crate::top::fdb;
 use fd_objects::{Objects, World};
-use fd_outcome::Status;
+use fd_stored::Status;
 use std::process::ExitCode;
 use std::sync::Wait;
 use std::thread::Threads;

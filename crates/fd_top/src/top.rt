@@ -6,7 +6,8 @@ ghost use Rattle.fd_top.specs.Served.{Served};
 
 use crate::running::run;
 use fd_objects::{Objects, World};
-use fd_outcome::{Status, tell, tell_no_memory};
+use fd_outcome::{tell, tell_no_memory};
+use fd_stored::Status;
 use fd_words::read_command;
 use std::sync::Wait;
 use std::thread::Threads;

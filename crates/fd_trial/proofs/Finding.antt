@@ -8,11 +8,11 @@ use Rattle.fd_entries.specs.declared.batch.Pair.{Pair}
 use Rattle.fd_entries.specs.Batches.{newest, of_batch, or_older, same_bytes}
 use Rattle.std.proofs.lemmas.Bool.Decides.{nat_tests}
 use Rattle.fd_schema.specs.Rules.{Texts, file_key}
-use Rattle.fd_outcome.specs.Archiving.{Stored, datasets_in, pairs_for}
-use Rattle.fd_outcome.specs.Asking.{is_among}
-use Rattle.fd_outcome.specs.Causes.{Broken}
+use Rattle.fd_stored.specs.Archiving.{Stored, datasets_in, pairs_for}
+use Rattle.fd_stored.specs.Distinct.{is_among}
+use Rattle.fd_stored.specs.Causes.{Broken}
 use Rattle.fd_outcome.specs.Outcome.{are_told}
-use Rattle.fd_outcome.specs.Store.{AddsAll, GrowsBy, Stands, table_at}
+use Rattle.fd_stored.specs.Store.{AddsAll, GrowsBy, Stands, table_at}
 use Rattle.fd_outcome.specs.Trying.{trial_answer}
 use Rattle.fd_outcome.proofs.Damaging.{damaged_held}
 use Rattle.fd_retrieve.specs.Counting.{all_found, finds}

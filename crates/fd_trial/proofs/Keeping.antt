@@ -9,10 +9,10 @@ use Rattle.fd_key.specs.Keys.{key_of}
 use Rattle.fd_key.specs.Pairs.{Pair}
 use Rattle.fd_schema.specs.Rules.{Rule, Texts, file_key, place_from}
 use Rattle.fd_gen.specs.Generated.{generated_sections}
-use Rattle.fd_outcome.specs.Asking.{count_distinct, is_among}
-use Rattle.fd_outcome.specs.Archiving.{Stored, Taken, before, datasets_in, is_too_many, keyed, stored_at, stored_in, stored_of, taken, taken_fields}
-use Rattle.fd_outcome.specs.declared.refusal.Refusal.TheVariants.{Key}
-use Rattle.fd_outcome.specs.Causes.{Cause, InStream, NoRule, TooManyDatasets}
+use Rattle.fd_stored.specs.Distinct.{count_distinct, is_among}
+use Rattle.fd_stored.specs.Archiving.{Stored, Taken, before, datasets_in, is_too_many, keyed, stored_at, stored_in, stored_of, taken, taken_fields}
+use Rattle.fd_split.specs.declared.refusal.Refusal.TheVariants.{Key}
+use Rattle.fd_stored.specs.Causes.{Cause, InStream, NoRule, TooManyDatasets}
 use Rattle.fd_outcome.specs.Outcome.{generated_messages}
 use Rattle.fd_retrieve.proofs.TableLemmas.{count_push}
 use Rattle.fd_trial.specs.Placed.{ArePlaced, IsPlacedAt}

@@ -4,14 +4,15 @@ use Rattle.std.specs.Prelude.{◌⊎◌, IfSome, Ok}
 use Rattle.fd_disk.specs.Folders.{Holdings, WhereTold, folder_at, planted}
 use Rattle.fd_schema.specs.Rules.{Rule}
 use Rattle.fd_words.specs.declared.command.Command.TheVariants.{Trial}
-use Rattle.fd_outcome.specs.declared.status.Status.{Status}
-use Rattle.fd_outcome.specs.declared.status.Status.TheVariants.{Done, Missed}
-use Rattle.fd_outcome.specs.Archiving.{Stored, taken}
+use Rattle.fd_stored.specs.declared.status.Status.{Status}
+use Rattle.fd_stored.specs.declared.status.Status.TheVariants.{Done, Missed}
+use Rattle.fd_stored.specs.Archiving.{Stored, taken}
 use Rattle.fd_outcome.specs.Ends.{AmongTaken, IsPlanted}
-use Rattle.fd_outcome.specs.Noticing.{Noticed, Notices, SparesDamaged}
+use Rattle.fd_outcome.specs.Noticing.{Noticed, Notices}
+use Rattle.fd_stored.specs.Sparing.{SparesDamaged}
 use Rattle.fd_outcome.specs.Objects.{Object, object}
 use Rattle.fd_outcome.specs.Outcome.{generated_messages}
-use Rattle.fd_outcome.specs.Store.{AreNames, IsLookedThrough}
+use Rattle.fd_stored.specs.Store.{AreNames, IsLookedThrough}
 use Rattle.fd_outcome.specs.Trying.{trial_given, trial_rules, trial_schema}
 use Rattle.fd_outcome.proofs.Exits.{is_whole, never_whole}
 use Rattle.fd_recovery.specs.Recovered.{IsUndamaged}

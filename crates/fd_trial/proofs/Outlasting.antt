@@ -3,13 +3,13 @@ use Rattle.std.proofs.Common.{◌≡◌, ◌∙◌, ℕ, List, Option, Some, ref
 use Rattle.std.specs.Prelude.{Result, Ok, Err}
 use Rattle.fd_disk.specs.Folders.{Holdings, WhereTold, planted}
 use Rattle.fd_schema.specs.Rules.{Rule}
-use Rattle.fd_outcome.specs.declared.status.Status.{Status}
-use Rattle.fd_outcome.specs.declared.status.Status.TheVariants.{Done}
-use Rattle.fd_outcome.specs.Archiving.{Stored, Taken, pairs_for, taken}
-use Rattle.fd_outcome.specs.Causes.{Cause}
+use Rattle.fd_stored.specs.declared.status.Status.{Status}
+use Rattle.fd_stored.specs.declared.status.Status.TheVariants.{Done}
+use Rattle.fd_stored.specs.Archiving.{Stored, Taken, pairs_for, taken}
+use Rattle.fd_stored.specs.Causes.{Cause}
 use Rattle.fd_outcome.specs.Ends.{IsPlanted}
 use Rattle.fd_outcome.specs.Outcome.{generated_messages}
-use Rattle.fd_outcome.specs.Store.{GrowsBy}
+use Rattle.fd_stored.specs.Store.{GrowsBy}
 use Rattle.fd_outcome.specs.Trying.{trial_given, trial_rules, trial_schema}
 use Rattle.fd_outcome.proofs.Exits.{apart, is_whole}
 use Rattle.fd_retrieve.specs.Looking.{IsLookedThrough}

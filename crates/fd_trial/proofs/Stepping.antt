@@ -8,11 +8,11 @@ use Rattle.fd_entries.specs.declared.batch.Pair.{Pair}
 use Rattle.fd_schema.specs.declared.place.Place.{Place}
 use Rattle.fd_schema.specs.Reading.{seen_place}
 use Rattle.fd_schema.specs.Rules.{Rule, Texts}
-use Rattle.fd_outcome.specs.Archiving.{Stored, datasets_in, pairs_for, taken}
-use Rattle.fd_outcome.specs.Asking.{count_distinct, is_among}
+use Rattle.fd_stored.specs.Archiving.{Stored, datasets_in, pairs_for, taken}
+use Rattle.fd_stored.specs.Distinct.{count_distinct, is_among}
 use Rattle.fd_outcome.specs.Outcome.{are_told, generated_messages}
-use Rattle.fd_outcome.specs.Causes.{Broken}
-use Rattle.fd_outcome.specs.Store.{AddsAll, Grows, GrowsBy, Stands, Stays, StaysFolder, StayFolders, table_at}
+use Rattle.fd_stored.specs.Causes.{Broken}
+use Rattle.fd_stored.specs.Store.{AddsAll, Grows, GrowsBy, Stands, Stays, StaysFolder, StayFolders, table_at}
 use Rattle.fd_outcome.specs.Trying.{Tally, tally_of, trial_answers, trial_given, trial_line}
 use Rattle.fd_retrieve.specs.Counting.{IsTally, finds}
 use Rattle.fd_retrieve.specs.declared.counting.Counted.{Counted}

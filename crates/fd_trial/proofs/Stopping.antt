@@ -10,17 +10,17 @@ use Rattle.fd_sections.specs.Stream.{Bad_end}
 use Rattle.fd_schema.specs.declared.place.Place.{Place}
 use Rattle.fd_schema.specs.Reading.{seen_place}
 use Rattle.fd_schema.specs.Rules.{Rule}
-use Rattle.fd_outcome.specs.declared.refusal.Refusal.{Refusal}
-use Rattle.fd_outcome.specs.declared.status.Status.{Status}
-use Rattle.fd_outcome.specs.declared.status.Status.TheVariants.{Damaged, Refused}
-use Rattle.fd_outcome.specs.Archiving.{Stored, Taken, datasets_in, pairs_for, taken}
-use Rattle.fd_outcome.specs.Causes as causes
-use Rattle.fd_outcome.specs.Causes.{Cause, telling}
-use Rattle.fd_outcome.specs.Inputs as inputs
+use Rattle.fd_split.specs.declared.refusal.Refusal.{Refusal}
+use Rattle.fd_stored.specs.declared.status.Status.{Status}
+use Rattle.fd_stored.specs.declared.status.Status.TheVariants.{Damaged, Refused}
+use Rattle.fd_stored.specs.Archiving.{Stored, Taken, datasets_in, pairs_for, taken}
+use Rattle.fd_stored.specs.Causes as causes
+use Rattle.fd_stored.specs.Causes.{Cause, telling}
+use Rattle.fd_split.specs.Inputs as inputs
 use Rattle.fd_outcome.specs.Ends.{IsPlanted}
 use Rattle.fd_outcome.specs.Objects.{Object}
 use Rattle.fd_outcome.specs.Outcome.{generated_messages}
-use Rattle.fd_outcome.specs.Store.{Grows, GrowsBy, IsFull, Stands, Stays}
+use Rattle.fd_stored.specs.Store.{Grows, GrowsBy, IsFull, Stands, Stays}
 use Rattle.fd_outcome.specs.Told.{ToldOrNoMemory}
 use Rattle.fd_outcome.specs.Trying.{trial_given, trial_rules}
 use Rattle.fd_retrieve.specs.Counting.{IsBrokenAmong, IsOfKeys}
@@ -30,7 +30,7 @@ use Rattle.fd_telling.specs.Stops.{OnDisk, OnTooMany, ToldStop, seen_broken}
 use Rattle.fd_retrieve.specs.Tables as tables
 use Rattle.fd_bulk.specs.Archived as bulk
 use Rattle.fd_bulk.specs.Archived.{IsFront}
-use Rattle.fd_outcome.specs.Fields.{refusal_at}
+use Rattle.fd_split.specs.Fields.{refusal_at}
 use Rattle.fd_bulk.specs.declared.bulk.Bulk.{Bulk}
 use Rattle.fd_bulk.specs.declared.bulk.BulkFault.{BulkFault}
 use Rattle.fd_bulk.specs.declared.bulk.BulkFault.TheVariants as faults

@@ -19,11 +19,11 @@ use Rattle.fd_split.specs.Reading.{Wrong, reading_fields}
 use Rattle.fd_split.proofs.Special.{read_single}
 use Rattle.fd_gen.specs.Generated.{generated_octets, generated_sections}
 use Rattle.fd_gen.proofs.Parts.{is_message, octets_count}
-use Rattle.fd_outcome.specs.Archiving.{taken, taken_after, taken_of_fields}
-use Rattle.fd_outcome.specs.Fields.{FieldList, Numbered, behind_fields, numbered, split_before, split_frames}
-use Rattle.fd_outcome.specs.Limits.{input_limit}
+use Rattle.fd_stored.specs.Archiving.{taken, taken_after, taken_of_fields}
+use Rattle.fd_split.specs.Fields.{FieldList, Numbered, behind_fields, numbered, split_before, split_frames}
+use Rattle.fd_split.specs.Limits.{input_limit}
 use Rattle.fd_outcome.specs.Outcome.{generated_messages}
-use Rattle.fd_outcome.proofs.FrameLaws.{all_of}
+use Rattle.fd_split.proofs.FrameLaws.{all_of}
 use Rattle.fd_trial.specs.Made.{messages_from}
 
 -- ---- a message alone

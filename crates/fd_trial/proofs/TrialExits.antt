@@ -10,17 +10,17 @@ use Rattle.fd_schema.specs.Rules.{Rule}
 use Rattle.fd_schema.specs.declared.fault.SchemaKind.{SchemaKind}
 use Rattle.fd_words.specs.declared.command.Command.{Command}
 use Rattle.fd_words.specs.declared.command.Command.TheVariants.{Trial}
-use Rattle.fd_outcome.specs.declared.status.Status.{Status}
-use Rattle.fd_outcome.specs.declared.status.Status.TheVariants.{Done, Refused, InputFault, OutputFault, DiskFault, NoMemory, Damaged, Limit}
-use Rattle.fd_outcome.specs.Archiving.{Taken, datasets_in, pairs_for, taken}
+use Rattle.fd_stored.specs.declared.status.Status.{Status}
+use Rattle.fd_stored.specs.declared.status.Status.TheVariants.{Done, Refused, InputFault, OutputFault, DiskFault, NoMemory, Damaged, Limit}
+use Rattle.fd_stored.specs.Archiving.{Taken, datasets_in, pairs_for, taken}
 use Rattle.fd_outcome.specs.Asking.{stored_rules, ◌then◌}
-use Rattle.fd_outcome.specs.Causes as causes
-use Rattle.fd_outcome.specs.Causes.{Cause, damaged_line, table_full, telling}
+use Rattle.fd_stored.specs.Causes as causes
+use Rattle.fd_stored.specs.Causes.{Cause, damaged_line, table_full, telling}
 use Rattle.fd_outcome.specs.Ends.{AmongTaken, Calm, Ends, EndsUnplanted, IsPlanted, LeavesStored, LeavesTried, disk_failed, no_memory, troubles}
 use Rattle.fd_outcome.specs.Objects.{Failures, Object, failures, object}
 use Rattle.fd_outcome.specs.Outcome.{Outcome, are_told, generated_messages, nothing_early, trial_ends, tried}
 use Rattle.fd_outcome.specs.Ran.{Ran}
-use Rattle.fd_outcome.specs.Store.{Grows, GrowsBy, IsFull, Stands, Stays, StayFolders, table_at}
+use Rattle.fd_stored.specs.Store.{Grows, GrowsBy, IsFull, Stands, Stays, StayFolders, table_at}
 use Rattle.fd_outcome.specs.Told.{Told, ToldOrNoMemory}
 use Rattle.fd_outcome.specs.Trying.{if_trial, tally_of, trial_answers, trial_given, trial_line, trial_rules, trial_schema}
 use Rattle.fd_outcome.specs.Worked as worked

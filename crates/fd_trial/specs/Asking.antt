@@ -2,10 +2,10 @@
 use Rattle.std.specs.Prelude.{◌≡◌, ℕ, List, Option, None, Ok}
 use Rattle.fd_disk.specs.Folders.{Holdings, WhereTold}
 use Rattle.fd_schema.specs.Rules.{Rule}
-use Rattle.fd_outcome.specs.Archiving.{pairs_for, taken}
+use Rattle.fd_stored.specs.Archiving.{pairs_for, taken}
 use Rattle.fd_outcome.specs.Ends.{IsPlanted}
 use Rattle.fd_outcome.specs.Outcome.{generated_messages}
-use Rattle.fd_outcome.specs.Store.{GrowsBy}
+use Rattle.fd_stored.specs.Store.{GrowsBy}
 use Rattle.fd_outcome.specs.Trying.{trial_given, trial_rules}
 
 -- There was a schema, or that of a trial was planted, with these rules, and then all messages were stored.

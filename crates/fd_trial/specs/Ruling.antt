@@ -6,9 +6,9 @@ use Rattle.fd_disk.specs.Folders.{Holdings, WhereTold, planted}
 use Rattle.fd_schema.specs.Grammar.{Fault}
 use Rattle.fd_schema.specs.Reading.{IsFirst}
 use Rattle.fd_outcome.specs.Asking.{rules_of, ◌then◌}
-use Rattle.fd_outcome.specs.Causes.{SchemaDifferent}
+use Rattle.fd_stored.specs.Causes.{SchemaDifferent}
 use Rattle.fd_outcome.specs.Ends.{IsPlanted}
-use Rattle.fd_outcome.specs.Store.{Plants, Stays}
+use Rattle.fd_stored.specs.Store.{Plants, Stays}
 use Rattle.fd_outcome.specs.Trying.{if_trial, trial_schema}
 use Rattle.fd_trial.specs.declared.ruling.Unruled.{Unruled}
 use Rattle.fd_trial.specs.declared.ruling.Unruled.TheVariants as unruled

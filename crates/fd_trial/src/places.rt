@@ -3,7 +3,8 @@ ghost use Rattle.std.specs.Prelude.{◌≡◌, ◌≤◌, ◌<◌, None, List, O
 ghost use Rattle.fd_sections.specs.Parts.{sections_of};
 ghost use Rattle.fd_key.specs.{Keys.{key_of}, Pairs.{Pair}};
 ghost use Rattle.fd_schema.specs.{Reading.{seen_place}, Rules.{Texts}};
-ghost use Rattle.fd_outcome.specs.{Archiving.{taken}, Outcome.{generated_messages}};
+ghost use Rattle.fd_outcome.specs.Outcome.{generated_messages};
+ghost use Rattle.fd_stored.specs.Archiving.{taken};
 ghost use Rattle.fd_trial.specs.Placed.{ArePlaced, IsPlacedAt};
 
 use fd_bytes::NoMemory;

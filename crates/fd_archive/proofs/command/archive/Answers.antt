@@ -3,7 +3,8 @@ use Rattle.std.specs.Prelude.{IfSome}
 use Rattle.fd_disk.specs.Folders.{WhereTold}
 use Rattle.fd_words.specs.declared.command.Command.TheVariants.{Archive}
 use Rattle.fd_outcome.specs.Asking.{rules_of}
-use Rattle.fd_outcome.specs.Noticing.{Notices, SparesDamaged}
+use Rattle.fd_outcome.specs.Noticing.{Notices}
+use Rattle.fd_stored.specs.Sparing.{SparesDamaged}
 use Rattle.fd_outcome.specs.Objects.{object}
 use Rattle.fd_outcome.specs.Ran.{Ran}
 use Rattle.fd_bulk.proofs.Sparing.{same_spared}

@@ -1,8 +1,8 @@
 use Rattle.std.proofs.Common.{subst}
 use Rattle.std.specs.Prelude.{codes, ◌++◌}
 use Rattle.fd_listing.specs.Lines.{line}
-use Rattle.fd_outcome.specs.declared.status.Status.TheVariants.{Damaged, Refused}
-use Rattle.fd_outcome.specs.Causes.{BadTable, damaged_line}
+use Rattle.fd_stored.specs.declared.status.Status.TheVariants.{Damaged, Refused}
+use Rattle.fd_stored.specs.Causes.{BadTable, damaged_line}
 use Rattle.fd_outcome.specs.Told.{ToldOrNoMemory}
 use Rattle.fd_archive.proofs.telling.tell_fault.Goals as goal
 

@@ -1,10 +1,10 @@
 use Rattle.std.specs.Prelude.{◌≡◌, ◌≤◌, ◌++◌, List, Option, drop, is_some, length}
 use Rattle.fd_disk.specs.Folders.{Holdings}
-use Rattle.fd_outcome.specs.Positions.{Position}
+use Rattle.fd_split.specs.Positions.{Position}
 use Rattle.fd_key.specs.Pairs.{Pair}
 use Rattle.fd_schema.specs.Rules.{Rule}
 use Rattle.fd_library.specs.Open.{OutAre, names_of}
-use Rattle.fd_outcome.specs.Archiving.{Stored}
+use Rattle.fd_stored.specs.Archiving.{Stored}
 use Rattle.fd_bulk.specs.Inputs.{Going}
 use Rattle.fd_sheets.specs.Sheets.{Placed}
 use Rattle.fd_bulk.specs.Naming.{Notes}

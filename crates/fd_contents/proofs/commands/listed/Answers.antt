@@ -2,11 +2,11 @@ use Rattle.std.proofs.Common.{◌≡◌, sym, subst, List, IfSome}
 use Rattle.std.specs.Prelude.{◌⊎◌}
 use Rattle.std.specs.Result.{IsErr}
 use Rattle.fd_disk.specs.Folders.{WhereTold}
-use Rattle.fd_outcome.specs.declared.status.Status.TheVariants.{Done, Missed}
+use Rattle.fd_stored.specs.declared.status.Status.TheVariants.{Done, Missed}
 use Rattle.fd_outcome.specs.Asking.{rules_of}
 use Rattle.fd_outcome.specs.Noticing.{IsUnread}
 use Rattle.fd_outcome.specs.Objects.{object}
-use Rattle.fd_outcome.specs.Store.{IsLookedThrough}
+use Rattle.fd_stored.specs.Store.{IsLookedThrough}
 use Rattle.fd_retrieve.proofs.Looking.{looked_unmoved}
 use Rattle.fd_telling.proofs.StopLemmas.{later_disk}
 use Rattle.fd_contents.specs.Asked.{Begins}

@@ -1,8 +1,8 @@
 use Rattle.std.proofs.Common.{refl, sym, subst, List, ℕ}
 use Rattle.fd_disk.specs.Folders.{WhereTold}
 use Rattle.fd_outcome.specs.Objects.{object}
-use Rattle.fd_outcome.specs.Store.{AreNames, IsLookedThrough}
-use Rattle.fd_outcome.specs.declared.status.Status.TheVariants.{OutputFault}
+use Rattle.fd_stored.specs.Store.{AreNames, IsLookedThrough}
+use Rattle.fd_stored.specs.declared.status.Status.TheVariants.{OutputFault}
 use Rattle.fd_outcome.specs.Ends.{output_failed}
 use Rattle.fd_retrieve.specs.Ready.{IsBrokenOf}
 use Rattle.fd_telling.proofs.StopLemmas.{later_disk}

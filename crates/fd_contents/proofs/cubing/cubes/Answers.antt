@@ -1,7 +1,7 @@
 use Rattle.std.proofs.Common.{◌≡◌, refl, sym, subst, Err}
 use Rattle.fd_disk.specs.Folders.{WhereTold}
 use Rattle.fd_outcome.specs.Objects.{object}
-use Rattle.fd_outcome.specs.Store.{IsLookedThrough}
+use Rattle.fd_stored.specs.Store.{IsLookedThrough}
 use Rattle.fd_retrieve.proofs.Looking.{looked_unmoved}
 use Rattle.fd_telling.proofs.StopLemmas.{later_disk}
 use Rattle.fd_contents.specs.Asked.{Refuses, asked_in}

@@ -1,8 +1,8 @@
 use Rattle.std.proofs.Common.{rules, ◌≡◌, ◌∷◌, [], subst, sym, true, string_bytes}
 use Rattle.fd_disk.specs.Folders.{folder_at}
-use Rattle.fd_outcome.specs.Asking.{is_among}
-use Rattle.fd_outcome.specs.Causes.{BadFile}
-use Rattle.fd_outcome.specs.Store.{Stands}
+use Rattle.fd_stored.specs.Distinct.{is_among}
+use Rattle.fd_stored.specs.Causes.{BadFile}
+use Rattle.fd_stored.specs.Store.{Stands}
 use Rattle.fd_contents.proofs.Opened.{among_self, stands_at}
 use Rattle.fd_contents.proofs.datasets.damaged.Goals as goal
 

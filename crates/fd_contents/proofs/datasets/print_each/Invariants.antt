@@ -1,7 +1,7 @@
 use Rattle.std.proofs.Common.{◌≡◌, ◌≤◌, List, ℕ, false, IfSome, take}
 use Rattle.fd_disk.specs.Folders.{WhereTold}
 use Rattle.fd_spelling.specs.Texts.{texts}
-use Rattle.fd_outcome.specs.Store.{IsLookedThrough}
+use Rattle.fd_stored.specs.Store.{IsLookedThrough}
 use Rattle.fd_retrieve.specs.Ready.{AreFirmOf}
 use Rattle.fd_contents.proofs.Printing.{Printed}
 use Rattle.fd_contents.proofs.datasets.print_each.Given as goal

@@ -1,5 +1,5 @@
 use Rattle.std.proofs.Common.{rules, ◌≡◌, IfSome, false}
-use Rattle.fd_outcome.specs.Store.{has_table}
+use Rattle.fd_stored.specs.Store.{has_table}
 use Rattle.fd_retrieve.specs.Open.{IsOpenIn}
 use Rattle.fd_contents.proofs.Printing.{none_printed, printed_at_open}
 use Rattle.fd_contents.proofs.Texts.{front_at_open, nothing_front}

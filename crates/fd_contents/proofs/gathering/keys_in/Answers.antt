@@ -1,5 +1,5 @@
 use Rattle.std.proofs.Common.{rules, ◌≡◌, IfSome, false}
-use Rattle.fd_outcome.specs.Store.{has_table}
+use Rattle.fd_stored.specs.Store.{has_table}
 use Rattle.fd_retrieve.specs.Open.{IsOpenIn}
 use Rattle.fd_contents.proofs.Gathered.{finds_at_open, none_finds}
 use Rattle.fd_contents.proofs.gathering.keys_in.Goals as goal

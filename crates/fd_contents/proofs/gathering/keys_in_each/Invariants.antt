@@ -1,7 +1,7 @@
 use Rattle.std.proofs.Common.{◌≡◌, ◌≤◌, IfSome, List, ℕ, false, take}
 use Rattle.fd_disk.specs.Folders.{WhereTold}
 use Rattle.fd_spelling.specs.Texts.{texts}
-use Rattle.fd_outcome.specs.Store.{IsLookedThrough}
+use Rattle.fd_stored.specs.Store.{IsLookedThrough}
 use Rattle.fd_retrieve.specs.Ready.{NoneIsDamaged}
 use Rattle.fd_contents.proofs.Gathered.{Gathered}
 use Rattle.fd_contents.proofs.gathering.keys_in_each.Given as goal

@@ -1,5 +1,5 @@
 use Rattle.std.proofs.Common.{◌≤◌, ◌<◌, refl, subst, arith, length}
-use Rattle.fd_outcome.specs.Causes.{NoRequest, TooManyKeys}
+use Rattle.fd_stored.specs.Causes.{NoRequest, TooManyKeys}
 use Rattle.fd_outcome.specs.Objects.{object}
 use Rattle.fd_contents.specs.Told.{ToldKeys}
 use Rattle.fd_contents.proofs.Askable.{askable, ranged_refused, refused_told}

@@ -1,7 +1,7 @@
 use Rattle.std.proofs.Common.{◌∙◌, ◌++◌, subst}
 use Rattle.std.specs.Prelude.{codes}
 use Rattle.fd_listing.specs.Lines.{line}
-use Rattle.fd_outcome.specs.declared.status.Status.TheVariants.{Refused}
+use Rattle.fd_stored.specs.declared.status.Status.TheVariants.{Refused}
 use Rattle.fd_outcome.specs.Told.{ToldOrNoMemory}
 use Rattle.fd_contents.proofs.telling.tell_no_request.Goals as goal
 

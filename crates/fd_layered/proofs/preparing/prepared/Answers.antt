@@ -4,8 +4,8 @@ use Rattle.fd_disk.specs.Folders.{WhereTold}
 use Rattle.fd_request.specs.Expansion.{expand}
 use Rattle.fd_schema.specs.Reading.{seen_place}
 use Rattle.fd_spelling.specs.Texts.{texts}
-use Rattle.fd_outcome.specs.Asking.{count_distinct}
-use Rattle.fd_outcome.specs.Store.{Stays, has_table}
+use Rattle.fd_stored.specs.Distinct.{count_distinct}
+use Rattle.fd_stored.specs.Store.{Stays, has_table}
 use Rattle.fd_telling.specs.Stops.{OnTooMany}
 use Rattle.fd_retrieve.specs.Ready.{AreFirmOf, AreOpen, IsBrokenOf, NoneIsDamaged}
 use Rattle.fd_retrieve.specs.Tables.{AreTables, datasets_in}

@@ -5,7 +5,7 @@ use Rattle.fd_outcome.specs.Ends.{AmongLaid}
 use Rattle.fd_outcome.specs.Layered.{laid_of}
 use Rattle.fd_outcome.specs.Noticing.{ReadsFitly}
 use Rattle.fd_outcome.specs.Objects.{object}
-use Rattle.fd_outcome.specs.Store.{IsLookedThrough}
+use Rattle.fd_stored.specs.Store.{IsLookedThrough}
 use Rattle.fd_outcome.proofs.Exits.{never_whole}
 use Rattle.fd_telling.specs.Stops.{IsRefused}
 use Rattle.fd_telling.proofs.StopLemmas.{later_disk}

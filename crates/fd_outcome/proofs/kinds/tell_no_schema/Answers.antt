@@ -4,8 +4,8 @@ use Rattle.std.specs.Fmt.{decimal}
 use Rattle.fd_listing.specs.Lines.{blank, line}
 use Rattle.fd_schema.specs.Reading.{line_of}
 use Rattle.fd_schema.specs.FaultTexts.{schema_wrong_text}
-use Rattle.fd_outcome.specs.declared.status.Status.TheVariants.{Limit, NoMemory}
-use Rattle.fd_outcome.specs.Causes.{Telling, schema_limit}
+use Rattle.fd_stored.specs.declared.status.Status.TheVariants.{Limit, NoMemory}
+use Rattle.fd_stored.specs.Causes.{Telling, schema_limit}
 use Rattle.fd_outcome.specs.Told.{ToldOrNoMemory}
 use Rattle.fd_outcome.proofs.kinds.tell_no_schema.Goals as goal
 

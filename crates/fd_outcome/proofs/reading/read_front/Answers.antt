@@ -1,5 +1,5 @@
 use Rattle.std.proofs.Common.{◌≡◌, ap, take, length}
-use Rattle.fd_outcome.proofs.InputLemmas.{at_the_end}
+use Rattle.fd_split.proofs.InputLemmas.{at_the_end}
 use Rattle.fd_outcome.proofs.reading.read_front.Goals as goal
 
 pub returns-then-n-eq0-clause-whole : goal.returns-then-n-eq0-clause-whole

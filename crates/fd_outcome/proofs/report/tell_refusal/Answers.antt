@@ -2,10 +2,10 @@ use Rattle.std.proofs.Common.{◌≡◌, ◌∙◌, sym, subst, inl, ℕ, List, 
 use Rattle.std.specs.Fmt.{decimal}
 use Rattle.fd_key.specs.FaultTexts.{key_fault_text}
 use Rattle.fd_packing.specs.FaultTexts.{field_fault_text}
-use Rattle.fd_outcome.specs.declared.refusal.Refusal.{Refusal}
-use Rattle.fd_outcome.specs.declared.refusal.Refusal.TheVariants as refusals
-use Rattle.fd_outcome.specs.declared.status.Status.{Status}
-use Rattle.fd_outcome.specs.Refusals.{refusal_line, refusal_status, refused_field_line, refused_key_line, refused_map_line}
+use Rattle.fd_split.specs.declared.refusal.Refusal.{Refusal}
+use Rattle.fd_split.specs.declared.refusal.Refusal.TheVariants as refusals
+use Rattle.fd_stored.specs.declared.status.Status.{Status}
+use Rattle.fd_stored.specs.Refusals.{refusal_line, refusal_status, refused_field_line, refused_key_line, refused_map_line}
 use Rattle.fd_outcome.specs.Told.{ToldOrNoMemory}
 use Rattle.fd_outcome.proofs.report.tell_refusal.Goals as goal
 

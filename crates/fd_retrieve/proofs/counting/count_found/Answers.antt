@@ -4,7 +4,7 @@ use Rattle.std.proofs.lemmas.Result.{IfErr-weaker, IfOk-weaker}
 use Rattle.fd_disk.specs.Folders.{WhereTold}
 use Rattle.fd_schema.specs.Reading.{seen_place}
 use Rattle.fd_spelling.specs.Texts.{texts}
-use Rattle.fd_outcome.specs.Store.{Stays}
+use Rattle.fd_stored.specs.Store.{Stays}
 use Rattle.fd_outcome.specs.Trying.{tally_of}
 use Rattle.fd_retrieve.specs.Counting.{IsLostIn, IsTally, finds}
 use Rattle.fd_retrieve.specs.Open.{table_in}

@@ -1,7 +1,7 @@
 use Rattle.std.proofs.Common.{◌≡◌, ◌≤◌, List, ℕ, false, IfSome, take}
 use Rattle.fd_disk.specs.Folders.{WhereTold}
 use Rattle.fd_spelling.specs.Texts.{texts}
-use Rattle.fd_outcome.specs.Store.{Stays}
+use Rattle.fd_stored.specs.Store.{Stays}
 use Rattle.fd_retrieve.specs.Looking.{IsLookedThrough}
 use Rattle.fd_retrieve.specs.Ready.{AreFirmOf, AreOpen, NoneIsDamaged}
 use Rattle.fd_retrieve.proofs.preparing.open_all.Given as goal

@@ -5,7 +5,7 @@ use Rattle.fd_outcome.specs.Asking.{Answer}
 use Rattle.fd_outcome.specs.Ends.{Tells, disk_failed, no_memory, output_failed}
 use Rattle.fd_outcome.specs.Objects.{object}
 use Rattle.fd_outcome.specs.Outcome.{answered}
-use Rattle.fd_outcome.specs.declared.status.Status.TheVariants.{Damaged, DiskFault, NoMemory, OutputFault}
+use Rattle.fd_stored.specs.declared.status.Status.TheVariants.{Damaged, DiskFault, NoMemory, OutputFault}
 use Rattle.fd_outcome.proofs.Exits.{never_whole}
 use Rattle.fd_telling.proofs.StopLemmas.{rose_later}
 use Rattle.fd_answering.specs.Located.{AreAt}

@@ -1,4 +1,4 @@
-use Rattle.fd_outcome.specs.Causes.{BadFile, damaged_line}
+use Rattle.fd_stored.specs.Causes.{BadFile, damaged_line}
 use Rattle.fd_session.proofs.Telled.{damage_told}
 use Rattle.fd_session.proofs.closing.tell_damage.Goals as goal
 

@@ -1,6 +1,6 @@
 use Rattle.std.proofs.Common.{◌≡◌, ◌∙◌, sym, subst, Bool, Some, None}
 use Rattle.fd_sections.specs.Stream.{stream}
-use Rattle.fd_outcome.specs.declared.refusal.Refusal.TheVariants.{Cut, Input}
+use Rattle.fd_split.specs.declared.refusal.Refusal.TheVariants.{Cut, Input}
 use Rattle.fd_session.specs.Inputs.{refusal_of}
 use Rattle.fd_session.proofs.Parting.{ends_cut, ends_past, ends_whole}
 use Rattle.fd_session.proofs.splitting.stream_end.Goals as goal

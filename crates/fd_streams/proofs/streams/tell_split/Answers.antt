@@ -1,7 +1,7 @@
 use Rattle.std.proofs.Common.{◌≡◌, ◌∙◌, subst, inl, List, [], ◌∷◌, ◌++◌, ℕ, append_assoc, codes}
 use Rattle.std.specs.Fmt.{decimal}
 use Rattle.fd_outcome.specs.Told.{Told}
-use Rattle.fd_outcome.specs.declared.status.Status.TheVariants.{Done}
+use Rattle.fd_stored.specs.declared.status.Status.TheVariants.{Done}
 use Rattle.fd_streams.proofs.streams.tell_split.Goals as goal
 
 regroup : (fields junk : List ℕ) → codes "split " ++ (fields ++ (codes " junk " ++ (junk ++ 10 ∷ []))) ≡ (((codes "split " ++ fields) ++ codes " junk ") ++ junk) ++ 10 ∷ []

@@ -1,5 +1,5 @@
 use Rattle.std.proofs.Common.{◌≡◌, IfOk, List, ℕ, string_bytes, subst}
-use Rattle.fd_outcome.specs.Causes.{hex_text}
+use Rattle.fd_stored.specs.Causes.{hex_text}
 use Rattle.fd_telling.proofs.HexLemmas.{encoded_ok}
 use Rattle.fd_telling.proofs.telling.hex_text.Goals as goal
 

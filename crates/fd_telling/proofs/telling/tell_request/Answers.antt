@@ -4,8 +4,8 @@ use Rattle.std.specs.Fmt.{decimal}
 use Rattle.fd_listing.specs.Lines.{blank, line}
 use Rattle.fd_request.specs.Reading.{seen_kind}
 use Rattle.fd_request.specs.FaultTexts.{request_wrong_text}
-use Rattle.fd_outcome.specs.declared.status.Status.TheVariants.{Refused}
-use Rattle.fd_outcome.specs.Causes.{limited_so, refused_so}
+use Rattle.fd_stored.specs.declared.status.Status.TheVariants.{Refused}
+use Rattle.fd_stored.specs.Causes.{limited_so, refused_so}
 use Rattle.fd_outcome.specs.Told.{ToldOrNoMemory}
 use Rattle.fd_telling.proofs.telling.tell_request.Goals as goal
 

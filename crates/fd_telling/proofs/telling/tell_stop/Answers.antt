@@ -2,7 +2,7 @@ use Rattle.std.proofs.Common.{inl, subst}
 use Rattle.std.specs.Prelude.{codes, ◌++◌}
 use Rattle.std.specs.Fmt.{decimal}
 use Rattle.fd_listing.specs.Lines.{blank, line}
-use Rattle.fd_outcome.specs.declared.status.Status.TheVariants.{Refused}
+use Rattle.fd_stored.specs.declared.status.Status.TheVariants.{Refused}
 use Rattle.fd_outcome.specs.Told.{ToldOrNoMemory}
 use Rattle.fd_telling.proofs.telling.tell_stop.Goals as goal
 

@@ -4,7 +4,7 @@ use Rattle.fd_disk.specs.Folders.{WhereTold}
 use Rattle.fd_words.specs.declared.command.Command.TheVariants.{Trial}
 use Rattle.fd_outcome.proofs.Starved.{starved}
 use Rattle.fd_trial.specs.Ruling.{IsLeft, IsUnruledIn, OnDisk}
-use Rattle.fd_outcome.specs.declared.status.Status.TheVariants.{DiskFault, NoMemory, Refused}
+use Rattle.fd_stored.specs.declared.status.Status.TheVariants.{DiskFault, NoMemory, Refused}
 use Rattle.fd_archive.proofs.Outlasting.{idle_trial, told_undone}
 use Rattle.fd_outcome.specs.Objects.{object}
 use Rattle.fd_archive.proofs.Noticing.{some_part, told_part}

@@ -1,6 +1,6 @@
 use Rattle.std.proofs.Common.{◌≡◌, All, IfErr, true, false, refl, subst, arith}
 use Rattle.fd_bytes.specs.Causes.{Rose}
-use Rattle.fd_outcome.specs.Positions.{fed_at}
+use Rattle.fd_split.specs.Positions.{fed_at}
 use Rattle.fd_sheets.specs.Names.{IsKnown}
 use Rattle.fd_sheets.specs.Reading.{StopsAs, is_unread as sheets_unread}
 use Rattle.fd_bulk.specs.Inputs.{is_calm, is_unread}

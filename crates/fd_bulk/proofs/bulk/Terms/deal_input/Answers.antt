@@ -1,6 +1,6 @@
 use Rattle.std.proofs.Common.{◌≡◌, [], Some, refl, arith}
 use Rattle.fd_sections.specs.Splitting.{start}
-use Rattle.fd_outcome.specs.Positions.{at_message}
+use Rattle.fd_split.specs.Positions.{at_message}
 use Rattle.fd_bulk.proofs.Readings.{begun, ended_at_end, none_behind, some_end, starved}
 use Rattle.fd_bulk.proofs.Standing.{causes_end, causes_starved, causes_told}
 use Rattle.fd_bulk.proofs.bulk.Terms.deal_input.Goals as goal

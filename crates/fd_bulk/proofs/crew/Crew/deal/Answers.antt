@@ -1,7 +1,7 @@
 use Rattle.std.proofs.Common.{arith, ◌∙◌, ◌++◌, ◌∷◌, [], List, ℕ, Some, refl, sym, ap, subst, slice_get}
 use Rattle.fd_schema.specs.Reading.{seen_place}
 use Rattle.fd_library.specs.Open.{names_of}
-use Rattle.fd_outcome.specs.Archiving.{datasets_in, is_too_many}
+use Rattle.fd_stored.specs.Archiving.{datasets_in, is_too_many}
 use Rattle.fd_shares.specs.declared.round.Parcel.{Parcel}
 use Rattle.fd_bulk.specs.Crewing.{AreMet, Closes, Deals, Undealt, message_at}
 use Rattle.fd_bulk.proofs.Deals.{seated_calm, seated_few, seated_undealt}

@@ -4,7 +4,7 @@ use Rattle.fd_recovery.specs.Recovered.{IsUndamaged}
 use Rattle.fd_library.specs.Calls.{Opens}
 use Rattle.fd_library.specs.Open.{OpenDataset, OpenDatasets, among, names_of}
 use Rattle.fd_library.specs.Stores.{held_with}
-use Rattle.fd_outcome.specs.Archiving.{datasets_in}
+use Rattle.fd_stored.specs.Archiving.{datasets_in}
 use Rattle.fd_bulk.specs.Crewing.{Closes, OpenedAs, Undealt}
 use Rattle.fd_bulk.proofs.Meeting.{name_there}
 use Rattle.fd_bulk.proofs.Opened.{deals_closes, deals_same, opened_again, opened_new}

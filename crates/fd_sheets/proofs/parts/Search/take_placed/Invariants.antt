@@ -1,5 +1,5 @@
 use Rattle.std.proofs.Common.{◌+◌, length}
-use Rattle.fd_outcome.specs.Positions.{weight}
+use Rattle.fd_split.specs.Positions.{weight}
 use Rattle.fd_sheets.specs.Sheets.{standing}
 use Rattle.fd_sheets.proofs.ByParts.{HasPart}
 use Rattle.fd_sheets.proofs.parts.Search.take_placed.Given as goal

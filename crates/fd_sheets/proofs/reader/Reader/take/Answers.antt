@@ -1,5 +1,5 @@
 use Rattle.std.proofs.Common.{rules, arith, ◌≡◌, ◌+◌, ℕ, All, [], length, sym, subst, ap, ◌∙◌, append-nil}
-use Rattle.fd_outcome.specs.Positions.{IsIdle, Position}
+use Rattle.fd_split.specs.Positions.{IsIdle, Position}
 use Rattle.fd_sheets.specs.Names.{IsKnown}
 use Rattle.fd_sheets.specs.Sheets.{Placed, standing}
 use Rattle.fd_sheets.proofs.Placing.{passes_none}

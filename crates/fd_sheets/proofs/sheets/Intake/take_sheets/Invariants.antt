@@ -1,5 +1,5 @@
 use Rattle.std.specs.Prelude.{◌≡◌}
-use Rattle.fd_outcome.specs.Positions.{weight}
+use Rattle.fd_split.specs.Positions.{weight}
 use Rattle.fd_sheets.specs.Sheets.{IsOpen, Shrinks, standing}
 use Rattle.fd_sheets.proofs.Taking.{StagedSo}
 use Rattle.fd_sheets.proofs.sheets.Intake.take_sheets.Given as goal

@@ -3,8 +3,8 @@ use Rattle.std.specs.Prelude.{IfSome}
 use Rattle.fd_disk.specs.Folders.{WhereTold}
 use Rattle.std.proofs.lemmas.List.{length-map}
 use Rattle.fd_schema.specs.Reading.{seen_place}
-use Rattle.fd_outcome.specs.Asking.{count_distinct}
-use Rattle.fd_outcome.specs.Store.{Stays, table_at}
+use Rattle.fd_stored.specs.Distinct.{count_distinct}
+use Rattle.fd_stored.specs.Store.{Stays, table_at}
 use Rattle.fd_outcome.specs.Trying.{tally_of}
 use Rattle.fd_retrieve.specs.Counting.{IsBrokenAmong, IsTally, finds}
 use Rattle.fd_retrieve.specs.Looking.{IsLookedThrough}

@@ -1,6 +1,6 @@
 ghost use Rattle.std.specs.Prelude.{◌≡◌, ◌+◌, ℕ, Bool, Some};
 ghost use Rattle.fd_sections.specs.Stream.{Bad_end};
-ghost use Rattle.fd_outcome.specs.Inputs.{refused};
+ghost use Rattle.fd_split.specs.Inputs.{refused};
 
 use fd_key::KeyFault;
 use fd_packing::FieldFault;

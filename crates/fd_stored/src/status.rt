@@ -1,5 +1,5 @@
 ghost use Rattle.std.specs.Prelude.{◌≡◌};
-ghost use Rattle.fd_outcome.specs.Codes.{code_of};
+ghost use Rattle.fd_stored.specs.Codes.{code_of};
 
 /// How a run of the program ended, and with which exit status.
 #[derive(Clone, Copy, Debug, PartialEq, Eq)]

@@ -21,7 +21,7 @@ use Rattle.fd_segment.specs.Causes.{IsBadIndex, IsFindDamage, IsKeyDamage}
 use Rattle.fd_segment.specs.declared.fault.Damage.{Damage}
 use Rattle.fd_recovery.specs.Damages.{damages, index_file}
 use Rattle.fd_recovery.specs.Recovered.{ReadsImage, files_of, held}
-use Rattle.fd_outcome.specs.Causes.{Broken, BadTable, BadFile}
+use Rattle.fd_stored.specs.Causes.{Broken, BadTable, BadFile}
 
 -- ---- what a dataset has
 

@@ -9,11 +9,11 @@ use Rattle.fd_sections.specs.Progress.{Progress}
 use Rattle.fd_sections.specs.Splitting.{fed}
 use Rattle.fd_sections.specs.Stream.{Bad_end}
 use Rattle.fd_split.specs.Reading.{NoMap, NoMessage, Wrong, reading_fields}
-use Rattle.fd_outcome.specs.declared.refusal.Refusal.{Refusal}
-use Rattle.fd_outcome.specs.declared.refusal.Refusal.TheVariants as refusals
-use Rattle.fd_outcome.specs.Inputs.{refused}
-use Rattle.fd_outcome.specs.Fields.{FieldList, Numbered, all_numbered, behind_fields, fields_after, numbered, refusal_at, refusal_of_wrong, split_before, split_frames}
-use Rattle.fd_outcome.specs.Positions.{FieldsOn, Position, RefusesNext, at_message, fed_at, fields_from, skipped_from, weight}
+use Rattle.fd_split.specs.declared.refusal.Refusal.{Refusal}
+use Rattle.fd_split.specs.declared.refusal.Refusal.TheVariants as refusals
+use Rattle.fd_split.specs.Inputs.{refused}
+use Rattle.fd_split.specs.Fields.{FieldList, Numbered, all_numbered, behind_fields, fields_after, numbered, refusal_at, refusal_of_wrong, split_before, split_frames}
+use Rattle.fd_split.specs.Positions.{FieldsOn, Position, RefusesNext, at_message, fed_at, fields_from, skipped_from, weight}
 
 pub behind_both : (a b : List Numbered) (x : FieldList) → behind_fields a (behind_fields b x) ≡ behind_fields (a ++ b) x
 behind_both a b x = ap (λ (fs : List Numbered). record { fields = fs; refusal = x.refusal; next = x.next }) (sym (append_assoc a b x.fields))

@@ -10,11 +10,11 @@ use Rattle.fd_key.specs.Keys.{key_of}
 use Rattle.fd_entries.specs.declared.batch.Pair.{Pair}
 use Rattle.fd_schema.specs.Rules.{Rule, Texts, file_key, place_from}
 use Rattle.fd_listing.specs.Lines.{line}
-use Rattle.fd_outcome.specs.declared.refusal.Refusal.{Refusal}
-use Rattle.fd_outcome.specs.declared.refusal.Refusal.TheVariants.{Key}
-use Rattle.fd_outcome.specs.Fields.{FieldList, Numbered, fields_after, of_frames}
-use Rattle.fd_outcome.specs.Causes.{Cause, InStream, NoRule, TooManyDatasets}
-use Rattle.fd_outcome.specs.Asking.{is_among, count_distinct}
+use Rattle.fd_split.specs.declared.refusal.Refusal.{Refusal}
+use Rattle.fd_split.specs.declared.refusal.Refusal.TheVariants.{Key}
+use Rattle.fd_split.specs.Fields.{FieldList, Numbered, fields_after, of_frames}
+use Rattle.fd_stored.specs.Causes.{Cause, InStream, NoRule, TooManyDatasets}
+use Rattle.fd_stored.specs.Distinct.{is_among, count_distinct}
 
 -- a message that is stored: its dataset, and the pair under which it stands there
 pub record Stored : Type 0 where

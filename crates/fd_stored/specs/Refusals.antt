@@ -9,10 +9,10 @@ use Rattle.fd_key.specs.FaultTexts.{key_fault_text}
 use Rattle.fd_packing.specs.declared.fault.FieldFault.{FieldFault}
 use Rattle.fd_packing.specs.FaultTexts.{field_fault_text}
 use Rattle.fd_listing.specs.Lines.{line}
-use Rattle.fd_outcome.specs.declared.refusal.Refusal.{Refusal}
-use Rattle.fd_outcome.specs.declared.refusal.Refusal.TheVariants as refusals
-use Rattle.fd_outcome.specs.declared.status.Status.{Status}
-use Rattle.fd_outcome.specs.declared.status.Status.TheVariants.{Refused, Limit}
+use Rattle.fd_split.specs.declared.refusal.Refusal.{Refusal}
+use Rattle.fd_split.specs.declared.refusal.Refusal.TheVariants as refusals
+use Rattle.fd_stored.specs.declared.status.Status.{Status}
+use Rattle.fd_stored.specs.declared.status.Status.TheVariants.{Refused, Limit}
 
 -- the line that tells which octets are no message, and why
 abbrev pub refused_message_line : BadAt → List ℕ

@@ -4,8 +4,8 @@ use Rattle.std.proofs.Math.Seq.{take-append-add}
 use Rattle.std.proofs.lemmas.Bool.{le-leb, leb-false, leb-true, cases_Bool}
 use Rattle.std.specs.Prelude.{nat_le}
 use Rattle.fd_sections.specs.Stream.{Stream, stream}
-use Rattle.fd_outcome.specs.Limits.{input_limit}
-use Rattle.fd_outcome.specs.Inputs.{of_input}
+use Rattle.fd_split.specs.Limits.{input_limit}
+use Rattle.fd_split.specs.Inputs.{of_input}
 
 pub all_of : {A : Type 0} (f : Bool → Stream → A) (octets : List ℕ) → length octets ≤ input_limit → of_input f octets ≡ f false (stream octets)
 all_of f octets le = rw (le-leb (length octets) input_limit le) refl

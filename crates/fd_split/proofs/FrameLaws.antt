@@ -3,9 +3,9 @@ use Rattle.std.proofs.Common.{◌≡◌, ℕ, ◌+◌, ◌-◌, ◌<◌, ◌≤�
 use Rattle.std.proofs.lemmas.Bool.{le-leb, leb-false, leb-true, cases_Bool}
 use Rattle.std.specs.Prelude.{nat_le}
 use Rattle.fd_sections.specs.Frames.{Frames, frames}
-use Rattle.fd_outcome.specs.Limits.{input_limit}
-use Rattle.fd_outcome.specs.Fields.{of_frames}
-use Rattle.fd_outcome.proofs.InputLaws.{taken}
+use Rattle.fd_split.specs.Limits.{input_limit}
+use Rattle.fd_split.specs.Fields.{of_frames}
+use Rattle.fd_split.proofs.InputLaws.{taken}
 
 pub all_of : {A : Type 0} (f : Bool → Frames → A) (octets : List ℕ) → length octets ≤ input_limit → of_frames f octets ≡ f false (frames octets)
 all_of f octets le = rw (le-leb (length octets) input_limit le) refl

@@ -14,10 +14,10 @@ use Rattle.fd_schema.specs.FaultTexts.{schema_wrong_text}
 use Rattle.fd_request.specs.Grammar as requests
 use Rattle.fd_request.specs.FaultTexts.{request_wrong_text}
 use Rattle.fd_listing.specs.Lines.{blank, line}
-use Rattle.fd_outcome.specs.declared.refusal.Refusal.{Refusal}
-use Rattle.fd_outcome.specs.declared.status.Status.{Status}
-use Rattle.fd_outcome.specs.declared.status.Status.TheVariants as statuses
-use Rattle.fd_outcome.specs.Refusals.{refusal_line, refusal_status}
+use Rattle.fd_split.specs.declared.refusal.Refusal.{Refusal}
+use Rattle.fd_stored.specs.declared.status.Status.{Status}
+use Rattle.fd_stored.specs.declared.status.Status.TheVariants as statuses
+use Rattle.fd_stored.specs.Refusals.{refusal_line, refusal_status}
 
 pub data Cause : Type 0 where
   -- what refuses a stream of messages

@@ -2,10 +2,10 @@
 use Rattle.std.specs.Prelude.{ℕ, ◌+◌, Bool, true, false, List, length, take, Option, Some, None, nat_le, if◌then◌else◌}
 use Rattle.fd_sections.specs.declared.bad.Bad.TheVariants as bads
 use Rattle.fd_sections.specs.Stream.{Stream, End, Whole, Cut, Bad_end, stream}
-use Rattle.fd_outcome.specs.declared.refusal.Refusal.{Refusal}
-use Rattle.fd_outcome.specs.declared.refusal.Refusal.TheVariants as refusals
-use Rattle.fd_outcome.specs.declared.refusal.Refusal.TheVariants.{Message, TooLong, Input}
-use Rattle.fd_outcome.specs.Limits.{input_limit}
+use Rattle.fd_split.specs.declared.refusal.Refusal.{Refusal}
+use Rattle.fd_split.specs.declared.refusal.Refusal.TheVariants as refusals
+use Rattle.fd_split.specs.declared.refusal.Refusal.TheVariants.{Message, TooLong, Input}
+use Rattle.fd_split.specs.Limits.{input_limit}
 
 -- Why the end of a stream of n messages is refused, if it is.
 abbrev pub refused_end : ℕ → End → Option Refusal

@@ -5,8 +5,8 @@ use Rattle.fd_sections.specs.Frames.{frames}
 use Rattle.fd_sections.specs.Joining.{IsWaiting}
 use Rattle.fd_sections.specs.Progress.{Progress}
 use Rattle.fd_sections.specs.Splitting.{fed}
-use Rattle.fd_outcome.specs.declared.refusal.Refusal.{Refusal}
-use Rattle.fd_outcome.specs.Fields.{FieldList, Numbered, all_numbered, behind_fields, fields_after}
+use Rattle.fd_split.specs.declared.refusal.Refusal.{Refusal}
+use Rattle.fd_split.specs.Fields.{FieldList, Numbered, all_numbered, behind_fields, fields_after}
 
 -- How far a stream was split into messages, which fields of the last of them are still to come, and how many fields came.
 pub record Position : Type 0 where

@@ -5,10 +5,10 @@ use Rattle.fd_sections.specs.declared.bad.Bad.TheVariants as bads
 use Rattle.fd_sections.specs.Message.{Sections}
 use Rattle.fd_sections.specs.Frames.{Frames, frames}
 use Rattle.fd_split.specs.Reading.{Wrong, NoMessage, NoMap, reading_fields}
-use Rattle.fd_outcome.specs.declared.refusal.Refusal.{Refusal}
-use Rattle.fd_outcome.specs.declared.refusal.Refusal.TheVariants as refusals
-use Rattle.fd_outcome.specs.Limits.{input_limit}
-use Rattle.fd_outcome.specs.Inputs.{refused}
+use Rattle.fd_split.specs.declared.refusal.Refusal.{Refusal}
+use Rattle.fd_split.specs.declared.refusal.Refusal.TheVariants as refusals
+use Rattle.fd_split.specs.Limits.{input_limit}
+use Rattle.fd_split.specs.Inputs.{refused}
 
 -- a field, with the number of its message
 pub record Numbered : Type 0 where
