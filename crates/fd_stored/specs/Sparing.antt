@@ -1,5 +1,5 @@
 -- What is damaged stays.
-use Rattle.std.specs.Prelude.{ℕ, List, ¬◌}
+use Rattle.std.specs.Prelude.{ℕ, List}
 use Rattle.fd_disk.specs.Folders.{Holdings, folder_at}
 use Rattle.fd_recovery.specs.Recovered.{IsUndamaged}
 use Rattle.fd_stored.specs.Store.{IsLookedAt}
