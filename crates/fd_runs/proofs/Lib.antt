@@ -1,0 +1,5 @@
+mod Steps
+mod Blocks
+mod Lanes
+mod Turns
+mod Whole
