@@ -3,3 +3,4 @@ mod Blocks
 mod Lanes
 mod Turns
 mod Whole
+mod Scripts

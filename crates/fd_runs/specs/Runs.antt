@@ -1,5 +1,5 @@
 -- A session of lanes as one list of the machine's steps.
-use Rattle.std.specs.Prelude.{◌≡◌, ◌≢◌, ◌<◌, ◌≤◌, ◌+◌, ◌^◌, ◌||◌, ◌++◌, ℕ, zero, suc, Bool, true, false, if◌then◌else◌, nat_lt, List, [], ◌∷◌, map, take, length, Option}
+use Rattle.std.specs.Prelude.{◌≡◌, ◌≢◌, ◌<◌, ◌≤◌, ◌+◌, ◌^◌, ◌||◌, ◌++◌, ℕ, zero, suc, Bool, true, false, if◌then◌else◌, nat_lt, List, [], ◌∷◌, map, take, length, All, Option}
 use Rattle.fd_entries.specs.declared.batch.Pair.{Pair}
 use Rattle.fd_entries.specs.Batches.{KeysFit, distinct, rows, total}
 use Rattle.fd_machine.specs.declared.machine.Step.{Step}
@@ -14,7 +14,10 @@ use Rattle.fd_lanes.specs.declared.end.End.{End}
 use Rattle.fd_lanes.specs.declared.end.End.TheVariants.{PutOk, PutUnlisted, Fault, Listed, Nothing, TableFull, NoMemory, Damaged, Got}
 use Rattle.fd_lanes.specs.Walks as walks
 use Rattle.fd_lanes.specs.Walks.{Stand, answer_bytes, beginning}
-use Rattle.fd_lanes.specs.Legal.{IsLegal}
+use Rattle.fd_lanes.specs.Acts as scripts
+use Rattle.fd_lanes.specs.Legal.{IsLegal, Legal}
+use Rattle.fd_schema.specs.Rules.{Rule}
+use Rattle.fd_script.specs.declared.script.Lane.{Lane}
 
 -- a step of the machine, and what it answers
 abbrev pub Told : Type 0
@@ -211,3 +214,9 @@ abbrev pub EverySessionIsARun : Type 0 → Type 0
 EverySessionIsARun F = (before flushed : List (List Pair)) (script : List (List Act)) (ends : List (List (End F)))
     → BatchesFit before → LanesFit script → length script ≤ 65534 → length (before ++ flushed) ≤ 65535
     → IsLegal before flushed script ends → IsRun before flushed script ends
+
+-- The same of a script whose steps may be taken in the dataset with this text, as they have to be where lanes run.
+abbrev pub EveryScriptIsARun : Type 0 → Type 0
+EveryScriptIsARun F = (rules : List Rule) (messages : List (List ℕ)) (text : List ℕ) (lanes : List Lane) (before flushed : List (List Pair)) (ends : List (List (End F)))
+    → All (λ (l : Lane). length l.steps ≤ 4096) lanes → length lanes ≤ 65534 → BatchesFit before → length (before ++ flushed) ≤ 65535
+    → (l : Legal rules messages before flushed lanes ends) → scripts.LanesFit rules messages text l.places lanes → IsRun before flushed (scripts.all_acts rules messages l.places lanes) ends

@@ -3,4 +3,4 @@
 
 mod law;
 
-pub use law::every_session;
+pub use law::{every_script, every_session};
