@@ -9,7 +9,6 @@ use Rattle.fd_machine.specs.declared.machine.Phase.{Phase}
 use Rattle.fd_machine.specs.declared.machine.Phase.TheVariants as phases
 use Rattle.fd_machine.specs.declared.machine.Seen.{Seen}
 use Rattle.fd_machine.specs.declared.machine.Step.TheVariants as steps
-use Rattle.fd_machine.specs.declared.machine.Took.{Took}
 use Rattle.fd_machine.specs.declared.machine.Writer.{Writer}
 use Rattle.fd_machine.specs.World.{World}
 use Rattle.fd_machine.specs.Laws.{FetchesNewest}

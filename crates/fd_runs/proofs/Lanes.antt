@@ -1,6 +1,5 @@
 -- A lane before and behind its turn.
-use Rattle.std.proofs.Common.{◌≡◌, ◌≢◌, ◌⊎◌, inl, inr, ◌||◌, ℕ, zero, suc, ◌+◌, ◌-◌, ◌*◌, ◌<◌, ◌≤◌, Bool, true, false, List, [], ◌∷◌, ◌++◌, map, take, length, refl, sym, ◌∙◌, ap, subst, arith, Option, Some, None}
-use Rattle.std.specs.Prelude.{slice_get}
+use Rattle.std.proofs.Common.{◌≡◌, ◌≢◌, ◌⊎◌, inl, inr, ◌||◌, ℕ, ◌+◌, ◌-◌, ◌<◌, ◌≤◌, Bool, true, false, List, [], ◌∷◌, ◌++◌, map, take, length, refl, sym, ap, arith, Some, None}
 use mathlib.Core.Logic.{dite}
 use native.Mathlib.Decide.{ℕ_discrete}
 use Rattle.fd_entries.specs.declared.batch.Pair.{Pair}
@@ -16,7 +15,7 @@ use Rattle.fd_lanes.specs.Walks as walks
 use Rattle.fd_lanes.specs.Walks.{Stand, EndsWell, Walks, receipt, receipts, still_waits}
 use Rattle.fd_lanes.specs.Legal.{HasAt, AnswersAt}
 use Rattle.fd_lanes.proofs.Receipts.{last_up, receipts_say, number_in}
-use Rattle.fd_runs.specs.Runs.{ActFits, ActsFit, Going, gone_from, next_of, ran, sealed_after, waits_next}
+use Rattle.fd_runs.specs.Runs.{ActFits, ActsFit, gone_from, next_of, ran, sealed_after, waits_next}
 use Rattle.fd_runs.proofs.Steps.{At, Goes, made}
 use Rattle.fd_runs.proofs.Blocks.{IsSmall, IsReady, IsToldSealed, count_after, inside, phase_of, small_more, turn_goes}
 

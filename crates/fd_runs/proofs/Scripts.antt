@@ -1,10 +1,8 @@
 -- The steps of a script are within the machine's bounds.
-use Rattle.std.proofs.Common.{◌≡◌, ◌<◌, ◌≤◌, ℕ, zero, suc, List, [], ◌∷◌, ◌++◌, length, get_or, refl, ap, subst, arith}
+use Rattle.std.proofs.Common.{◌≡◌, ◌≤◌, ℕ, suc, List, [], ◌∷◌, length, refl, ap, arith}
 use Rattle.std.specs.Prelude.{All}
-use Rattle.fd_entries.specs.declared.batch.Pair.{Pair}
 use Rattle.fd_lanes.specs.Acts as scripts
 use Rattle.fd_lanes.specs.Acts.{AllFitting, Fitting, act_of, acts_of, all_acts, left_after, left_behind}
-use Rattle.fd_lanes.specs.declared.end.End.{End}
 use Rattle.fd_schema.specs.Rules.{Rule, Texts}
 use Rattle.fd_script.specs.declared.script.Lane.{Lane}
 use Rattle.fd_script.specs.declared.script.Step.{Step}

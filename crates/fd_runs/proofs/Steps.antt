@@ -1,24 +1,23 @@
 -- One step of the machine, from where a writer stands to where it stands then.
-use Rattle.std.proofs.Common.{◌≡◌, ◌≢◌, ◌⊎◌, inl, inr, ◌==◌, ◌&&◌, if◌then◌else◌, ℕ, ◌+◌, ◌-◌, ◌^◌, ◌<◌, ◌≤◌, Bool, true, false, not, nat_le, nat_lt, List, [], ◌∷◌, ◌++◌, length, refl, sym, ◌∙◌, ap, subst, arith, Option, Some, None, is_none, is_some}
+use Rattle.std.proofs.Common.{◌≡◌, ◌≢◌, ◌&&◌, if◌then◌else◌, ℕ, ◌+◌, ◌-◌, ◌^◌, ◌<◌, Bool, true, false, not, nat_lt, List, [], ◌∷◌, ◌++◌, length, refl, sym, ◌∙◌, ap, subst, arith, Option, Some, None, is_none, is_some}
 use Rattle.std.proofs.lemmas.Bool.Decides.{nat_tests}
 use Rattle.fd_disk.specs.declared.file.File.{File}
-use Rattle.fd_disk.specs.Images.{synced, written, loosened}
+use Rattle.fd_disk.specs.Images.{synced}
 use Rattle.fd_entries.specs.declared.table.Entry.{Entry}
 use Rattle.fd_entries.specs.declared.batch.Pair.{Pair}
 use Rattle.fd_entries.specs.Table.{body_of, with_body, with_gate, with_closed}
 use Rattle.fd_entries.specs.Standing.{IsSettled}
-use Rattle.fd_entries.specs.Batches.{is_empty, rows, total, with_pair}
+use Rattle.fd_entries.specs.Batches.{is_empty, with_pair}
 use Rattle.fd_entries.proofs.StandingLemmas.{written_settled}
 use Rattle.fd_machine.specs.declared.machine.Phase.{Phase}
 use Rattle.fd_machine.specs.declared.machine.Phase.TheVariants.{Filling, Synced, Written, Sealed, Holding, BodyLoose, BodyFirm, GateLoose, Listed, Posted}
 use Rattle.fd_machine.specs.declared.machine.Step.{Step}
 use Rattle.fd_machine.specs.declared.machine.Step.TheVariants.{Put, SyncData, WriteIndex, SyncIndex, Take, Body, SyncBody, Gate, SyncGate, Post, Release, Fail}
-use Rattle.fd_machine.specs.declared.machine.Took.{Took}
 use Rattle.fd_machine.specs.declared.machine.Took.TheVariants.{No, Yes}
 use Rattle.fd_machine.specs.declared.machine.Writer.{Writer}
 use Rattle.fd_machine.specs.World.{World}
-use Rattle.fd_machine.specs.Machine.{after, back, can_fail, can_put, effect, entry_of, failed, fields_name, file_of, filled, fresh, gone_to, index_name, is_in_phase, moved, possible, put_file, put_writer, writer_in, writer_of}
-use Rattle.fd_machine.specs.Took.{IsReached, took_by, took_of}
+use Rattle.fd_machine.specs.Machine.{after, back, can_fail, can_put, effect, entry_of, failed, filled, fresh, gone_to, is_in_phase, possible, put_writer, writer_in, writer_of}
+use Rattle.fd_machine.specs.Took.{IsReached, took_by}
 use Rattle.fd_machine.proofs.Holds.{HoldsUp}
 use Rattle.fd_machine.proofs.Updates.{writer_elsewhere, writer_there}
 use Rattle.fd_machine.proofs.Keeping.{id_is}

@@ -1,28 +1,25 @@
 -- A whole session: the batches before, the lanes before their first steps, and their turns.
-use Rattle.std.proofs.Common.{◌≡◌, ◌≢◌, ◌⊎◌, inl, inr, ℕ, zero, suc, ◌+◌, ◌-◌, ◌*◌, ◌^◌, ◌<◌, ◌≤◌, Bool, true, false, if◌then◌else◌, List, [], ◌∷◌, ◌++◌, map, take, length, refl, sym, ◌∙◌, ap, subst, arith, append_assoc, length-append, Option, Some, None}
+use Rattle.std.proofs.Common.{◌≡◌, ◌⊎◌, inl, inr, ℕ, ◌+◌, ◌^◌, ◌<◌, ◌≤◌, Bool, true, false, if◌then◌else◌, List, [], ◌∷◌, ◌++◌, map, take, length, refl, sym, ◌∙◌, ap, subst, arith, append_assoc, length-append, None}
 use mathlib.Core.List.{append-nil, map-append}
 use Rattle.fd_entries.specs.declared.batch.Pair.{Pair}
-use Rattle.fd_entries.specs.Batches.{KeysFit, distinct, has_key, is_empty, rows, total}
+use Rattle.fd_entries.specs.Batches.{KeysFit, distinct, has_key, rows, total}
 use Rattle.fd_entries.specs.Numbers.{entries_or_none, greatest_seq}
-use Rattle.fd_entries.specs.Table.{IsTable, header, listed}
+use Rattle.fd_entries.specs.Table.{IsTable, header}
 use Rattle.fd_entries.proofs.BatchSums.{distinct_push, rows_length_push, total_push}
 use Rattle.fd_entries.proofs.Slots.{listed_table}
 use Rattle.fd_machine.specs.declared.machine.Phase.TheVariants as phases
-use Rattle.fd_machine.specs.declared.machine.Step.TheVariants as steps
-use Rattle.fd_machine.specs.declared.machine.Writer.{Writer}
 use Rattle.fd_machine.specs.World.{World}
 use Rattle.fd_machine.specs.Machine.{start, writer_of}
 use Rattle.fd_numbers.specs.Numbers.{Differ, IsIn}
 use Rattle.fd_lanes.specs.Acts.{Act}
 use Rattle.fd_lanes.specs.declared.end.End.{End}
 use Rattle.fd_lanes.specs.Walks.{beginning, receipts}
-use Rattle.fd_lanes.specs.Legal.{AllWalk, IsLegal, all_receipts}
-use Rattle.fd_lanes.proofs.Receipts.{number_in}
+use Rattle.fd_lanes.specs.Legal.{AllWalk, all_receipts}
 use Rattle.fd_lanes.proofs.Walking.{in_either}
-use Rattle.fd_runs.specs.Runs.{ActsFit, BatchFits, BatchesFit, EverySessionIsARun, Going, IsRun, LanesFit, in_turns, lanes_of, listing, opened, puts, ran, sealing, taken}
+use Rattle.fd_runs.specs.Runs.{BatchesFit, EverySessionIsARun, LanesFit, in_turns, lanes_of, listing, opened, puts, ran, sealing}
 use Rattle.fd_runs.proofs.Steps.{At, Goes, made, next, on, put_one, ran_more, still, takes_more}
-use Rattle.fd_runs.proofs.Blocks.{IsSmall, full_of, listing_goes, may_put, sealing_goes}
-use Rattle.fd_runs.proofs.Lanes.{Free, LaneOk, late_walk, nums, nums_after}
+use Rattle.fd_runs.proofs.Blocks.{full_of, listing_goes, may_put, sealing_goes}
+use Rattle.fd_runs.proofs.Lanes.{Free, late_walk, nums, nums_after}
 use Rattle.fd_runs.proofs.Turns.{AllLate, AllOk, AreLeft, Comes, all_nums, come, size}
 
 -- a front of a batch is no larger than the batch
@@ -141,7 +138,7 @@ every_session F before flushed script ends fits lanes few_lanes few legal =
     let o = opened_goes before [] 1 start fits (omega arith) (omega arith) begins in
     let s : World = ran (opened before) start in
     let at = o.1.at in
-    let free : Free whole s b = record { reached = at.reached; up = at.up; sure = at.sure; owner = at.owner; history = at.history ∙ sym (front_of before flushed); within = omega (arith, long) } in
+    let free : Free whole s b = record { reached = at.reached; up = at.up; sure = at.sure; owner = at.owner; history = subst (λ (h : List (List Pair)). s.history ≡ h) (sym (front_of before flushed)) at.history; within = omega (arith, long) } in
     let ls = lanes_of b script ends in
     let ok : AllOk F whole s b 2 ls = lanes_ok F whole b s 2 script ends (λ v le. o.1.others v (λ e. absurd (omega (arith, le, e))) ∙ at_first v) (omega arith) (omega (arith, few_lanes)) lanes legal.each in
     let left : AreLeft F whole b (all_nums F whole ls) = record {
@@ -154,5 +151,5 @@ every_session F before flushed script ends fits lanes few_lanes few legal =
       order = c.order;
       all = c.all;
       takes = takes_more (opened before) (in_turns c.order s ls) start o.1.takes c.takes;
-      history = ap (λ (t : World). t.history) (ran_more (opened before) (in_turns c.order s ls) start) ∙ c.history;
+      history = subst (λ (t : World). t.history ≡ whole) (sym (ran_more (opened before) (in_turns c.order s ls) start)) c.history;
     }

@@ -1,5 +1,5 @@
 -- A session of lanes as one list of the machine's steps.
-use Rattle.std.specs.Prelude.{◌≡◌, ◌≢◌, ◌<◌, ◌≤◌, ◌+◌, ◌^◌, ◌||◌, ◌++◌, ℕ, zero, suc, Bool, true, false, if◌then◌else◌, nat_lt, List, [], ◌∷◌, map, take, length, All, Option}
+use Rattle.std.specs.Prelude.{◌≡◌, ◌≢◌, ◌<◌, ◌≤◌, ◌+◌, ◌^◌, ◌||◌, ◌++◌, ℕ, zero, suc, Bool, true, false, nat_lt, List, [], ◌∷◌, map, length, All, Option}
 use Rattle.fd_entries.specs.declared.batch.Pair.{Pair}
 use Rattle.fd_entries.specs.Batches.{KeysFit, distinct, rows, total}
 use Rattle.fd_machine.specs.declared.machine.Step.{Step}
@@ -11,7 +11,7 @@ use Rattle.fd_machine.specs.Machine.{after, start}
 use Rattle.fd_machine.specs.Took.{answered, took_of}
 use Rattle.fd_lanes.specs.Acts.{Act, Put, Flush, Get}
 use Rattle.fd_lanes.specs.declared.end.End.{End}
-use Rattle.fd_lanes.specs.declared.end.End.TheVariants.{PutOk, PutUnlisted, Fault, Listed, Nothing, TableFull, NoMemory, Damaged, Got}
+use Rattle.fd_lanes.specs.declared.end.End.TheVariants.{PutOk, PutUnlisted, Fault, Listed, TableFull, NoMemory, Got}
 use Rattle.fd_lanes.specs.Walks as walks
 use Rattle.fd_lanes.specs.Walks.{Stand, answer_bytes, beginning}
 use Rattle.fd_lanes.specs.Acts as scripts
