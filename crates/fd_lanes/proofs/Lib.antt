@@ -1,7 +1,7 @@
 mod Tables
 mod Histories
-mod Walking
-mod Receipts
+pub mod Walking
+pub mod Receipts
 mod Legality
 mod Stepping
 mod Rooms
@@ -11,4 +11,4 @@ mod Placing
 mod Rows
 mod Crews
 mod Taking
-mod Answering
+pub mod Answering

@@ -30,7 +30,7 @@ in_numbers (r ∷ rs) z b (inl e) = inl (ap number e)
 in_numbers (r ∷ rs) z b (inr i) = inr (in_numbers rs z b i)
 
 module _ (F : Type 0) (P : List Pair → ℕ → Type 0) (Q : Type 0) (R : ℕ → List (List ℕ) → List (Option (List ℕ)) → Type 0) (D : Type 0) where
-  last_up : (s : Stand) (step : Act) (e : End F) → EndsWell P Q R D s step e → s.last ≤ (after s step e).last
+  pub last_up : (s : Stand) (step : Act) (e : End F) → EndsWell P Q R D s step e → s.last ≤ (after s step e).last
   last_up s (Put p) PutOk h = omega arith
   last_up s (Put p) PutUnlisted h = omega arith
   last_up s (Put p) (Fault f) h = omega arith

@@ -5,7 +5,7 @@ use Rattle.std.specs.Prelude.{slice_index}
 use mathlib.Core.Logic.{dite}
 use native.Mathlib.Decide.{ℕ_discrete}
 use Rattle.fd_numbers.specs.Numbers.{IsIn}
-use Rattle.fd_lanes.specs.Rows.{OneLane, TwoLanes, OneReads, OneFails, SeesLess, OtherOrder, ListsTwice, WorkedRuns}
+use Rattle.fd_lanes.specs.Rows.{OneLane, TwoLanes, OneReads, OneFails, SeesLess, OtherOrder, ListsTwice, TakesThenWaits, WaitsThenTakes, WorkedRuns}
 
 one_only : (n : ℕ) → 0 < n → n ≤ 1 → IsIn (1 ∷ []) n
 one_only n low high = inl (omega arith)
@@ -32,28 +32,28 @@ mark (Some (p ∷ ps)) = slice_index p.key 2
 
 one_lane : OneLane
 one_lane = record {
-  each = ((tt, ((omega arith, (omega arith, refl)), (((λ e. cc e), omega arith, refl), ((omega arith, (omega arith, refl)), tt)))), tt);
+  each = (((λ e. cc e), ((omega arith, (omega arith, refl)), (((λ e. cc e), omega arith, refl), ((omega arith, (omega arith, refl)), tt)))), tt);
   once = ((λ i. i), tt);
   all = one_only;
 }
 
 two_lanes : TwoLanes
 two_lanes = record {
-  each = ((tt, ((omega arith, (omega arith, refl)), (((λ e. cc e), omega arith, refl), tt))), ((tt, (((λ e. cc e), omega arith, refl), ((omega arith, (omega arith, refl)), tt))), tt));
+  each = (((λ e. cc e), ((omega arith, (omega arith, refl)), (((λ e. cc e), omega arith, refl), tt))), (((λ e. cc e), (((λ e. cc e), omega arith, refl), ((omega arith, (omega arith, refl)), tt))), tt));
   once = (not_before 2 1 (omega arith), ((λ i. i), tt));
   all = two_one;
 }
 
 one_reads : OneReads
 one_reads = record {
-  each = ((tt, (((λ e. cc e), omega arith, refl), (tt, (((λ e. cc e), omega arith, refl), tt)))), (((omega arith, (omega arith, refl)), ((omega arith, (omega arith, refl)), ((omega arith, (omega arith, refl)), tt))), tt));
+  each = (((λ e. cc e), (((λ e. cc e), omega arith, refl), ((λ e. cc e), (((λ e. cc e), omega arith, refl), tt)))), (((omega arith, (omega arith, refl)), ((omega arith, (omega arith, refl)), ((omega arith, (omega arith, refl)), tt))), tt));
   once = (not_after 1 2 (omega arith), ((λ i. i), tt));
   all = one_two;
 }
 
 one_fails : OneFails
 one_fails = record {
-  each = ((tt, (tt, (((λ e. cc e), omega arith, refl), tt))), ((tt, (((λ e. cc e), omega arith, refl), tt)), tt));
+  each = (((λ e. cc e), ((λ e. cc e), (((λ e. cc e), omega arith, refl), tt))), (((λ e. cc e), (((λ e. cc e), omega arith, refl), tt)), tt));
   once = (not_before 2 1 (omega arith), ((λ i. i), tt));
   all = two_one;
 }
@@ -67,6 +67,12 @@ other_order h = let e : 98 ≡ 97 = ap mark h.each.0.1.0.2 in absurd (omega (ari
 lists_twice : ListsTwice
 lists_twice h = not_before 2 1 (omega arith) (h.all 2 (omega arith) (omega arith))
 
+takes_then_waits : TakesThenWaits
+takes_then_waits h = h.each.0.1.1.1.0.1 refl
+
+waits_then_takes : WaitsThenTakes
+waits_then_takes h = h.each.0.1.1.1.0 refl
+
 pub worked_runs : WorkedRuns
 worked_runs = record {
   one_lane = one_lane;
@@ -76,4 +82,6 @@ worked_runs = record {
   sees_less = sees_less;
   other_order = other_order;
   lists_twice = lists_twice;
+  takes_then_waits = takes_then_waits;
+  waits_then_takes = waits_then_takes;
 }

@@ -79,6 +79,7 @@ begun H n x v nothing sure = record {
   last = omega arith;
   refused = λ some. absurd (go x.unlisted refl nothing some);
   doubts = inl sure;
+  waits = tt;
 }
   where
     go : (u : Option Standing) → x.unlisted ≡ u → IsPendingIn x.told u x.draft [] → IsSome x.unlisted → ⊥

@@ -88,7 +88,7 @@ module _ (F : Type 0) (P : List Pair → ℕ → Type 0) (Q : Type 0) (R : ℕ �
     ends_map s Flush (Fault f) listed h = h
     ends_map s Flush (Listed n) listed h = (h.0, h.1, listed n refl h.2)
     ends_map s Flush Nothing listed h = h
-    ends_map s Flush TableFull listed h = full h
+    ends_map s Flush TableFull listed h = (h.0, full h.1)
     ends_map s Flush NoMemory listed h = h
     ends_map s Flush (Damaged d) listed h = h
     ends_map s Flush (Got n a) listed h = h

@@ -1,0 +1,6 @@
+mod Steps
+mod Blocks
+mod Lanes
+mod Turns
+mod Whole
+mod Scripts
