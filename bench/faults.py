@@ -1071,6 +1071,259 @@ def renewals():
     return tally.tell()
 
 
+# (h), (i) a block of a folder, or the journal, that can't be written for some seconds
+
+
+class Spots(Device):
+    """A file system on a loop device over a file that has room for all its blocks, out of which chosen ones can be taken for a time."""
+
+    def __init__(self, folder, journal):
+        self.block, self.journal = BLOCK, journal
+        self.ram, self.mount = f"{folder}/ram", f"{folder}/mount"
+        self.image, self.filler = f"{self.ram}/image", f"{self.ram}/filler"
+        for path in (self.ram, self.mount):
+            os.makedirs(path, exist_ok=True)
+        quietly(["mount", "-t", "tmpfs", "-o", "size=40m", "tmpfs", self.ram])
+        file = os.open(self.image, os.O_CREAT | os.O_WRONLY)
+        os.posix_fallocate(file, 0, 32 << 20)
+        os.close(file)
+        # names lie in a folder's blocks in the order in which they were made
+        quietly(["mkfs.ext4", "-q", "-F", "-b", str(BLOCK), "-m", "0", "-O", f"{'' if journal else '^'}has_journal,^dir_index,^metadata_csum",
+                 *(["-J", "size=4"] if journal else []), "-E", "lazy_itable_init=0,lazy_journal_init=0,nodiscard", self.image])
+        self.saved = []
+        self.up()
+
+    def up(self):
+        quietly(["mount", "-o", f"loop,errors=continue{',commit=1' if self.journal else ''}", self.image, self.mount])
+
+    def again(self):
+        """An unmount and a mount, as at a new start of the machine."""
+        self.down()
+        self.up()
+
+    def blocks_of(self, inode):
+        """The blocks of the device that a file or a folder has."""
+        self.write_back()
+        told = subprocess.run(["debugfs", "-R", f"blocks <{inode}>", self.image], capture_output=True, text=True, check=True).stdout
+        return [int(word) for word in told.split()]
+
+    def take(self, blocks):
+        """From now on these blocks can't be written; all others can."""
+        file = os.open(self.image, os.O_RDWR)
+        for block in blocks:
+            self.saved.append((block, os.pread(file, BLOCK, block * BLOCK)))
+            assert libc.fallocate(file, 3, ctypes.c_int64(block * BLOCK), ctypes.c_int64(BLOCK)) == 0
+        os.close(file)
+        file = os.open(self.filler, os.O_CREAT | os.O_WRONLY)
+        free = os.statvfs(self.ram)
+        os.posix_fallocate(file, 0, free.f_bfree * free.f_bsize)
+        os.close(file)
+
+    def give(self):
+        """They can be written again, and have what they had."""
+        if self.saved:
+            self.give_room()
+
+    def fill_names(self, folder):
+        """Fills the first block of a folder with names, but for room for `toc.new`, so that others come into its second block. That block."""
+        plain, odd = f"{self.mount}/plain", f"{folder}/strange"
+        open(plain, "w").close()
+        open(odd, "w").close()
+        for number in range(2000):
+            os.link(plain, f"{folder}/{number:03x}")
+            if os.stat(folder).st_size > BLOCK:
+                break
+        os.unlink(odd)
+        return self.blocks_of(os.stat(folder).st_ino)[1]
+
+
+HELD_SYNCS = "openat,fsync,fdatasync"
+
+
+def slowly(words, given, told, delay):
+    """The program below strace, each of whose syncs is held back so long before it is done."""
+    with open(f"{told}.input", "wb") as file:
+        file.write(given)
+    if os.path.exists(told):
+        os.unlink(told)
+    return subprocess.Popen(["strace", "-f", "-y", "-qq", "-s", "0", "-e", "signal=none", "-e", f"trace={HELD_SYNCS}", "-e",
+                             f"inject=fsync,fdatasync:delay_enter={int(delay * 1e6)}", "-o", told, "--", program.path, *words],
+                            stdin=open(f"{told}.input", "rb"), stdout=subprocess.DEVNULL, stderr=subprocess.PIPE)
+
+
+def text_at(path):
+    return open(path, errors="replace").read() if os.path.exists(path) else ""
+
+
+def until_told(device, runs, beside):
+    """Waits for the runs' ends. The device's block can be written again once one of their syncs was told of it. `beside` is run once the files of
+    the first of them are there. Whether one was told, and what `beside` answered."""
+    seen, answer, begun = False, None, time.time()
+    while any(run.poll() is None for run, _ in runs) and time.time() - begun < 60:
+        texts = [text_at(told) for _, told in runs]
+        if beside and answer is None and re.search(r"\.index.*O_CREAT", texts[0]):
+            answer = beside()
+        if not seen and (any(" EIO" in text for text in texts) or (answer and answer[0] == 6)):
+            seen = True
+            device.give()
+        time.sleep(0.005)
+    device.give()
+    return seen or any(" EIO" in text_at(told) for _, told in runs), answer
+
+
+def told_once_trial(kind, delay, tally):
+    """One of the sequences in which somebody else may be told of a folder's block that couldn't be written."""
+    device = Spots(f"{work}/device", False)
+    try:
+        store, sent = f"{device.mount}/store", Sent()
+        made(store)
+        archived(store, sent, range(20))
+        archived(store, sent, range(1300, 1310))
+        folder = store if kind == "two datasets" else f"{store}/{dataset_of(0)}"
+        device.take([device.fill_names(folder)])
+        runs, others, beside = [], [], None
+        if kind == "two lanes":
+            given, steps = session_input(sent, 0, 2, 4, 1, 0, range(20, 130))
+            runs.append((slowly(["session", store], given, f"{work}/told", delay), f"{work}/told"))
+        elif kind == "two datasets":
+            for at in range(2):
+                given, places = fields(sent, range(650 * (1 + 2 * at), 650 * (1 + 2 * at) + 30))
+                others.append(places)
+                runs.append((slowly(archive_words(store), given, f"{work}/told{at}", delay), f"{work}/told{at}"))
+        else:
+            given, places = fields(sent, range(20, 100))
+            others.append(places)
+            runs.append((slowly(archive_words(store, 2 if kind == "two workers" else 1), given, f"{work}/told", delay), f"{work}/told"))
+            if kind == "a reader":
+                beside = lambda: program.run(["retrieve", store], Scope(1).request)
+        seen, answer = until_told(device, runs, beside)
+        statuses = []
+        for (run, _), places in zip(runs, others or [[]]):
+            told = run.communicate()[1].decode(errors="replace")
+            statuses.append(run.returncode)
+            sent.acknowledge(listed_by(told, steps) if kind == "two lanes" else places if run.returncode == 0 else [])
+        tally.add("met a write error", seen)
+        tally.add("answered 0", statuses.count(0))
+        where = f"{kind}, syncs held for {delay:.2f} s, statuses {statuses}{f', the reader {answer[0]}' if answer else ''}"
+        if any(status not in (0, 6) for status in statuses):
+            tally.wrong.append(f"{where}: {told.strip()[-100:]}")
+        device.again()
+        for day in (0, 1, 2, 3):
+            have, why = program.found(store, Scope(day + 1, first=day), sent)
+            tally.judge(have, why, sent.of_day(day), f"{where}, day {day + 1}")
+    finally:
+        device.give()
+        device.remove()
+
+
+def told_once():
+    """The next block of a folder fails once, and one sync is told."""
+    tally = Tally("h", "a folder's block that can't be written for a moment, which one sync is told")
+    zeros(tally, "trials", "met a write error", "answered 0", "acknowledged fields lost", "fields torn")
+    chance = random.Random(f"{seed}h")
+    for trial in range(max(1, trials // 5)):
+        for kind in ("two lanes", "two workers", "a reader", "two datasets", "one alone"):
+            tally.add("trials")
+            told_once_trial(kind, chance.choice([0.1, 0.2, 0.3]), tally)
+    return tally.tell()
+
+
+CHANGES = "openat,mkdir,rename,unlink,rmdir,pwrite64,write,ftruncate,fsync,fdatasync"
+
+
+def before_syncs(words, given, store):
+    """The calls in front of each sync of a command: by name, and by their number among the calls of this name."""
+    with open(f"{work}/input", "wb") as file:
+        file.write(given)
+    ended = subprocess.run(["strace", "-f", "-y", "-qq", "-s", "0", "-e", "signal=none", "-e", f"trace={CHANGES}", "-o", f"{work}/told", "--", program.path, *words],
+                           stdin=open(f"{work}/input", "rb"), capture_output=True)
+    assert ended.returncode == 0, ended.stderr
+    counted, found, last = {}, [], None
+    for line in open(f"{work}/told", errors="replace"):
+        parts = re.match(r"\d+ +(\w+)\(", line)
+        if parts:
+            if parts[1] in SYNCS and last and last not in found:
+                found.append(last)
+            counted[parts[1]] = counted.get(parts[1], 0) + 1
+            last = (parts[1], counted[parts[1]])
+    return found
+
+
+def journal_command(kind, store, sent):
+    """The words and the input of a command, and the places of its fields."""
+    if kind == "create":
+        return ["create", store], SCHEMA, []
+    if kind == "archive":
+        given, places = fields(sent, [*range(10, 40), *range(650, 660)])
+        return archive_words(store), given, places
+    return [kind, store, dataset_of(0)], b"", []
+
+
+def journal_base(kind, store, sent):
+    if kind == "create":
+        return
+    made(store)
+    for _ in range(3):
+        archived(store, sent, range(20))
+
+
+def journal_trial(kind, stop, tally):
+    """A command that stands behind this call while the journal can't be written and its commit fails; then it goes on."""
+    device = Spots(f"{work}/device", True)
+    try:
+        store, sent = f"{device.mount}/store", Sent()
+        journal_base(kind, store, sent)
+        words, given, places = journal_command(kind, store, sent)
+        with open(f"{work}/input", "wb") as file:
+            file.write(given)
+        journal = device.blocks_of(8)
+
+        def then():
+            device.take(journal)
+            time.sleep(1.7)
+            device.give()
+
+        if os.path.exists(f"{work}/told"):
+            os.unlink(f"{work}/told")
+        victim = subprocess.Popen(["strace", "-f", "-y", "-qq", "-o", f"{work}/told", "-e", f"trace={CHANGES}", "-e", f"inject={stop[0]}:signal=STOP:when={stop[1]}",
+                                   "--", program.path, *words], stdin=open(f"{work}/input", "rb"), stdout=subprocess.DEVNULL, stderr=subprocess.PIPE)
+        stood, told = stopped_once(victim, f"{work}/told", then)
+        status = victim.returncode
+        tally.add("trials")
+        tally.add("stood", stood)
+        tally.add("answered 0", status == 0)
+        where = f"{kind} behind {stop[0]} {stop[1]}, status {status}"
+        if status not in (0, 6):
+            tally.wrong.append(f"{where}: {told.strip()[-100:]}")
+        if status == 0:
+            sent.acknowledge(places)
+        device.again()
+        if kind == "wipe":
+            have, why = program.found(store, Scope(1), Sent())
+            if have is None or (status == 0 and any(have.values())):
+                tally.wrong.append(f"{where}: {why or 'what was wiped is there'}")
+        else:
+            look_again(kind, status, store, sent, tally, where)
+    finally:
+        device.give()
+        device.remove()
+
+
+def journal():
+    """A journal whose commit fails in the background, in front of each sync of a command."""
+    tally = Tally("i", "a journal that can't be written for some seconds, in front of each sync")
+    zeros(tally, "trials", "stood", "answered 0", "acknowledged fields lost", "fields torn", "acknowledged stores lost")
+    for kind in ("create", "archive", "purge", "wipe"):
+        plain, sent = f"{work}/journal/{kind}", Sent()
+        os.makedirs(f"{work}/journal", exist_ok=True)
+        journal_base(kind, plain, sent)
+        words, given, _ = journal_command(kind, plain, sent)
+        stops = before_syncs(words, given, plain)
+        for stop in stops[::max(1, len(stops) // trials)]:
+            journal_trial(kind, stop, tally)
+    return tally.tell()
+
+
 # what a part needs
 
 
@@ -1086,14 +1339,16 @@ def needs(part):
     """Why a part can't be run here, or None."""
     if part == "a" and not (has_loops() and os.access("/proc/sys/vm/drop_caches", os.W_OK)):
         return "it takes root, loop devices and mkfs.ext4"
-    if part in "aefg" and not has_strace():
+    if part in "hi" and not (has_loops() and shutil.which("debugfs")):
+        return "it takes root, loop devices, mkfs.ext4 and debugfs"
+    if part in "aefghi" and not has_strace():
         return "it takes strace"
     if part == "b" and os.geteuid() != 0:
         return "it takes root, to mount a small RAM disk"
     return None
 
 
-PARTS = {"a": write_errors, "b": full_disk, "c": limits, "d": processes, "e": power_cut, "f": failed_syncs, "g": renewals}
+PARTS = {"a": write_errors, "b": full_disk, "c": limits, "d": processes, "e": power_cut, "f": failed_syncs, "g": renewals, "h": told_once, "i": journal}
 
 
 def main():
