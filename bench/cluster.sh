@@ -1,7 +1,7 @@
 #!/usr/bin/env bash
 # One store on two machines: a volume of GlusterFS of three copies (three bricks in a temporary folder) and two mounts of it, each by a client
 # process of its own, as two machines have. Twice: with the caches of clients off, as `docs/SHARED.md` names the options, and with GlusterFS's defaults.
-#   in turn       an archive over the one mount, and right behind it a retrieve over the other one, ROUNDS (40) times each way. Without caches no
+#   in turn       an archive over the one mount, and right behind it a retrieve over the other one, ROUNDS (20) times each way. Without caches no
 #                 answer may be 6; with caches one that is 6 has to be right when it is run again
 #   side by side  two archives at once over the two mounts, into one dataset (one may end with 6) and into two; purges and wipes over the one
 #                 mount while the other one reads: each answer is that of one moment, or 6
@@ -374,8 +374,7 @@ def main():
     begun()
     total = 0
     for caches in (False, True):
-        for name in OFF:
-            gluster("volume", "set", "fields", name, "on" if caches and name != "performance.nl-cache" else "off")
+        gluster("volume", "set", "fields", *(word for name in OFF for word in (name, "on" if caches and name != "performance.nl-cache" else "off")))
         if not caches:
             gluster("volume", "start", "fields")
             until_online()
@@ -404,7 +403,7 @@ mkdir "$work/disks"
 seed=${SEED:-$RANDOM$RANDOM}
 echo "seed $seed"
 # the first process of the name space waits for all that end there, as a killed brick has to
-unshare --mount --net --pid --fork --kill-child --mount-proc --propagation private bash -c 'python3 "$@" & wait $!; exit $?' bash "$work/cluster.py" "$work" "${ROUNDS:-40}" "$seed" "$top/bench" \
+unshare --mount --net --pid --fork --kill-child --mount-proc --propagation private bash -c 'python3 "$@" & wait $!; exit $?' bash "$work/cluster.py" "$work" "${ROUNDS:-20}" "$seed" "$top/bench" \
   "${PARTS:-in_turn side_by_side readers_beside bricks clients}" &
 child=$!
 status=0

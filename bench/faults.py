@@ -1324,6 +1324,189 @@ def journal():
     return tally.tell()
 
 
+# (j) what people and administrators do
+
+
+def in_place_of_lock(store, sent, tally, way):
+    """An archive that waits for its input, while the file `lock` is removed, or replaced, and another archive comes."""
+    first, places = fields(sent, range(60), 20_000)
+    last, more = fields(sent, range(60, 70), 20_000)
+    holder = subprocess.Popen([program.path, *archive_words(store)], stdin=subprocess.PIPE, stdout=subprocess.DEVNULL, stderr=subprocess.PIPE)
+    statuses = []
+    try:
+        holder.stdin.write(first)
+        holder.stdin.flush()
+        waits_for_input(holder.pid, holder.stdin)
+        lock = f"{store}/{dataset_of(0)}/lock"
+        if way == "removed":
+            os.unlink(lock)
+        else:
+            open(f"{lock}.other", "w").close()
+            os.rename(f"{lock}.other", lock)
+        statuses.append(archived(store, sent, range(70, 90))[0])
+        holder.communicate(last, 60)
+    except BrokenPipeError:
+        holder.wait()
+    statuses.append(holder.returncode)
+    if holder.returncode == 0:
+        sent.acknowledge(places + more)
+    tally.add("trials")
+    tally.add("answered 0", statuses.count(0))
+    where = f"`lock` {way} under an archive, statuses {statuses}"
+    if any(status not in (0, 6) for status in statuses):
+        tally.wrong.append(where)
+    tally.judge(*program.found(store, Scope(1), sent), sent, where)
+    status, told = archived(store, sent, range(90, 100))
+    if status != 0:
+        tally.wrong.append(f"{where}: an archive behind it ended with {status}: {told.strip()[-100:]}")
+    tally.judge(*program.found(store, Scope(1), sent), sent, f"{where}, gone on")
+
+
+def out_of_reach(tally):
+    """A dataset that can't be reached is absent for no command: a link to what isn't there, a file, a folder that has lost its table."""
+    request = Scope(1).request.replace(b"expver=0001", b"expver=0002")
+    for title in ("a link to a folder that isn't there", "a file", "a folder without its table"):
+        store, sent = f"{work}/reach/store", Sent()
+        shutil.rmtree(f"{work}/reach", ignore_errors=True)
+        os.mkdir(f"{work}/reach")
+        made(store)
+        # the base has other fields of the same keys
+        archived(store, sent, range(5))
+        given, _ = fields(sent, range(5))
+        status, _, told = program.run(["archive", store, "--with", "class=od,expver=0002"], given)
+        assert status == 0, told
+        folder = f"{store}/{dataset_of(0).replace('0001', '0002')}"
+        if title == "a folder without its table":
+            os.unlink(f"{folder}/toc")
+        else:
+            os.rename(folder, f"{work}/reach/elsewhere")
+            os.symlink(f"{work}/reach/unmounted", folder) if title.startswith("a link") else open(folder, "w").close()
+        for words, told in ((["retrieve", store], request), (["retrieve", store, "--over", "expver=0001"], request), (["list", store], b"list"), (["axes", store], b"list"),
+                            (["stats", store], b""), (["cubes", store], b"list"), (["archive", store, "--with", "class=od,expver=0002"], given)):
+            status, out, report = program.run(words, told)
+            tally.add("trials")
+            if status != 6:
+                tally.wrong.append(f"{title} in the place of a dataset: {' '.join(words[:1] + words[2:])} ended with {status}: {report.strip()[-80:]}")
+
+
+def second_user(tally):
+    """Two users of one group write to one dataset in turn."""
+    base, sent = f"{work}/group", Sent()
+    shutil.rmtree(base, ignore_errors=True)
+    for path in (os.path.dirname(work), work):
+        os.chmod(path, 0o711)
+    os.mkdir(base)
+    os.chown(base, 54_321, 54_320)
+    os.chmod(base, 0o2775)
+    store = f"{base}/store"
+    users = [{"user": user, "group": 54_320, "extra_groups": [], "umask": 0o022} for user in (54_321, 54_322)]
+
+    def give_folders():
+        """The folders are the group's, as an administrator sets it; files stay as they were made."""
+        for at, _, _ in os.walk(store):
+            os.chmod(at, 0o2775)
+
+    status, _, told = program.run(["create", store], SCHEMA, **users[0])
+    if status != 0:
+        tally.wrong.append(f"a create by one of two users ended with {status}: {told.strip()[-80:]}")
+        return
+    for turn in range(4):
+        give_folders()
+        status, told = archived(store, sent, range(turn, 20), **users[turn % 2])
+        tally.add("trials")
+        if status != 0:
+            tally.wrong.append(f"an archive by the {('first', 'second')[turn % 2]} of two users of a group ended with {status}: {told.strip()[-80:]}")
+        tally.judge(*program.found(store, Scope(1), sent, **users[1 - turn % 2]), sent, "a retrieve by the other user")
+
+
+def without_descriptors(tally):
+    """Commands that begin without some of the descriptors 0 to 2."""
+    for closed in ((0,), (1,), (2,), (0, 1, 2), (1, 2)):
+        store, sent = f"{work}/closed", Sent()
+        shutil.rmtree(store, ignore_errors=True)
+        made(store)
+        archived(store, sent, range(10))
+        given, places = fields(sent, range(20))
+        with open(f"{work}/input", "wb") as file:
+            file.write(given)
+        for words in (archive_words(store), ["retrieve", store], ["stats", store], ["purge", store, dataset_of(0)]):
+            line = " ".join(f"'{word}'" for word in [program.path, *words])
+            ended = subprocess.run(["bash", "-c", f"exec {line} {' '.join(f'{number}<&-' for number in closed)}"], stdin=open(f"{work}/input", "rb"),
+                                   stdout=subprocess.DEVNULL, stderr=subprocess.DEVNULL)
+            tally.add("trials")
+            if words[0] == "archive" and ended.returncode == 0:
+                sent.acknowledge(places)
+            if ended.returncode < 0 or ended.returncode > 9:
+                tally.wrong.append(f"{words[0]} without the descriptors {closed} ended with {ended.returncode}")
+        locks = [str(path) for path in pathlib.Path(store).rglob("lock") if path.stat().st_size]
+        if locks:
+            tally.wrong.append(f"without the descriptors {closed} something was written to {os.path.basename(os.path.dirname(locks[0]))}/lock")
+        tally.judge(*program.found(store, Scope(1), sent), sent, f"commands without the descriptors {closed}")
+
+
+def short_files(tally):
+    """`ulimit -f`, as a shell sets it: the signal isn't ignored."""
+    store, sent = f"{work}/short", Sent()
+    made(store)
+    archived(store, sent, range(10))
+    for number in (0, 300, 400, 1000, 3000, 5000):
+        status, told = archived(store, sent, range(10, 60), preexec_fn=lambda: resource.setrlimit(resource.RLIMIT_FSIZE, (number, number)))
+        tally.add("trials")
+        if status not in (0, 6) or not told:
+            tally.wrong.append(f"an archive whose files may have {number} octets ended with {status}, and told {told.strip()[-60:]!r}")
+        tally.judge(*program.found(store, Scope(1), sent), sent, f"files of {number} octets at most")
+
+
+def read_only(tally):
+    """A store on a medium whose files know no sync."""
+    if os.geteuid() != 0 or not shutil.which("mksquashfs"):
+        print("    a read-only medium is left out: it takes root and mksquashfs")
+        return
+    store, sent, place = f"{work}/fixed/store", Sent(), f"{work}/medium"
+    os.mkdir(f"{work}/fixed")
+    made(store)
+    for _ in range(2):
+        archived(store, sent, range(20))
+    quietly(["mksquashfs", f"{work}/fixed", f"{work}/fixed.image", "-quiet", "-no-progress"])
+    os.mkdir(place)
+    try:
+        quietly(["mount", "-t", "squashfs", "-o", "loop,ro", f"{work}/fixed.image", place])
+    except subprocess.CalledProcessError:
+        print("    a read-only medium is left out: it takes loop devices and squashfs")
+        return
+    try:
+        tally.add("trials")
+        tally.judge(*program.found(f"{place}/store", Scope(1), sent), sent, "a retrieve on squashfs")
+        for words in (["list"], ["axes"], ["stats"], ["cubes"]):
+            status, out, told = program.run([*words, f"{place}/store"], b"list")
+            tally.add("trials")
+            if status != 0 or not out:
+                tally.wrong.append(f"{words[0]} on squashfs ended with {status}: {told.strip()[-80:]}")
+        status, told = archived(f"{place}/store", sent, range(3))
+        if status != 6:
+            tally.wrong.append(f"an archive on squashfs ended with {status}: {told.strip()[-80:]}")
+    finally:
+        unmount(place)
+
+
+def people():
+    tally = Tally("j", "`lock` removed, datasets out of reach, two users, descriptors 0 to 2 closed, ulimit -f, a read-only medium")
+    zeros(tally, "trials", "answered 0", "acknowledged fields lost", "fields torn")
+    for turn in range(2 * max(1, trials // 10)):
+        store, sent = f"{work}/locked", Sent()
+        shutil.rmtree(store, ignore_errors=True)
+        made(store)
+        archived(store, sent, range(100, 110))
+        in_place_of_lock(store, sent, tally, ("removed", "replaced")[turn % 2])
+    out_of_reach(tally)
+    if os.geteuid() == 0:
+        second_user(tally)
+    without_descriptors(tally)
+    short_files(tally)
+    read_only(tally)
+    return tally.tell()
+
+
 # what a part needs
 
 
@@ -1348,7 +1531,7 @@ def needs(part):
     return None
 
 
-PARTS = {"a": write_errors, "b": full_disk, "c": limits, "d": processes, "e": power_cut, "f": failed_syncs, "g": renewals, "h": told_once, "i": journal}
+PARTS = {"a": write_errors, "b": full_disk, "c": limits, "d": processes, "e": power_cut, "f": failed_syncs, "g": renewals, "h": told_once, "i": journal, "j": people}
 
 
 def main():
