@@ -6,8 +6,8 @@
 # fields; tables of 70 entries, longer than one piece that is read; fields of more than 1 MiB.
 # Each answer has to be that of one moment of each dataset that it reads: of one of the states that a command which was acknowledged, or was
 # running, left between the reader's begin and its end. Status 6 is right, too; 8 is not, since no store is damaged, and neither is the
-# field of another key, or another length or number. A command that writes ends with 0, or with 6 beside a session, which holds the lock;
-# it is run again then.
+# field of another key, or another length or number. A command that writes ends with 0, or with 6 beside a session, which holds the lock,
+# and is run again then; beside other readers it isn't refused.
 # ANSWERS (5000) says how many, JOBS (3) how many readers run at once, SEED where the numbers begin, FDB names the program, where it isn't
 # to be built here, WORK a folder for what is made (/dev/shm, or /tmp). Takes strace. No part of the gate.
 set -eu
@@ -117,7 +117,7 @@ class Writer(threading.Thread):
         super().__init__()
         self.store, self.fields, self.steps, self.stopped = store, fields, steps, threading.Event()
         self.history = {expver: History() for expver in EXPVERS}
-        self.done, self.again, self.wrong = 0, 0, []
+        self.done, self.refused, self.wrong = 0, [], []
         self.turns = itertools.cycle([steps(self, expver, at) for at, expver in enumerate(EXPVERS)])
 
     def run(self):
@@ -129,12 +129,13 @@ class Writer(threading.Thread):
         history, since = self.history[expver], time.monotonic()
         while not self.stopped.is_set():
             history.began(states)
+            begun = time.monotonic()
             status, _, told = run(words, given)
             history.ended(status == 0)
             if status == 0:
                 self.done += 1
                 return
-            self.again += 1
+            self.refused.append((begun, time.monotonic(), words[0]))
             if status != 6 or time.monotonic() - since > 60:
                 self.wrong.append(f"{words[0]} ended with {status}: {told.strip()[-160:]}")
                 return
@@ -363,7 +364,7 @@ def judge(reader, begun, ended, status, out, told, writer):
 
 def kind_of(why):
     """In a word or two what was wrong."""
-    for kind in ("nothing beside", "the writer's", "got the field of", "no moment"):
+    for kind in ("nothing beside", "beside readers alone", "the writer's", "got the field of", "no moment"):
         if kind in why:
             return kind
     damaged = re.search(r"damaged .. \w+", why)
@@ -424,6 +425,10 @@ def trial(title, steps, octets, number):
     writer.stopped.set()
     writer.join()
     wrong += [f"the writer's {why}" for why in writer.wrong]
+    # what reads needs no lock, but for a session
+    sessions = [answer[:2] for reader, _, _, _, answer in taken if reader.name == "session"]
+    wrong += [f"the writer's {name} ended with 6 beside readers alone" for begun, ended, name in writer.refused
+              if not any(first <= ended and last >= begun for first, last in sessions)]
     ends = collections.Counter()
     for reader, call, nth, held, (begun, ended, status, out, told) in taken:
         ends[status] += 1
@@ -431,7 +436,7 @@ def trial(title, steps, octets, number):
         if why:
             wrong.append(f"{reader.name}, {call} {nth} held for {1000 * held:.0f} ms, {why}")
     counts = ", ".join(f"{status}: {count}" for status, count in sorted(ends.items()))
-    print(f"{title}: {len(taken)} answers ({counts}) beside {writer.done} commands that wrote, of which {writer.again} had to be run again; "
+    print(f"{title}: {len(taken)} answers ({counts}) beside {writer.done} commands that wrote, of which {len(writer.refused)} had to be run again; "
           f"{len(wrong)} wrong, {time.time() - since:.0f} s", flush=True)
     kinds = collections.Counter()
     for why in wrong:

@@ -8,9 +8,9 @@
 #   bricks        one brick is killed (kill -9) in the middle of an archive, then two; both come back and the volume heals
 #   clients       the client process of a mount, and the program, are killed in the middle of an archive; the other mount writes at once
 # All that was acknowledged has to be there over both mounts, octet for octet, and no store is told to be damaged. Takes root on Linux, fuse and
-# Debian's glusterfs-server; about 3 minutes. All that it mounts and starts is in name spaces of its own (mounts, processes, network) and goes with them.
-# PARTS (in_turn side_by_side readers_beside bricks clients) names those that are run, ROUNDS says how often, SEED where the numbers begin, FDB names the program, where it isn't to be built here, WORK a folder for what is made
-# (/tmp). No part of the gate.
+# Debian's glusterfs-server; about 4 minutes. All that it mounts and starts is in name spaces of its own (mounts, processes, network) and goes with them.
+# PARTS (in_turn side_by_side readers_beside bricks clients) names those that are run, ROUNDS says how often, SEED where the numbers begin,
+# FDB names the program, where it isn't to be built here, WORK a folder for what is made (/tmp). No part of the gate.
 set -eu
 top=$(cd "$(dirname "$0")/.." && pwd)
 why=

@@ -1161,7 +1161,7 @@ def until_told(device, runs, beside):
     seen, answer, begun = False, None, time.time()
     while any(run.poll() is None for run, _ in runs) and time.time() - begun < 60:
         texts = [text_at(told) for _, told in runs]
-        if beside and answer is None and re.search(r"\.index.*O_CREAT", texts[0]):
+        if beside and answer is None and re.search(r"\.(?:fields|index)\b.*O_CREAT", texts[0]):
             answer = beside()
         if not seen and (any(" EIO" in text for text in texts) or (answer and answer[0] == 6)):
             seen = True
