@@ -117,7 +117,7 @@ class Writer(threading.Thread):
         super().__init__()
         self.store, self.fields, self.steps, self.stopped = store, fields, steps, threading.Event()
         self.history = {expver: History() for expver in EXPVERS}
-        self.done, self.refused, self.wrong = 0, [], []
+        self.done, self.log, self.refused, self.wrong = 0, [], [], []
         self.turns = itertools.cycle([steps(self, expver, at) for at, expver in enumerate(EXPVERS)])
 
     def run(self):
@@ -132,6 +132,7 @@ class Writer(threading.Thread):
             begun = time.monotonic()
             status, _, told = run(words, given)
             history.ended(status == 0)
+            self.log.append((begun, time.monotonic(), f"{words[0]} {expver}" + (f" ({status})" if status else "")))
             if status == 0:
                 self.done += 1
                 return
@@ -140,6 +141,11 @@ class Writer(threading.Thread):
                 self.wrong.append(f"{words[0]} ended with {status}: {told.strip()[-160:]}")
                 return
             time.sleep(0.005)
+
+    def between(self, first, last):
+        """The commands that were run at some moment of these, each with the milliseconds from the first at which it began and ended."""
+        said = [f"{name} {1000 * (begun - first):.0f} to {1000 * (ended - first):.0f}" for begun, ended, name in self.log if begun <= last and ended >= first]
+        return ", ".join(said[:6] + (["..", *said[-4:]] if len(said) > 10 else said[6:]))
 
     def archive(self, expver, keys):
         batch = {key: self.fields.next(key) for key in keys}
@@ -368,7 +374,7 @@ def kind_of(why):
         if kind in why:
             return kind
     damaged = re.search(r"damaged .. \w+", why)
-    return damaged[0] if damaged else why.split("ms, ")[-1][:12]
+    return damaged[0] if damaged else why.split(" ms, ")[-1].split("\n")[0][:40]
 
 
 def trial(title, steps, octets, number):
@@ -434,7 +440,7 @@ def trial(title, steps, octets, number):
         ends[status] += 1
         why = judge(reader, begun, ended, status, out, told, writer)
         if why:
-            wrong.append(f"{reader.name}, {call} {nth} held for {1000 * held:.0f} ms, {why}")
+            wrong.append(f"{reader.name}, {call} {nth} held for {1000 * held:.0f} ms, {why}\n    in {1000 * (ended - begun):.0f} ms; beside it: {writer.between(begun, ended)}")
     counts = ", ".join(f"{status}: {count}" for status, count in sorted(ends.items()))
     print(f"{title}: {len(taken)} answers ({counts}) beside {writer.done} commands that wrote, of which {len(writer.refused)} had to be run again; "
           f"{len(wrong)} wrong, {time.time() - since:.0f} s", flush=True)
