@@ -74,7 +74,7 @@ def traced(words, given, inject=()):
         it.write(given)
     if os.path.exists(f"{work}/trace"):
         os.unlink(f"{work}/trace")
-    return subprocess.Popen(["strace", "-f", "-y", "-qq", "-s", "0", "-e", "trace=openat,pread64", *inject, "-o", f"{work}/trace", "--", fdb, *words],
+    return subprocess.Popen(["strace", "-f", "-y", "-qq", "-s", "0", "-e", "trace=openat,pread64,read,preadv,preadv2", *inject, "-o", f"{work}/trace", "--", fdb, *words],
                             stdin=open(f"{work}/given", "rb"), stdout=open(f"{work}/out", "wb"), stderr=open(f"{work}/told", "wb"), cwd=work)
 
 
