@@ -6,10 +6,13 @@
 #   side by side  two archives at once over the two mounts, into one dataset (one may end with 6) and into two; purges and wipes over the one
 #                 mount while the other one reads: each answer is that of one moment, or 6
 #   bricks        one brick is killed (kill -9) in the middle of an archive, then two; both come back and the volume heals
+#   stalls        all bricks stand still (SIGSTOP) for longer than a client waits (network.ping-timeout, 5 s here), while an archive has its lock; then the
+#                 other mount writes, and the first archive goes on
 #   clients       the client process of a mount, and the program, are killed in the middle of an archive; the other mount writes at once
 # All that was acknowledged has to be there over both mounts, octet for octet, and no store is told to be damaged. Takes root on Linux, fuse and
-# Debian's glusterfs-server; about 4 minutes. All that it mounts and starts is in name spaces of its own (mounts, processes, network) and goes with them.
-# PARTS (in_turn side_by_side readers_beside bricks clients) names those that are run, ROUNDS says how often, SEED where the numbers begin,
+# Debian's glusterfs-server; about 5 minutes. All that it mounts and starts is in name spaces of its own (mounts, processes, network) and goes with them.
+# PARTS (in_turn side_by_side readers_beside bricks clients stalls) names those that are run, ROUNDS says how often, STRICT (on) is
+# the volume's option client.strict-locks, SEED where the numbers begin,
 # FDB names the program, where it isn't to be built here, WORK a folder for what is made (/tmp). No part of the gate.
 set -eu
 top=$(cd "$(dirname "$0")/.." && pwd)
@@ -37,7 +40,7 @@ export PYTHONDONTWRITEBYTECODE=1
 cat > "$work/cluster.py" <<'PY'
 import collections, os, pathlib, random, re, signal, subprocess, sys, threading, time
 
-work, rounds, seed, bench, chosen = sys.argv[1], int(sys.argv[2]), sys.argv[3], sys.argv[4], sys.argv[5].split()
+work, rounds, seed, bench, chosen, strict = *sys.argv[1:2], int(sys.argv[2]), *sys.argv[3:5], sys.argv[5].split(), sys.argv[6]
 sys.path.insert(0, bench)
 from sent import SCHEMA, Program, Scope, Sent, archive_words, dataset_of
 
@@ -92,10 +95,12 @@ def begun():
     # a volume's bricks may not be at 127.0.0.1
     quietly(["ip", "address", "add", f"{ADDRESS}/32", "dev", "lo"])
     quietly(["mount", "-t", "tmpfs", "-o", "size=1500m", "tmpfs", f"{work}/disks"])
-    for name, place in (("state", "/var/lib/glusterd"), ("run", "/run/gluster"), ("log", "/var/log/glusterfs")):
+    # all of /run, where its daemons put what they are found by
+    for name, place in (("state", "/var/lib/glusterd"), ("run", os.path.realpath("/var/run")), ("log", "/var/log/glusterfs")):
         os.makedirs(place, exist_ok=True)
         os.makedirs(f"{work}/disks/{name}")
         quietly(["mount", "--bind", f"{work}/disks/{name}", place])
+    os.makedirs("/var/run/gluster")
     for number in range(3):
         os.makedirs(f"{work}/disks/brick{number}")
     for at in mounts:
@@ -107,7 +112,7 @@ def begun():
         time.sleep(0.2)
     gluster("volume", "create", "fields", "replica", "3", *(f"{ADDRESS}:{work}/disks/brick{number}" for number in range(3)), "force")
     # a client waits no longer than this for a brick that doesn't answer
-    gluster("volume", "set", "fields", "network.ping-timeout", "5")
+    gluster("volume", "set", "fields", "network.ping-timeout", "5", "client.strict-locks", strict)
 
 
 def until_online():
@@ -369,6 +374,49 @@ def clients(caches):
         looked_over_both(f"clients{caches:d}", Scope(2), sent, "a client or the program killed")
 
 
+def stalls(caches):
+    """All bricks stand still for longer than a client waits, while an archive has its dataset's lock; the bricks forget locks of a client that has
+    left them. Then the other mount writes, and the first archive goes on."""
+    sent = made(f"stalls{caches:d}")
+    archived(f"{mounts[0]}/stalls{caches:d}", sent, range(650, 660))
+    archived(f"{mounts[0]}/stalls{caches:d}", sent, range(100, 110))
+    for turn in range(max(1, rounds // 10)):
+        at, other = mounts[turn % 2], mounts[1 - turn % 2]
+        first, places = fields(sent, range(60), 20_000)
+        last, more = fields(sent, range(60, 70), 20_000)
+        run = subprocess.Popen([program.path, *archive_words(f"{at}/stalls{caches:d}")], stdin=subprocess.PIPE, stdout=subprocess.DEVNULL, stderr=subprocess.PIPE)
+        statuses = []
+        try:
+            run.stdin.write(first)
+            run.stdin.flush()
+            time.sleep(2)
+            still = [brick(number) for number in range(3)]
+            for process in still:
+                os.kill(process, signal.SIGSTOP)
+            time.sleep(9)
+            for process in still:
+                os.kill(process, signal.SIGCONT)
+            time.sleep(4)
+            statuses.append(archived(f"{other}/stalls{caches:d}", sent, range(70, 90), True, "behind a stall, an archive over the other mount"))
+            run.stdin.write(last)
+            run.stdin.close()
+        except BrokenPipeError:
+            pass
+        told = run.stderr.read().decode(errors="replace")
+        statuses.append(run.wait())
+        if run.returncode == 0:
+            sent.acknowledge(places + more)
+        elif run.returncode != 6:
+            wrong.append(f"an archive over bricks that stood still ended with {run.returncode}: {told.strip()[-120:]}")
+        counts[f"archives {run.returncode}"] += 1
+        time.sleep(1.1)
+        before = len(wrong)
+        looked_over_both(f"stalls{caches:d}", Scope(2), sent, f"a stall, statuses {statuses} of the other mount's and of the one that stood")
+        if len(wrong) > before:
+            # what is lost is told once
+            return
+
+
 def main():
     os.chdir("/")
     begun()
@@ -382,7 +430,7 @@ def main():
             if os.path.ismount(at):
                 quietly(["umount", "-l", at])
             mount(at, caches)
-        for part in (in_turn, side_by_side, readers_beside, bricks, clients):
+        for part in (in_turn, side_by_side, readers_beside, bricks, clients, stalls):
             counts.clear()
             before, since = len(wrong), time.time()
             if part.__name__ not in chosen:
@@ -404,7 +452,7 @@ seed=${SEED:-$RANDOM$RANDOM}
 echo "seed $seed"
 # the first process of the name space waits for all that end there, as a killed brick has to
 unshare --mount --net --pid --fork --kill-child --mount-proc --propagation private bash -c 'python3 "$@" & wait $!; exit $?' bash "$work/cluster.py" "$work" "${ROUNDS:-20}" "$seed" "$top/bench" \
-  "${PARTS:-in_turn side_by_side readers_beside bricks clients}" &
+  "${PARTS:-in_turn side_by_side readers_beside bricks clients stalls}" "${STRICT:-on}" &
 child=$!
 status=0
 wait "$child" || status=$?
