@@ -1071,6 +1071,442 @@ def renewals():
     return tally.tell()
 
 
+# (h), (i) a block of a folder, or the journal, that can't be written for some seconds
+
+
+class Spots(Device):
+    """A file system on a loop device over a file that has room for all its blocks, out of which chosen ones can be taken for a time."""
+
+    def __init__(self, folder, journal):
+        self.block, self.journal = BLOCK, journal
+        self.ram, self.mount = f"{folder}/ram", f"{folder}/mount"
+        self.image, self.filler = f"{self.ram}/image", f"{self.ram}/filler"
+        for path in (self.ram, self.mount):
+            os.makedirs(path, exist_ok=True)
+        quietly(["mount", "-t", "tmpfs", "-o", "size=40m", "tmpfs", self.ram])
+        file = os.open(self.image, os.O_CREAT | os.O_WRONLY)
+        os.posix_fallocate(file, 0, 32 << 20)
+        os.close(file)
+        # names lie in a folder's blocks in the order in which they were made
+        quietly(["mkfs.ext4", "-q", "-F", "-b", str(BLOCK), "-m", "0", "-O", f"{'' if journal else '^'}has_journal,^dir_index,^metadata_csum",
+                 *(["-J", "size=4"] if journal else []), "-E", "lazy_itable_init=0,lazy_journal_init=0,nodiscard", self.image])
+        self.saved = []
+        self.up()
+
+    def up(self):
+        quietly(["mount", "-o", f"loop,errors=continue{',commit=1' if self.journal else ''}", self.image, self.mount])
+
+    def again(self):
+        """An unmount and a mount, as at a new start of the machine."""
+        self.down()
+        self.up()
+
+    def blocks_of(self, inode):
+        """The blocks of the device that a file or a folder has."""
+        self.write_back()
+        told = subprocess.run(["debugfs", "-R", f"blocks <{inode}>", self.image], capture_output=True, text=True, check=True).stdout
+        return [int(word) for word in told.split()]
+
+    def take(self, blocks):
+        """From now on these blocks can't be written; all others can."""
+        file = os.open(self.image, os.O_RDWR)
+        for block in blocks:
+            self.saved.append((block, os.pread(file, BLOCK, block * BLOCK)))
+            assert libc.fallocate(file, 3, ctypes.c_int64(block * BLOCK), ctypes.c_int64(BLOCK)) == 0
+        os.close(file)
+        file = os.open(self.filler, os.O_CREAT | os.O_WRONLY)
+        free = os.statvfs(self.ram)
+        os.posix_fallocate(file, 0, free.f_bfree * free.f_bsize)
+        os.close(file)
+
+    def give(self):
+        """They can be written again, and have what they had."""
+        if self.saved:
+            self.give_room()
+
+    def fill_names(self, folder):
+        """Fills the first block of a folder with names, but for room for `toc.new`, so that others come into its second block. That block."""
+        plain, odd = f"{self.mount}/plain", f"{folder}/strange"
+        open(plain, "w").close()
+        open(odd, "w").close()
+        for number in range(2000):
+            os.link(plain, f"{folder}/{number:03x}")
+            if os.stat(folder).st_size > BLOCK:
+                break
+        os.unlink(odd)
+        return self.blocks_of(os.stat(folder).st_ino)[1]
+
+
+HELD_SYNCS = "openat,fsync,fdatasync"
+
+
+def slowly(words, given, told, delay):
+    """The program below strace, each of whose syncs is held back so long before it is done."""
+    with open(f"{told}.input", "wb") as file:
+        file.write(given)
+    if os.path.exists(told):
+        os.unlink(told)
+    return subprocess.Popen(["strace", "-f", "-y", "-qq", "-s", "0", "-e", "signal=none", "-e", f"trace={HELD_SYNCS}", "-e",
+                             f"inject=fsync,fdatasync:delay_enter={int(delay * 1e6)}", "-o", told, "--", program.path, *words],
+                            stdin=open(f"{told}.input", "rb"), stdout=subprocess.DEVNULL, stderr=subprocess.PIPE)
+
+
+def text_at(path):
+    return open(path, errors="replace").read() if os.path.exists(path) else ""
+
+
+def until_told(device, runs, beside):
+    """Waits for the runs' ends. The device's block can be written again once one of their syncs was told of it. `beside` is run once the files of
+    the first of them are there. Whether one was told, and what `beside` answered."""
+    seen, answer, begun = False, None, time.time()
+    while any(run.poll() is None for run, _ in runs) and time.time() - begun < 60:
+        texts = [text_at(told) for _, told in runs]
+        if beside and answer is None and re.search(r"\.(?:fields|index)\b.*O_CREAT", texts[0]):
+            answer = beside()
+        if not seen and (any(" EIO" in text for text in texts) or (answer and answer[0] == 6)):
+            seen = True
+            device.give()
+        time.sleep(0.005)
+    device.give()
+    return seen or any(" EIO" in text_at(told) for _, told in runs), answer
+
+
+def told_once_trial(kind, delay, tally):
+    """One of the sequences in which somebody else may be told of a folder's block that couldn't be written."""
+    device = Spots(f"{work}/device", False)
+    try:
+        store, sent = f"{device.mount}/store", Sent()
+        made(store)
+        archived(store, sent, range(20))
+        archived(store, sent, range(1300, 1310))
+        folder = store if kind == "two datasets" else f"{store}/{dataset_of(0)}"
+        device.take([device.fill_names(folder)])
+        runs, others, beside = [], [], None
+        if kind == "two lanes":
+            given, steps = session_input(sent, 0, 2, 4, 1, 0, range(20, 130))
+            runs.append((slowly(["session", store], given, f"{work}/told", delay), f"{work}/told"))
+        elif kind == "two datasets":
+            for at in range(2):
+                given, places = fields(sent, range(650 * (1 + 2 * at), 650 * (1 + 2 * at) + 30))
+                others.append(places)
+                runs.append((slowly(archive_words(store), given, f"{work}/told{at}", delay), f"{work}/told{at}"))
+        else:
+            given, places = fields(sent, range(20, 100))
+            others.append(places)
+            runs.append((slowly(archive_words(store, 2 if kind == "two workers" else 1), given, f"{work}/told", delay), f"{work}/told"))
+            if kind == "a reader":
+                beside = lambda: program.run(["retrieve", store], Scope(1).request)
+        seen, answer = until_told(device, runs, beside)
+        statuses = []
+        for (run, _), places in zip(runs, others or [[]]):
+            told = run.communicate()[1].decode(errors="replace")
+            statuses.append(run.returncode)
+            sent.acknowledge(listed_by(told, steps) if kind == "two lanes" else places if run.returncode == 0 else [])
+        tally.add("met a write error", seen)
+        tally.add("answered 0", statuses.count(0))
+        where = f"{kind}, syncs held for {delay:.2f} s, statuses {statuses}{f', the reader {answer[0]}' if answer else ''}"
+        if any(status not in (0, 6) for status in statuses):
+            tally.wrong.append(f"{where}: {told.strip()[-100:]}")
+        device.again()
+        for day in (0, 1, 2, 3):
+            have, why = program.found(store, Scope(day + 1, first=day), sent)
+            tally.judge(have, why, sent.of_day(day), f"{where}, day {day + 1}")
+    finally:
+        device.give()
+        device.remove()
+
+
+def told_once():
+    """The next block of a folder fails once, and one sync is told."""
+    tally = Tally("h", "a folder's block that can't be written for a moment, which one sync is told")
+    zeros(tally, "trials", "met a write error", "answered 0", "acknowledged fields lost", "fields torn")
+    chance = random.Random(f"{seed}h")
+    for trial in range(max(1, trials // 5)):
+        for kind in ("two lanes", "two workers", "a reader", "two datasets", "one alone"):
+            tally.add("trials")
+            told_once_trial(kind, chance.choice([0.1, 0.2, 0.3]), tally)
+    return tally.tell()
+
+
+CHANGES = "openat,mkdir,rename,unlink,rmdir,pwrite64,write,ftruncate,fsync,fdatasync"
+
+
+def before_syncs(words, given, store):
+    """The calls in front of each sync of a command: by name, and by their number among the calls of this name."""
+    with open(f"{work}/input", "wb") as file:
+        file.write(given)
+    ended = subprocess.run(["strace", "-f", "-y", "-qq", "-s", "0", "-e", "signal=none", "-e", f"trace={CHANGES}", "-o", f"{work}/told", "--", program.path, *words],
+                           stdin=open(f"{work}/input", "rb"), capture_output=True)
+    assert ended.returncode == 0, ended.stderr
+    counted, found, last = {}, [], None
+    for line in open(f"{work}/told", errors="replace"):
+        parts = re.match(r"\d+ +(\w+)\(", line)
+        if parts:
+            if parts[1] in SYNCS and last and last not in found:
+                found.append(last)
+            counted[parts[1]] = counted.get(parts[1], 0) + 1
+            last = (parts[1], counted[parts[1]])
+    return found
+
+
+def journal_command(kind, store, sent):
+    """The words and the input of a command, and the places of its fields."""
+    if kind == "create":
+        return ["create", store], SCHEMA, []
+    if kind == "archive":
+        given, places = fields(sent, [*range(10, 40), *range(650, 660)])
+        return archive_words(store), given, places
+    return [kind, store, dataset_of(0)], b"", []
+
+
+def journal_base(kind, store, sent):
+    if kind == "create":
+        return
+    made(store)
+    for _ in range(3):
+        archived(store, sent, range(20))
+
+
+def journal_trial(kind, stop, tally):
+    """A command that stands behind this call while the journal can't be written and its commit fails; then it goes on."""
+    device = Spots(f"{work}/device", True)
+    try:
+        store, sent = f"{device.mount}/store", Sent()
+        journal_base(kind, store, sent)
+        words, given, places = journal_command(kind, store, sent)
+        with open(f"{work}/input", "wb") as file:
+            file.write(given)
+        journal = device.blocks_of(8)
+
+        def then():
+            device.take(journal)
+            time.sleep(1.7)
+            device.give()
+
+        if os.path.exists(f"{work}/told"):
+            os.unlink(f"{work}/told")
+        victim = subprocess.Popen(["strace", "-f", "-y", "-qq", "-o", f"{work}/told", "-e", f"trace={CHANGES}", "-e", f"inject={stop[0]}:signal=STOP:when={stop[1]}",
+                                   "--", program.path, *words], stdin=open(f"{work}/input", "rb"), stdout=subprocess.DEVNULL, stderr=subprocess.PIPE)
+        stood, told = stopped_once(victim, f"{work}/told", then)
+        status = victim.returncode
+        tally.add("trials")
+        tally.add("stood", stood)
+        tally.add("answered 0", status == 0)
+        where = f"{kind} behind {stop[0]} {stop[1]}, status {status}"
+        if status not in (0, 6):
+            tally.wrong.append(f"{where}: {told.strip()[-100:]}")
+        if status == 0:
+            sent.acknowledge(places)
+        device.again()
+        if kind == "wipe":
+            have, why = program.found(store, Scope(1), Sent())
+            if have is None or (status == 0 and any(have.values())):
+                tally.wrong.append(f"{where}: {why or 'what was wiped is there'}")
+        else:
+            look_again(kind, status, store, sent, tally, where)
+    finally:
+        device.give()
+        device.remove()
+
+
+def journal():
+    """A journal whose commit fails in the background, in front of each sync of a command."""
+    tally = Tally("i", "a journal that can't be written for some seconds, in front of each sync")
+    zeros(tally, "trials", "stood", "answered 0", "acknowledged fields lost", "fields torn", "acknowledged stores lost")
+    for kind in ("create", "archive", "purge", "wipe"):
+        plain, sent = f"{work}/journal/{kind}", Sent()
+        os.makedirs(f"{work}/journal", exist_ok=True)
+        journal_base(kind, plain, sent)
+        words, given, _ = journal_command(kind, plain, sent)
+        stops = before_syncs(words, given, plain)
+        for stop in stops[::max(1, len(stops) // trials)]:
+            journal_trial(kind, stop, tally)
+    return tally.tell()
+
+
+# (j) what people and administrators do
+
+
+def in_place_of_lock(store, sent, tally, way):
+    """An archive that waits for its input, while the file `lock` is removed, or replaced, and another archive comes."""
+    first, places = fields(sent, range(60), 20_000)
+    last, more = fields(sent, range(60, 70), 20_000)
+    holder = subprocess.Popen([program.path, *archive_words(store)], stdin=subprocess.PIPE, stdout=subprocess.DEVNULL, stderr=subprocess.PIPE)
+    statuses = []
+    try:
+        holder.stdin.write(first)
+        holder.stdin.flush()
+        waits_for_input(holder.pid, holder.stdin)
+        lock = f"{store}/{dataset_of(0)}/lock"
+        if way == "removed":
+            os.unlink(lock)
+        else:
+            open(f"{lock}.other", "w").close()
+            os.rename(f"{lock}.other", lock)
+        statuses.append(archived(store, sent, range(70, 90))[0])
+        holder.communicate(last, 60)
+    except BrokenPipeError:
+        holder.wait()
+    statuses.append(holder.returncode)
+    if holder.returncode == 0:
+        sent.acknowledge(places + more)
+    tally.add("trials")
+    tally.add("answered 0", statuses.count(0))
+    where = f"`lock` {way} under an archive, statuses {statuses}"
+    if any(status not in (0, 6) for status in statuses):
+        tally.wrong.append(where)
+    tally.judge(*program.found(store, Scope(1), sent), sent, where)
+    status, told = archived(store, sent, range(90, 100))
+    if status != 0:
+        tally.wrong.append(f"{where}: an archive behind it ended with {status}: {told.strip()[-100:]}")
+    tally.judge(*program.found(store, Scope(1), sent), sent, f"{where}, gone on")
+
+
+def out_of_reach(tally):
+    """A dataset that can't be reached is absent for no command: a link to what isn't there, a file, a folder that has lost its table."""
+    request = Scope(1).request.replace(b"expver=0001", b"expver=0002")
+    for title in ("a link to a folder that isn't there", "a file", "a folder without its table"):
+        store, sent = f"{work}/reach/store", Sent()
+        shutil.rmtree(f"{work}/reach", ignore_errors=True)
+        os.mkdir(f"{work}/reach")
+        made(store)
+        # the base has other fields of the same keys
+        archived(store, sent, range(5))
+        given, _ = fields(sent, range(5))
+        status, _, told = program.run(["archive", store, "--with", "class=od,expver=0002"], given)
+        assert status == 0, told
+        folder = f"{store}/{dataset_of(0).replace('0001', '0002')}"
+        if title == "a folder without its table":
+            os.unlink(f"{folder}/toc")
+        else:
+            os.rename(folder, f"{work}/reach/elsewhere")
+            os.symlink(f"{work}/reach/unmounted", folder) if title.startswith("a link") else open(folder, "w").close()
+        for words, told in ((["retrieve", store], request), (["retrieve", store, "--over", "expver=0001"], request), (["list", store], b"list"), (["axes", store], b"list"),
+                            (["stats", store], b""), (["cubes", store], b"list"), (["archive", store, "--with", "class=od,expver=0002"], given)):
+            status, out, report = program.run(words, told)
+            tally.add("trials")
+            if status != 6:
+                tally.wrong.append(f"{title} in the place of a dataset: {' '.join(words[:1] + words[2:])} ended with {status}: {report.strip()[-80:]}")
+
+
+def second_user(tally):
+    """Two users of one group write to one dataset in turn."""
+    base, sent = f"{work}/group", Sent()
+    shutil.rmtree(base, ignore_errors=True)
+    for path in (os.path.dirname(work), work):
+        os.chmod(path, 0o711)
+    os.mkdir(base)
+    os.chown(base, 54_321, 54_320)
+    os.chmod(base, 0o2775)
+    store = f"{base}/store"
+    users = [{"user": user, "group": 54_320, "extra_groups": [], "umask": 0o022} for user in (54_321, 54_322)]
+
+    def give_folders():
+        """The folders are the group's, as an administrator sets it; files stay as they were made."""
+        for at, _, _ in os.walk(store):
+            os.chmod(at, 0o2775)
+
+    status, _, told = program.run(["create", store], SCHEMA, **users[0])
+    if status != 0:
+        tally.wrong.append(f"a create by one of two users ended with {status}: {told.strip()[-80:]}")
+        return
+    for turn in range(4):
+        give_folders()
+        status, told = archived(store, sent, range(turn, 20), **users[turn % 2])
+        tally.add("trials")
+        if status != 0:
+            tally.wrong.append(f"an archive by the {('first', 'second')[turn % 2]} of two users of a group ended with {status}: {told.strip()[-80:]}")
+        tally.judge(*program.found(store, Scope(1), sent, **users[1 - turn % 2]), sent, "a retrieve by the other user")
+
+
+def without_descriptors(tally):
+    """Commands that begin without some of the descriptors 0 to 2."""
+    for closed in ((0,), (1,), (2,), (0, 1, 2), (1, 2)):
+        store, sent = f"{work}/closed", Sent()
+        shutil.rmtree(store, ignore_errors=True)
+        made(store)
+        archived(store, sent, range(10))
+        given, places = fields(sent, range(20))
+        with open(f"{work}/input", "wb") as file:
+            file.write(given)
+        for words in (archive_words(store), ["retrieve", store], ["stats", store], ["purge", store, dataset_of(0)]):
+            line = " ".join(f"'{word}'" for word in [program.path, *words])
+            ended = subprocess.run(["bash", "-c", f"exec {line} {' '.join(f'{number}<&-' for number in closed)}"], stdin=open(f"{work}/input", "rb"),
+                                   stdout=subprocess.DEVNULL, stderr=subprocess.DEVNULL)
+            tally.add("trials")
+            if words[0] == "archive" and ended.returncode == 0:
+                sent.acknowledge(places)
+            if ended.returncode < 0 or ended.returncode > 9:
+                tally.wrong.append(f"{words[0]} without the descriptors {closed} ended with {ended.returncode}")
+        locks = [str(path) for path in pathlib.Path(store).rglob("lock") if path.stat().st_size]
+        if locks:
+            tally.wrong.append(f"without the descriptors {closed} something was written to {os.path.basename(os.path.dirname(locks[0]))}/lock")
+        tally.judge(*program.found(store, Scope(1), sent), sent, f"commands without the descriptors {closed}")
+
+
+def short_files(tally):
+    """`ulimit -f`, as a shell sets it: the signal isn't ignored."""
+    store, sent = f"{work}/short", Sent()
+    made(store)
+    archived(store, sent, range(10))
+    for number in (0, 300, 400, 1000, 3000, 5000):
+        status, told = archived(store, sent, range(10, 60), preexec_fn=lambda: resource.setrlimit(resource.RLIMIT_FSIZE, (number, number)))
+        tally.add("trials")
+        if status not in (0, 6) or not told:
+            tally.wrong.append(f"an archive whose files may have {number} octets ended with {status}, and told {told.strip()[-60:]!r}")
+        tally.judge(*program.found(store, Scope(1), sent), sent, f"files of {number} octets at most")
+
+
+def read_only(tally):
+    """A store on a medium whose files know no sync."""
+    if os.geteuid() != 0 or not shutil.which("mksquashfs"):
+        print("    a read-only medium is left out: it takes root and mksquashfs")
+        return
+    store, sent, place = f"{work}/fixed/store", Sent(), f"{work}/medium"
+    os.mkdir(f"{work}/fixed")
+    made(store)
+    for _ in range(2):
+        archived(store, sent, range(20))
+    quietly(["mksquashfs", f"{work}/fixed", f"{work}/fixed.image", "-quiet", "-no-progress"])
+    os.mkdir(place)
+    try:
+        quietly(["mount", "-t", "squashfs", "-o", "loop,ro", f"{work}/fixed.image", place])
+    except subprocess.CalledProcessError:
+        print("    a read-only medium is left out: it takes loop devices and squashfs")
+        return
+    try:
+        tally.add("trials")
+        tally.judge(*program.found(f"{place}/store", Scope(1), sent), sent, "a retrieve on squashfs")
+        for words in (["list"], ["axes"], ["stats"], ["cubes"]):
+            status, out, told = program.run([*words, f"{place}/store"], b"list")
+            tally.add("trials")
+            if status != 0 or not out:
+                tally.wrong.append(f"{words[0]} on squashfs ended with {status}: {told.strip()[-80:]}")
+        status, told = archived(f"{place}/store", sent, range(3))
+        if status != 6:
+            tally.wrong.append(f"an archive on squashfs ended with {status}: {told.strip()[-80:]}")
+    finally:
+        unmount(place)
+
+
+def people():
+    tally = Tally("j", "`lock` removed, datasets out of reach, two users, descriptors 0 to 2 closed, ulimit -f, a read-only medium")
+    zeros(tally, "trials", "answered 0", "acknowledged fields lost", "fields torn")
+    for turn in range(2 * max(1, trials // 10)):
+        store, sent = f"{work}/locked", Sent()
+        shutil.rmtree(store, ignore_errors=True)
+        made(store)
+        archived(store, sent, range(100, 110))
+        in_place_of_lock(store, sent, tally, ("removed", "replaced")[turn % 2])
+    out_of_reach(tally)
+    if os.geteuid() == 0:
+        second_user(tally)
+    without_descriptors(tally)
+    short_files(tally)
+    read_only(tally)
+    return tally.tell()
+
+
 # what a part needs
 
 
@@ -1086,14 +1522,16 @@ def needs(part):
     """Why a part can't be run here, or None."""
     if part == "a" and not (has_loops() and os.access("/proc/sys/vm/drop_caches", os.W_OK)):
         return "it takes root, loop devices and mkfs.ext4"
-    if part in "aefg" and not has_strace():
+    if part in "hi" and not (has_loops() and shutil.which("debugfs")):
+        return "it takes root, loop devices, mkfs.ext4 and debugfs"
+    if part in "aefghi" and not has_strace():
         return "it takes strace"
     if part == "b" and os.geteuid() != 0:
         return "it takes root, to mount a small RAM disk"
     return None
 
 
-PARTS = {"a": write_errors, "b": full_disk, "c": limits, "d": processes, "e": power_cut, "f": failed_syncs, "g": renewals}
+PARTS = {"a": write_errors, "b": full_disk, "c": limits, "d": processes, "e": power_cut, "f": failed_syncs, "g": renewals, "h": told_once, "i": journal, "j": people}
 
 
 def main():

@@ -13,8 +13,15 @@
 #       which leaves what Linux and ext4 were seen to leave then (`power.py`).
 #   (g) the calls of a purge and of a wipe: the folder is synced behind the table's new name, or its removal, and before the first file is
 #       removed and anything is told; where that sync is made to fail the status is 6, and no file is removed.
+#   (h) a block of a folder that can't be written for a moment, which Linux tells to one sync alone: two lanes of a session, two workers, an
+#       archive with a `retrieve` beside it, two archives into different datasets of one store, and one archive alone, each as often as TRIALS / 5;
+#       on ext4 without a journal, with all syncs held back. Then an unmount and a mount.
+#   (i) a journal whose commit fails in the background, in front of each sync of a create, an archive, a purge and a wipe; then an unmount and a mount.
+#   (j) what people do: `lock` is removed or replaced under an archive that waits; a dataset is a link to what isn't there, a file, or a folder
+#       that has lost its table; two users of a group write in turn; descriptors 0 to 2 are closed; `ulimit -f`; a store on squashfs.
 # Prints a line for each part and up to TELL (8) of what was wrong, and ends with 0 only where nothing was. A part that can't be run here is skipped
-# with a sentence: (a) and (b) take root on Linux, (a) loop devices too, (a), (e), (f) and (g) strace. PARTS (abcdefg) names those that are run,
+# with a sentence: (a), (b), (h) and (i) take root on Linux, (a), (h) and (i) loop devices
+# and e2fsprogs too, (a) and (e) to (i) strace. PARTS (abcdefghij) names those that are run,
 # SEED where the numbers begin, PROGRAM (or FDB) the program, where it isn't to be built here, WORK a folder for what is made (/tmp). All
 # that it mounts is in a name space of its own, and goes with it. No part of the gate.
 set -eu
@@ -50,7 +57,7 @@ mkdir "$work/files"
 export PYTHONDONTWRITEBYTECODE=1
 seed=${SEED:-$RANDOM$RANDOM}
 echo "seed $seed"
-"${apart[@]}" python3 "$top/bench/faults.py" "$work/program" "$work/files" "${PARTS:-abcdefg}" "${TRIALS:-20}" "${STATES:-2000}" "$seed" "${TELL:-8}" &
+"${apart[@]}" python3 "$top/bench/faults.py" "$work/program" "$work/files" "${PARTS:-abcdefghij}" "${TRIALS:-20}" "${STATES:-2000}" "$seed" "${TELL:-8}" &
 child=$!
 status=0
 wait "$child" || status=$?

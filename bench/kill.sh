@@ -51,10 +51,13 @@ assert archive(store, f"{work}/second").wait() == 0
 span = time.time() - clock
 # where a batch ends: the field files of the archive that wasn't killed, by writer and number
 files = sorted((*map(int, path.stem.split("-")), path.stat().st_size) for path in pathlib.Path(store).glob("*/*.fields"))
-ends, octets = set(), 0
+ends, number = set(), 0
 for _, _, size in files:
-    octets += size
-    ends.add(fronts[octets])
+    # each field has its SHA-256 behind it
+    fields, rest = divmod(size, len(sent[0]) + 32)
+    assert rest == 0, size
+    number += fields
+    ends.add(number)
 assert {FIRST, ALL} <= ends, ends
 lost, torn, found_counts = 0, 0, []
 random.seed()
@@ -74,6 +77,6 @@ for kill in range(kills):
     torn += not (right and found in ends)
     found_counts.append(found)
 print(f"{kills} kills: {lost} lost an acknowledged field, {torn} left something torn; "
-      f"fields found: from {min(found_counts)} to {max(found_counts)}, {len(set(found_counts))} different numbers")
-sys.exit(lost or torn)
+      f"fields found: from {min(found_counts)} to {max(found_counts)}, {len(set(found_counts))} different numbers; {lost + torn} wrong")
+sys.exit(lost + torn > 0)
 PY

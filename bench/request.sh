@@ -1,66 +1,20 @@
 #!/usr/bin/env bash
-# Seconds for reading one text of a request, a partial request and a schema, at the largest size that is allowed, 65,536
-# bytes, and at half of it: the least of nine runs of 40 reads. Linear time shows where twice the length takes at most about
-# 2.3 times as long; beside other work on the machine the times say little. The calls have no command yet, so a copy of
-# their crates is proved with a small program above them, which takes minutes the first time. No part of the gate.
+# Seconds for reading one text of a request, a partial request and a schema, at the largest size that is allowed, 65,536 bytes, and at half
+# of it: the least of RUNS (15) runs of the program over an empty store, without what it takes for the shortest text. Linear time shows where twice the
+# length takes at most about 2.3 times as long; beside other work on the machine the times say little. A few seconds. FDB names the program, where
+# it isn't to be built here. No part of the gate.
 set -eu
 top=$(cd "$(dirname "$0")/.." && pwd)
+fdb=${FDB:-$top/fdb}
+"$fdb" pick step=0 < /dev/null > /dev/null 2>&1 || true
+[ "$fdb" != "$top/fdb" ] || fdb=$top/crates/fd_program/out/fd_program
 work=$(mktemp -d)
 trap 'rm -rf "$work"' EXIT
-driver=$work/crates/reading_times
-mkdir -p "$driver/src"
-for crate in fd_bytes fd_tokens fd_sections fd_templates fd_spelling fd_key fd_schema fd_request; do
-  mkdir "$work/crates/$crate"
-  for part in src specs proofs; do
-    if [ -d "$top/crates/$crate/$part" ]; then cp -r "$top/crates/$crate/$part" "$work/crates/$crate/"; fi
-  done
-  grep "^$crate:" "$top/crates.txt" >> "$work/crates.txt"
-done
-echo "reading_times: fd_schema fd_request anyhow" >> "$work/crates.txt"
-cat > "$driver/src/main.rt" <<'RT'
-//! Reads the text on standard input so many times, by the byte that it begins with, and prints the nanoseconds and the
-//! times, or `0 0` where it isn't read.
-#![tactic(auto)]
+python3 - "$fdb" "$work" "${RUNS:-15}" <<'PY'
+import itertools, shutil, string, subprocess, sys, time
 
-use anyhow::Result;
-use fd_request::{Partial, Request};
-use fd_schema::Schema;
-use std::alloc::Global;
-use std::io;
-use std::time::Instant;
-
-const TIMES: u32 = 40;
-
-fn is_read(alloc: Global, text: &[u8]) -> bool {
-    match text {
-        [b'[', ..] => Schema::read(alloc, text).is_ok(),
-        [b'r', ..] => Request::read(alloc, text).is_ok(),
-        _ => Partial::read(alloc, text).is_ok(),
-    }
-}
-
-fn main(rt: HostRuntime) -> Result<()> {
-    let text = io::read_to_string(rt.alloc(), rt.stdin().lock())?;
-    let start = Instant::now(&rt)?;
-    for _ in 0..TIMES {
-        if !is_read(rt.alloc(), text.as_bytes()) {
-            println!(rt; "0 0")?;
-            return Ok(());
-        }
-    }
-    let nanoseconds = start.elapsed(&rt)?.as_nanos();
-    println!(rt; "{nanoseconds} {TIMES}")?;
-    Ok(())
-}
-RT
-log=$work/log
-if ! (cd "$driver" && echo list | rt run) > "$log" 2>&1; then
-  tail -n 20 "$log" >&2
-  exit 70
-fi
-
-python3 - "$driver/out/reading_times" <<'PY'
-import itertools, string, subprocess, sys
+fdb, work, runs = sys.argv[1], sys.argv[2], int(sys.argv[3])
+store = f"{work}/store"
 
 def full(head, pieces, mark, size, tail=""):
     """The head, pieces with the mark between them, and the tail, filled up with blanks to the size."""
@@ -79,7 +33,7 @@ def names(count):
     return ["".join(name) for name in itertools.islice(itertools.product(letters, repeat=3), count)]
 
 def listed(size):
-    return full("retrieve,class=", itertools.cycle(["od", "rd", "1"]), "/", size)
+    return full("list,class=", itertools.cycle(["od", "rd", "1"]), "/", size)
 
 def named(size):
     return full("list,", (name + "=1" for name in names(17576)), ",", size)
@@ -95,21 +49,28 @@ def schema(size):
     head = "[" + ",".join(rule[:10]) + "[" + ",".join(rule[10:20]) + "[" + ",".join(rule[20:31]) + ","
     return "".join(full(head + rule[31] + "=", itertools.cycle(["a", "b"]), "/", width - 1, "]]]") + "\n" for _ in range(rules))
 
-def seconds(program, text):
-    out = subprocess.run([program], input=text.encode(), stdout=subprocess.PIPE, check=True).stdout.split()
-    nanoseconds, times = map(int, out)
-    if times == 0:
-        sys.exit(f"not read: {text[:60]}")
-    return nanoseconds / 1e9 / times
+def seconds(words, text):
+    """What the program takes for this text, which it may refuse behind its end, but not in it."""
+    if words[0] == "create":
+        shutil.rmtree(f"{work}/other", ignore_errors=True)
+    begun = time.perf_counter()
+    ended = subprocess.run([fdb, *words], input=text.encode(), capture_output=True)
+    spent = time.perf_counter() - begun
+    if ended.returncode not in (0, 1):
+        sys.exit(f"not read: {text[:60]}: {ended.stderr.decode()[:120]}")
+    return spent
 
+
+subprocess.run([fdb, "create", store], input=b"[class [type [step, date?, levelist?]]]\n", capture_output=True, check=True)
 shapes = [
-    ("a request of one list", listed),
-    ("a partial request of many names", named),
-    ("a partial request of dates", dates),
-    ("a schema of full rules", schema),
+    ("a request of one list", ["list", store], listed, "list"),
+    ("a partial request of many names", ["list", store], named, "list"),
+    ("a partial request of dates", ["list", store], dates, "list"),
+    ("a schema of full rules", ["create", f"{work}/other"], schema, "[class[type[step]]]"),
 ]
-for name, text in shapes:
-    runs = [[seconds(sys.argv[1], text(size)) for size in (32768, 65536)] for _ in range(9)]
-    half, whole = map(min, zip(*runs))
+for name, words, text, least in shapes:
+    taken = [[seconds(words, given) for given in (least, text(32768), text(65536))] for _ in range(runs)]
+    start, half, whole = map(min, zip(*taken))
+    half, whole = half - start, whole - start
     print(f"{name:34} 32768 bytes {half:9.6f} s   65536 bytes {whole:9.6f} s   {whole / half:5.2f} times")
 PY

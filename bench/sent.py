@@ -67,6 +67,12 @@ class Sent:
         other.least = dict(self.least)
         return other
 
+    def of_day(self, day):
+        """What was sent to the dataset of one day."""
+        other = self.copy()
+        other.least = {key: place for key, place in self.least.items() if key // 650 == day}
+        return other
+
     def judge(self, have):
         """How many keys have lost an acknowledged field (or have an older one), and how many have one that was never sent."""
         lost = torn = 0
