@@ -1,13 +1,14 @@
 #!/usr/bin/env bash
-# What the gate costs: runs `rt ci` from nothing on a clean clone of what is committed, samples the processor time of its runs of
-# the prover, and prints the processor seconds of each crate's proof, of its tests' proof and of its edits, dearest first, with
-# the sums. It says most on an idle machine. Where it is stopped (by an interrupt), it prints what there was until then. BUDGET
-# is the number of processor minutes that may not be passed (280); the script ends with 1 where they are, with 2 where it was
-# stopped. LOG is a file for what `rt ci` prints. Behind the sums come the FUNCTIONS (20) whose proofs took longest, in seconds of
-# the clock, where the prover keeps the times of what it checks. No part of the gate.
+# What the gate costs: runs `rt ci` from nothing on a clean clone of what is committed, samples the processor time of what it runs,
+# and prints one table, in processor minutes: the proofs, the proofs of the tests, the wrong bodies, the programs (what compiles and
+# links them and the tests, and their runs), of the dearest CRATES (10), of the others, and of all. Then it says whether the wrong
+# bodies took at most a quarter of the proofs, those of the tests among them. It says most on an idle machine. Where it is stopped (by an
+# interrupt), it prints what there was until then. FUNCTIONS, where it is given, is how many of the functions to print whose proofs
+# took longest, in seconds of the clock, where the prover keeps the times of what it checks. BUDGET, where it is given, is the number of
+# processor minutes that may not be passed. LOG is a file for what `rt ci` prints. The script ends with 1 where a bound is passed,
+# and with 2 where it was stopped. No part of the gate.
 set -u
 top=$(cd "$(dirname "$0")/.." && pwd)
-budget=${BUDGET:-280}
 work=$(mktemp -d)
 log=${LOG:-$work/log}
 trap 'rm -rf "$work"' EXIT
@@ -17,15 +18,17 @@ git clone -q "$top" "$work/fdb" || exit 1
 anew=$(rt help 2>&1 | grep -q -e --anew && echo --anew || true)
 (cd "$work/fdb" && exec rt ci $anew) > "$log" 2>&1 &
 gate=$!
-python3 - "$log" "$gate" "$budget" "${FUNCTIONS:-20}" <<'PY'
+python3 - "$log" "$gate" "${CRATES:-10}" "${FUNCTIONS:-0}" "${BUDGET:-0}" <<'PY'
 import collections, glob, os, re, signal, sys, tempfile, time
 
-log, gate, budget, most = sys.argv[1], int(sys.argv[2]), float(sys.argv[3]), int(sys.argv[4])
+log, gate, dearest, most, budget = sys.argv[1], *map(int, sys.argv[2:5]), float(sys.argv[5])
 stopped = []
 for number in (signal.SIGINT, signal.SIGTERM):
     signal.signal(number, lambda *_: stopped.append(True))
 tick = os.sysconf("SC_CLK_TCK")
+kinds = ["proofs", "tests", "bodies", "programs"]
 seen = {}
+checked = collections.defaultdict(dict)
 
 
 def parents():
@@ -40,17 +43,25 @@ def parents():
 
 def below(pid, parent):
     while pid in parent:
+        pid = parent[pid]
         if pid == gate:
             return True
-        pid = parent[pid]
     return False
 
 
-# A run of the prover with `--test` proves tests, one in a copy of a crate tries an edit, any other proves a crate.
+# A run of the prover with `--test` proves tests, one in a copy of a crate tries a wrong body, one that takes a crate as checked
+# compiles a program, and any other proves a crate. What is no run of the prover links, or is a program or a test that is run.
 def kind_of(pid, words):
+    if not words[0].endswith("/rattle") or "--crate-checked" in words:
+        return "programs"
     if "--test" in words:
         return "tests"
-    return "edits" if "/rt-edit-" in os.readlink(f"/proc/{pid}/cwd") else "proof"
+    return "bodies" if "/rt-edit-" in os.readlink(f"/proc/{pid}/cwd") else "proofs"
+
+
+def crate_of(pid, words):
+    named = re.search(r"--crate-name (\S+)|crates/(\w+)/|out/(\w+?)(?:_tests)?(?:\.o)?(?:\s|$)", " ".join([*words, os.readlink(f"/proc/{pid}/cwd") + "/"]))
+    return next(filter(None, named.groups())) if named else "?"
 
 
 def alive():
@@ -84,44 +95,59 @@ def of_functions():
     return took
 
 
-checked = collections.defaultdict(dict)
-start, looked = time.time(), 0
-while alive() and not stopped:
-    is_look = time.time() - looked > 5
-    looked = time.time() if is_look else looked
+# Notes the processor time so far of all that the gate runs now.
+def sample(is_look):
     parent = parents()
     for pid in parent:
         try:
-            words = open(f"/proc/{pid}/cmdline").read().split("\0")
-            if not words[0].endswith("/rattle") or not below(pid, parent):
+            words = open(f"/proc/{pid}/cmdline").read().rstrip("\0").split("\0")
+            if not below(pid, parent) or any(it.endswith("/rt") for it in words[:3]):
                 continue
             fields = open(f"/proc/{pid}/stat").read().rsplit(")", 1)[1].split()
-            kind = kind_of(pid, words)
+            crate, kind = crate_of(pid, words), kind_of(pid, words)
         except OSError:
             continue
-        named = re.search(r"--crate-name (\S+)", " ".join(words))
-        spent = (int(fields[11]) + int(fields[12])) / tick
-        seen[(pid, fields[19])] = (named.group(1) if named else "?", kind, spent)
-        if is_look and named and kind != "edits":
-            look_into(pid, named.group(1), kind)
-    time.sleep(0.5)
+        seen[(pid, fields[19])] = (crate, kind, (int(fields[11]) + int(fields[12])) / tick)
+        if is_look and kind in ("proofs", "tests"):
+            look_into(pid, crate, kind)
 
-spent = collections.defaultdict(lambda: collections.Counter())
+
+def row_of(name, spent):
+    parts = [spent[kind] / 60 for kind in kinds]
+    return f"{name:18}" + "".join(f"{part:10.1f}" for part in [*parts, sum(parts)])
+
+
+start, looked = time.time(), 0
+while alive() and not stopped:
+    is_look = most > 0 and time.time() - looked > 5
+    looked = time.time() if is_look else looked
+    sample(is_look)
+    time.sleep(0.5)
+if stopped:
+    try:
+        os.kill(gate, signal.SIGTERM)
+    except OSError:
+        pass
+
+spent = collections.defaultdict(collections.Counter)
 for crate, kind, seconds in seen.values():
     spent[crate][kind] += seconds
-kinds = ["proof", "tests", "edits"]
-print(f"{'crate':16}" + "".join(f"{kind:>8}" for kind in kinds) + f"{'sum':>8}   (processor seconds)")
-for crate, row in sorted(spent.items(), key=lambda item: -sum(item[1].values())):
-    print(f"{crate:16}" + "".join(f"{row[kind]:8.0f}" for kind in kinds) + f"{sum(row.values()):8.0f}")
-sums = [sum(row[kind] for row in spent.values()) for kind in kinds]
-whole = sum(sums) / 60
-print(f"{'all':16}" + "".join(f"{part:8.0f}" for part in sums) + f"{sum(sums):8.0f}")
+rows = sorted(spent.items(), key=lambda item: -sum(item[1].values()))
+print(f"{'':18}" + "".join(f"{kind:>10}" for kind in [*kinds, "sum"]) + "   (processor minutes)")
+for crate, row in rows[:dearest]:
+    print(row_of(crate, row))
+print(row_of(f"{len(rows[dearest:])} others", sum((row for _, row in rows[dearest:]), collections.Counter())))
+whole = sum((row for _, row in rows), collections.Counter())
+print(row_of("all", whole))
 for name, seconds in of_functions().most_common(most):
-    print(f"{seconds:8.0f}  {name}")
-if stopped:
-    os.kill(gate, signal.SIGTERM)
+    print(f"{seconds:8.0f} s  {name}")
 last = [line for line in open(log, errors="replace").read().splitlines() if line][-1:]
-print(f"{whole:.0f} processor minutes in {(time.time() - start) / 60:.0f} minutes; "
+minutes = sum(whole.values()) / 60
+print(f"{minutes:.0f} processor minutes in {(time.time() - start) / 60:.0f} minutes; "
       f"{'stopped: not the whole gate' if stopped else last[0] if last else 'no last line'}")
-sys.exit(2 if stopped else whole > budget)
+proofs = whole["proofs"] + whole["tests"]
+is_over = whole["bodies"] > proofs / 4
+print(f"the wrong bodies took {'MORE THAN' if is_over else 'at most'} a quarter of the proofs{' so far' if stopped else ''}: "
+      f"{whole['bodies'] / 60:.1f} of {proofs / 60:.1f} minutes" + (f", {100 * whole['bodies'] / proofs:.0f} %" if proofs else ""))
+sys.exit(2 if stopped else is_over or minutes > budget > 0)
 PY
