@@ -144,13 +144,18 @@ def names_for(crate, found):
     return names, None
 
 
-# The functions of this repository that require something.
+# The functions of this repository that require something: a signature goes on to a line that ends in a brace.
 def requiring():
     names = set()
     for path in glob.glob(f"{copy}/crates/*/src/**/*.rt", recursive=True):
-        for found in re.finditer(r"\bfn (\w+)((?:.*\n)(?:(?!\s*[{}]\s*$).*\n){0,60})", text_of(path)):
-            if re.search(r"^\s*requires\b", found[2], re.M):
-                names.add(found[1])
+        name = ""
+        for line in text_of(path).split("\n"):
+            found = re.match(r"\s*(?:pub(?:\([^)]*\))?\s+)?fn (\w+)", line)
+            name = found[1] if found else name
+            if name and re.match(r"\s+requires\b", line):
+                names.add(name)
+            elif line.rstrip().endswith("{"):
+                name = ""
     return names
 
 
@@ -162,28 +167,34 @@ def is_clause(goal, callees):
     return "-clause-" in goal or goal.startswith(("returns", "invariant_of-")) or bool(re.search(r"-(preserved|init)(-|$)", goal))
 
 
-# The goals that are open, those of them that were shown to be open (an answer that doesn't fit, or values at which the goal is
-# false), and the first line that says a name was lost.
+# What a goal is about, which stays the same where an edit renames what the goal is named after.
+def tail_of(goal):
+    goal = goal.rsplit("goal.", 1)[-1]
+    return goal.split("-clause-")[1] if "-clause-" in goal else goal.split("-")[0]
+
+
+# The goals that are open; those of them that were shown to be open (an answer that doesn't fit, or values at which the goal is
+# false); what the goals are about whose answers lost a name; and the first line that says so.
 def goals_in(said):
-    open_, shown, lost = [], [], ""
+    open_, shown, tails, lost = [], set(), set(), ""
     for line in said.split("\n"):
         error = re.match(r"(?:\./)?(proofs/\S+?):\d+:\d+: error: (?:`([^`]+)`: )?(.*)", line)
-        if error:
-            if LOST.search(error[3]):
-                lost = lost or line
-            elif error[2]:
-                open_.append(error[2])
-                shown.append(error[2])
+        if error and LOST.search(error[3]):
+            lost = lost or line
+            tails |= {tail_of(it) for it in ([error[2]] if error[2] else re.findall(r"`([^`]+)`", error[3]))}
+        elif error and error[2]:
+            open_.append(error[2])
+            shown.add(error[2])
         for goal in re.findall(r"it is not proved that .* \(`([^`]+)`\)", line):
             open_.append(goal)
             if "values at which this goal is false" in line:
-                shown.append(goal)
+                shown.add(goal)
         for part in re.findall(r"`search` did not prove ((?:`[^`]+`(?:, | and )?)+)", line):
             open_ += re.findall(r"`([^`]+)`", part)
         false = re.match(r"note: `([^`]+)` of \S+ may be false", line)
         if false:
-            shown.append(false[1])
-    return list(dict.fromkeys(open_)), set(shown), lost
+            shown.add(false[1])
+    return list(dict.fromkeys(open_)), shown, tails, lost
 
 
 # Whether an edit is refused, and what to say of it.
@@ -219,8 +230,9 @@ def tried(crate, path, callees):
 def judged(said, of, callees):
     if said is None:
         return False, f"no verdict in {most:.0f} seconds ({of})"
-    open_, shown, lost = goals_in(said)
-    clauses = [it for it in open_ if is_clause(it, callees) and (it in shown or not lost)]
+    open_, shown, tails, lost = goals_in(said)
+    # (a goal that no answer was given for counts where no answer to such a goal lost a name: it may be that one, renamed)
+    clauses = [it for it in open_ if is_clause(it, callees) and (it in shown or tail_of(it) not in tails)]
     if clauses:
         others = [it for it in open_ if it not in clauses]
         return True, f"{', '.join(clauses)} ({of}{'; open too: ' + ', '.join(others) if others else ''})"
