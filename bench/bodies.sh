@@ -135,10 +135,11 @@ def names_for(crate, found):
             of_type = [it for it in of_module if not kind or it.split("::")[-2].startswith(kind)]
             names += of_type or of_module or all_of
             continue
-        checked = re.search(r"^checked (\S+), 1 of", said or "", re.M)
-        if not checked:
+        if not re.search(r"^(only=\d|fn )", said or "", re.M):
             return [], said
-        names.append(checked[1])
+        # (it checks what the function calls too)
+        whole = [it for it in re.findall(r"^fn (\S+): ", said, re.M) if it.endswith(f"::{name}")]
+        names.append(whole[0] if len(whole) == 1 else name)
         if len(found) == 1:
             return names, said
     return names, None
