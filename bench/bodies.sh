@@ -3,9 +3,9 @@
 # (`bench/bodies/CRATE`), and bench/bodies.sh CRATE/NAME one of them. Each is tried on a copy of the checkout by its cheapest check:
 # of the functions that it changes, or of the whole crate where these can't be told. It prints the open goals of each. One is
 # refused where a goal of a clause is open: of an `ensures`, of a loop's invariant, of a type's invariant, or of a `requires` that a
-# function of this repository has. An edit is NOT refused, and the line says why, where its check only loses a name that a proof
-# file cites, can't tell a sum or an index from one out of bounds, doesn't read or compile, or is proved. The last line has both
-# numbers; the script ends with 1 where one is not refused. Libraries below that are built (`rt lib`, or an `rt ci` that was run
+# function of this repository has. An edit is NOT refused, and the line says why, where it only takes a name away that a proof file
+# cites, where all that is open is a sum, an index or the like that may be out of bounds, where it doesn't read or compile, or where
+# it is proved. The last line has both numbers; the script ends with 1 where one is not refused. Libraries below that are built (`rt lib`, or an `rt ci` that was run
 # here) are taken; others are proved first. SECONDS_EACH (900) is what one check may take; SAID is a folder for what the checks
 # say. No part of the gate.
 set -u
